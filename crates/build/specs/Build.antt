@@ -1,0 +1,86 @@
+-- Building a record from a lent deal and an entry place (document 01, "Booking, finding, building, settling": build).
+use mathlib.Core.Bool.{Bool, true, false}
+use Prim.Native.Nat.{ℕ}
+use mathlib.Core.List.{List, [], _∷_}
+use lib.ListN.{length}
+use lib.Dec.{leb}
+use Rattle.octets.specs.Choice.{choose}
+use Rattle.octets.specs.Refusals.{Rule, rule, firstRefusal, unlessRefused}
+use Rattle.octets.specs.Splice.{splice}
+use Rattle.merkle.specs.Tree.{nodeAt}
+use Rattle.merkle.specs.StrayBits.{noStrayBits}
+use Rattle.paths.specs.NodeSource.{NodeSource, siblings}
+use Rattle.entries.specs.Sizes.{lentSizeAllowed, placeAllowed, dealLevel, segmentLevel, segmentPathLevels, entryPathLevels, segmentPosition, entryPosition}
+use Rattle.entries.specs.Entry.{commitmentIn, offsetIn, sizeIn}
+use Rattle.index.specs.Slots.{entryAt, kept}
+use Rattle.record.specs.Form.{Fields, encode}
+use Rattle.record.specs.Check.{DealTerms, dealTerms}
+use Rattle.build.specs.declared.BuildAnswer.{BuildAnswer}
+
+-- a deal that is lent, with the source of its nodes
+pub record LentDeal : Type 0 where
+  pub bytes : List ℕ
+  pub nodes : NodeSource
+
+-- the deal whose nodes are worked out from its bytes
+abbrev pub lentDeal : List ℕ → LentDeal
+lentDeal bytes = record { bytes = bytes; nodes = nodeAt bytes }
+
+abbrev pub dealSize : LentDeal → ℕ
+dealSize deal = length (deal .bytes)
+
+-- what a record of the deal is checked against: its own commitment and length
+abbrev pub termsOf : LentDeal → DealTerms
+termsOf deal = dealTerms (deal .nodes (dealLevel (dealSize deal)) 0) (dealSize deal)
+
+-- the Merkle paths of a segment and of an entry
+abbrev pub segmentPathOf : LentDeal → ℕ → ℕ → List ℕ
+segmentPathOf deal offset size = siblings (deal .nodes) (segmentPathLevels (dealSize deal) size) (segmentLevel size) (segmentPosition offset size)
+
+abbrev pub entryPathOf : LentDeal → ℕ → List ℕ
+entryPathOf deal place = siblings (deal .nodes) (entryPathLevels (dealSize deal)) 1 (entryPosition place)
+
+-- the fields of the record for the entry e at a place
+unfoldable pub fieldsFor : LentDeal → List ℕ → ℕ → Fields
+fieldsFor deal e place =
+    record {
+      commitment = commitmentIn e;
+      offset = offsetIn e;
+      size = sizeIn e;
+      place = place;
+      segmentPath = segmentPathOf deal (offsetIn e) (sizeIn e);
+      entryPath = entryPathOf deal place;
+    }
+
+-- the record at an entry place, or why there is none: 2, 11, 6, 16
+pub data Building : Type 0 where
+  built : List ℕ → Building
+  notBuilt : ℕ → Building
+
+abbrev pub buildRules : LentDeal → ℕ → List Rule
+buildRules deal place =
+    rule (lentSizeAllowed (dealSize deal)) 2
+    ∷ rule (noStrayBits (deal .bytes)) 11
+    ∷ rule (placeAllowed (dealSize deal) place) 6
+    ∷ rule (kept (deal .nodes) (dealSize deal) (entryAt (deal .bytes) place)) 16
+    ∷ []
+
+unfoldable pub recordAt : LentDeal → ℕ → Building
+recordAt deal place =
+    unlessRefused (firstRefusal (buildRules deal place)) notBuilt
+    (built (encode (fieldsFor deal (entryAt (deal .bytes) place) place)))
+
+-- with a lent output: 12 where it is shorter than the record, which else fills its first bytes
+abbrev pub answerFor : Building → List ℕ → BuildAnswer
+answerFor (notBuilt code) out = record { code = code; length = 0 }
+answerFor (built r) out = choose (leb (length r) (length out)) (record { code = 0; length = length r }) (record { code = 12; length = 0 })
+
+abbrev pub outputFor : Building → List ℕ → List ℕ
+outputFor (notBuilt code) out = out
+outputFor (built r) out = choose (leb (length r) (length out)) (splice out 0 r) out
+
+unfoldable pub buildAnswer : LentDeal → ℕ → List ℕ → BuildAnswer
+buildAnswer deal place out = answerFor (recordAt deal place) out
+
+unfoldable pub buildOutput : LentDeal → ℕ → List ℕ → List ℕ
+buildOutput deal place out = outputFor (recordAt deal place) out

@@ -1,0 +1,201 @@
+-- A record that is built: its fields, its sizes, and where its paths lead. For any source that is a tree over the deal.
+use mathlib.Core.Path.{_≡_, refl, sym, ap, ap₂, _∙_, subst}
+use mathlib.Core.Bool.{Bool, true, false, _&&_}
+use Prim.Native.Nat.{ℕ, zero, suc, _+_, _-_, _*_, _/_, _%_, _^_, _≤_, _<_}
+use native.Mathlib.Omega.{arith}
+use mathlib.Core.List.{List, [], _∷_, _++_}
+use lib.ListN.{length, take, drop, length-drop}
+use lib.Seq.{take-take, drop-drop, take-add, length-take-le}
+use lib.Dec.{eqb}
+use borrow.Author.Tests.{eq-eqb}
+use Rattle.octets.specs.Refusals.{Rule, rule, firstRefusal, unlessRefused}
+use Rattle.octets.specs.RefusalLaws.{AllPassed, Codes, none-refused, all-passed}
+use Rattle.octets.specs.Bytes.{Bytes}
+use Rattle.octets.specs.Splice.{part}
+use Rattle.octets.specs.SpliceLaws.{part-length, bytes-part, part-part}
+use Rattle.node.specs.Node.{nodeHash}
+use Rattle.merkle.specs.StrayBits.{clearNode, noStrayBits}
+use Rattle.merkle.specs.StrayBitsLaws.{clear-at}
+use Rattle.paths.specs.Path.{pathRoot}
+use Rattle.paths.specs.NodeSource.{NodeSource, siblings}
+use Rattle.paths.specs.IsTree.{IsTree}
+use Rattle.paths.specs.NodeSourceLaws.{path-length, own-leads}
+use Rattle.entries.specs.Sizes.{dealSizeAllowed, lentSizeAllowed, segmentSizeAllowed, offsetAllowed, placeAllowed, area, indexStart, dealLevel, segmentLevel, segmentPathLevels, entryPathLevels, segmentPosition, entryPosition}
+use Rattle.entries.specs.SizesLaws.{DealSize, LentSize, lent-size, SegmentSize, segment-size, SegmentPlace, segment-place, EntryPlace, entry-place, index-start-le}
+use Rattle.entries.specs.Entry.{entryOf, commitmentIn, offsetIn, sizeIn}
+use Rattle.entries.specs.EntryLaws.{valid-is}
+use Rattle.index.specs.Slots.{entryAt, standing, kept}
+use Rattle.index.specs.SlotsLaws.{Stands, Keeps, keeps}
+use Rattle.record.specs.Form.{Fields, Parsed, parsed, parse, encode, wholeNodes}
+use Rattle.record.specs.FormLaws.{Sized, parse-encode}
+use Rattle.record.specs.Check.{DealTerms, dealTerms, entryFor}
+use Rattle.record.specs.CheckLaws.{Accepted}
+use Rattle.build.specs.Build.{LentDeal, dealSize, termsOf, segmentPathOf, entryPathOf, fieldsFor, Building, built, notBuilt, buildRules, recordAt}
+
+-- what a record that was built is
+pub record Builds (deal : LentDeal) (place : ℕ) (r : List ℕ) : Type 0 where
+  pub lent : lentSizeAllowed (dealSize deal) ≡ true
+  pub clean : noStrayBits (deal .bytes) ≡ true
+  pub place-allowed : placeAllowed (dealSize deal) place ≡ true
+  pub is-kept : Keeps (deal .nodes) (dealSize deal) (entryAt (deal .bytes) place)
+  pub wrote : encode (fieldsFor deal (entryAt (deal .bytes) place) place) ≡ r
+
+pub build-means : (deal : LentDeal) (place : ℕ) (r : List ℕ) → recordAt deal place ≡ built r → Builds deal place r
+unfolding recordAt
+build-means deal place r e = go (firstRefusal (buildRules deal place)) refl e
+  where
+    go : (code : ℕ) → firstRefusal (buildRules deal place) ≡ code → unlessRefused code notBuilt (built (encode (fieldsFor deal (entryAt (deal .bytes) place) place))) ≡ built r → Builds deal place r
+    go zero q i =
+        let a = none-refused (buildRules deal place) (omega arith, (omega arith, (omega arith, (omega arith, tt)))) q in
+        let w : encode (fieldsFor deal (entryAt (deal .bytes) place) place) ≡ r = cc in
+        record {
+          lent = a .0;
+          clean = a .1 .0;
+          place-allowed = a .1 .1 .0;
+          is-kept = keeps (deal .nodes) (dealSize deal) (entryAt (deal .bytes) place) (a .1 .1 .1 .0);
+          wrote = w;
+        }
+    go (suc code) q i = let z : _≡_ {A = ℕ} 0 1 = cc in absurd (omega arith)
+
+pub means-build : (deal : LentDeal) (place : ℕ) (r : List ℕ) → lentSizeAllowed (dealSize deal) ≡ true → noStrayBits (deal .bytes) ≡ true → placeAllowed (dealSize deal) place ≡ true
+    → kept (deal .nodes) (dealSize deal) (entryAt (deal .bytes) place) ≡ true → encode (fieldsFor deal (entryAt (deal .bytes) place) place) ≡ r → recordAt deal place ≡ built r
+unfolding recordAt
+means-build deal place r a b c k e = rw (a, b, c, k) (ap built e)
+
+-- the numbers of an entry place, an offset and a size in a lent deal
+pub record InDeal (d place offset size : ℕ) : Type 0 where
+  pub lent-is : LentSize d
+  pub size-is : SegmentSize d size
+  pub segment-is : SegmentPlace d offset size
+  pub place-is : EntryPlace d place
+  pub segment-up : segmentLevel size + segmentPathLevels d size ≡ dealLevel d
+  pub entry-up : 1 + entryPathLevels d ≡ dealLevel d
+
+pub in-deal : (d place offset size : ℕ) → lentSizeAllowed d ≡ true → placeAllowed d place ≡ true → segmentSizeAllowed d size ≡ true → offsetAllowed d offset size ≡ true
+    → InDeal d place offset size
+in-deal d place offset size l q s f =
+    let t = lent-size d l in
+    let a = segment-size d size (t .deal) s in
+    let b : 4 ≤ dealLevel d = t .deal .level-low in
+    let c : segmentLevel size < dealLevel d = a .below-deal in
+    record {
+      lent-is = t;
+      size-is = a;
+      segment-is = segment-place d offset size (t .deal) a f;
+      place-is = entry-place d place (t .deal) q;
+      segment-up = omega arith;
+      entry-up = omega arith;
+    }
+
+-- an entry of a deal without stray bits has a clear commitment
+entry-clear : (deal : List ℕ) (place : ℕ) → place ≡ 64 * (place / 64) → place + 64 ≤ length deal → noStrayBits deal ≡ true → clearNode (commitmentIn (entryAt deal place)) ≡ true
+unfolding commitmentIn part
+entry-clear deal place e h k =
+    let at : place ≡ (place / 64 * 2) * 32 = omega arith in
+    ap clearNode (take-take 32 64 (drop place deal) (omega arith) ∙ ap (λ (m : ℕ). take 32 (drop m deal)) at)
+    ∙ clear-at (length deal / 32) (place / 64 * 2) deal k (omega arith)
+
+-- the node over the 64 bytes at a place
+pub entry-node : (nodes : NodeSource) (deal : List ℕ) (top place : ℕ) → IsTree nodes deal top → place ≡ 64 * (place / 64) → 0 < top → place / 64 < 2 ^ (top - 1)
+    → nodeHash (entryAt deal place) ≡ nodes 1 (place / 64)
+unfolding part
+entry-node nodes deal top place t e o h =
+    let m = place / 64 in
+    let a : place ≡ (m * 2) * 32 = omega arith in
+    let b : place + 32 ≡ (m * 2 + 1) * 32 = omega arith in
+    ap nodeHash (take-add 32 32 (drop place deal)
+    ∙ ap₂ _++_ (ap (λ (k : ℕ). take 32 (drop k deal)) a ∙ sym (t .leaf (m * 2)))
+    (ap (take 32) (drop-drop 32 place deal ∙ ap (λ (k : ℕ). drop k deal) b) ∙ sym (t .leaf (m * 2 + 1))))
+    ∙ sym (t .split (top - 1) 0 m (omega arith) h)
+
+module _ (deal : LentDeal) (t : IsTree (deal .nodes) (deal .bytes) (dealLevel (dealSize deal))) where
+  module _ (place offset size : ℕ) (w : InDeal (dealSize deal) place offset size) where
+    pub segment-path-length : length (segmentPathOf deal offset size) ≡ 32 * segmentPathLevels (dealSize deal) size
+    segment-path-length =
+        path-length (deal .nodes) (deal .bytes) (dealLevel (dealSize deal)) t (segmentPathLevels (dealSize deal) size) (segmentLevel size) (segmentPosition offset size) (w .segment-up) (w .segment-is .position-in)
+
+    pub entry-path-length : length (entryPathOf deal place) ≡ 32 * entryPathLevels (dealSize deal)
+    entry-path-length =
+        path-length (deal .nodes) (deal .bytes) (dealLevel (dealSize deal)) t (entryPathLevels (dealSize deal)) 1 (entryPosition place) (w .entry-up) (w .place-is .position-in)
+
+    pub segment-path-leads :
+        pathRoot (segmentPathLevels (dealSize deal) size) (deal .nodes (segmentLevel size) (segmentPosition offset size)) (segmentPosition offset size) (segmentPathOf deal offset size)
+        ≡ termsOf deal .commitment
+    segment-path-leads =
+        own-leads (deal .nodes) (deal .bytes) (dealLevel (dealSize deal)) t (segmentPathLevels (dealSize deal) size) (segmentLevel size) (segmentPosition offset size) (w .segment-up) (w .segment-is .position-in)
+
+    pub entry-path-leads : pathRoot (entryPathLevels (dealSize deal)) (deal .nodes 1 (entryPosition place)) (entryPosition place) (entryPathOf deal place) ≡ termsOf deal .commitment
+    entry-path-leads =
+        own-leads (deal .nodes) (deal .bytes) (dealLevel (dealSize deal)) t (entryPathLevels (dealSize deal)) 1 (entryPosition place) (w .entry-up) (w .place-is .position-in)
+
+    pub place-node : nodeHash (entryAt (deal .bytes) place) ≡ deal .nodes 1 (entryPosition place)
+    place-node =
+        let l : 4 ≤ dealLevel (dealSize deal) = w .lent-is .deal .level-low in
+        entry-node (deal .nodes) (deal .bytes) (dealLevel (dealSize deal)) place t (w .place-is .at-position) (omega arith) (w .place-is .position-in)
+
+  pub commitment-length : length (termsOf deal .commitment) ≡ 32
+  commitment-length = t .sized 0 (dealLevel (dealSize deal)) 0 (omega arith) (omega arith)
+
+  module _ (b : Bytes (deal .bytes)) (place : ℕ) (r : List ℕ) (m : Builds deal place r) where
+    e : List ℕ
+    e = entryAt (deal .bytes) place
+
+    pub built-in-deal : InDeal (dealSize deal) place (offsetIn (entryAt (deal .bytes) place)) (sizeIn (entryAt (deal .bytes) place))
+    built-in-deal =
+        in-deal (dealSize deal) place (offsetIn (entryAt (deal .bytes) place)) (sizeIn (entryAt (deal .bytes) place)) (m .lent) (m .place-allowed)
+        (m .is-kept .is-standing .size-allowed) (m .is-kept .is-standing .offset-allowed)
+
+    -- the entry is the one that its fields make
+    pub built-valid : entryOf (commitmentIn (entryAt (deal .bytes) place)) (offsetIn (entryAt (deal .bytes) place)) (sizeIn (entryAt (deal .bytes) place)) ≡ entryAt (deal .bytes) place
+    built-valid =
+        valid-is (entryAt (deal .bytes) place) (part-length (deal .bytes) place 64 (built-in-deal .place-is .in-deal)) (bytes-part (deal .bytes) place 64 b) (m .is-kept .is-standing .right)
+
+    pub built-sized : Sized (fieldsFor deal (entryAt (deal .bytes) place) place)
+    unfolding fieldsFor commitmentIn
+    built-sized =
+        let w = built-in-deal in
+        let o = offsetIn (entryAt (deal .bytes) place) in
+        let z = sizeIn (entryAt (deal .bytes) place) in
+        let l : length (entryAt (deal .bytes) place) ≡ 64 = part-length (deal .bytes) place 64 (w .place-is .in-deal) in
+        let high : dealSize deal ≤ 2 ^ 24 = w .lent-is .lent-high in
+        let room : place + 64 ≤ dealSize deal = w .place-is .in-deal in
+        let sl = index-start-le (dealSize deal) in
+        let oh : o + area z ≤ indexStart (dealSize deal) = w .segment-is .ends in
+        let zh : z ≤ area z = w .size-is .size-area in
+        let th : dealLevel (dealSize deal) ≤ 19 = w .lent-is .lent-level in
+        let a = segment-path-length place o z w in
+        let c = entry-path-length place o z w in
+        record {
+          commitment-32 = part-length (entryAt (deal .bytes) place) 0 32 (omega arith);
+          offset-8 = omega arith;
+          size-8 = omega arith;
+          place-8 = omega arith;
+          segment-path-nodes = eq-eqb (length (segmentPathOf deal o z) % 32) 0 (omega arith);
+          segment-path-short = omega arith;
+          entry-path-nodes = eq-eqb (length (entryPathOf deal place) % 32) 0 (omega arith);
+          entry-path-short = omega arith;
+        }
+
+    pub built-parses : parse r ≡ parsed (fieldsFor deal (entryAt (deal .bytes) place) place)
+    built-parses = ap parse (sym (m .wrote)) ∙ parse-encode (fieldsFor deal (entryAt (deal .bytes) place) place) built-sized
+
+    pub built-accepted : Accepted (termsOf deal) (fieldsFor deal (entryAt (deal .bytes) place) place)
+    unfolding fieldsFor
+    built-accepted =
+        let w = built-in-deal in
+        let o = offsetIn (entryAt (deal .bytes) place) in
+        let z = sizeIn (entryAt (deal .bytes) place) in
+        record {
+          size-allowed = m .is-kept .is-standing .size-allowed;
+          offset-allowed = m .is-kept .is-standing .offset-allowed;
+          place-allowed = m .place-allowed;
+          segment-path-length = segment-path-length place o z w;
+          entry-path-length = entry-path-length place o z w;
+          commitment-clear = entry-clear (deal .bytes) place (w .place-is .at-position) (w .place-is .in-deal) (m .clean);
+          segment-path-leads =
+              ap (λ (x : List ℕ). pathRoot (segmentPathLevels (dealSize deal) z) x (segmentPosition o z) (segmentPathOf deal o z)) (sym (m .is-kept .node-is))
+              ∙ segment-path-leads place o z w;
+          entry-path-leads =
+              ap (λ (x : List ℕ). pathRoot (entryPathLevels (dealSize deal)) x (entryPosition place) (entryPathOf deal place)) (ap nodeHash built-valid ∙ place-node place o z w)
+              ∙ entry-path-leads place o z w;
+        }

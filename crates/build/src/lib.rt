@@ -1,0 +1,7 @@
+// Building an inclusion record.
+
+// The length of the record that was written; 0 on a refusal.
+pub struct BuildAnswer {
+    pub code: u8,
+    pub length: usize,
+}

@@ -1,0 +1,12 @@
+-- Building writes exactly a record.
+use mathlib.Core.Path.{_≡_}
+use Prim.Native.Nat.{ℕ, _≤_}
+use mathlib.Core.List.{List}
+use lib.ListN.{length}
+use Rattle.octets.specs.Splice.{splice}
+use Rattle.build.specs.Build.{LentDeal, buildAnswer, buildOutput}
+
+-- given enough output, building at an entry place answers 0 and writes exactly the record r; the rest of the output stays
+abbrev pub BuildsExactly : LentDeal → ℕ → List ℕ → Type 0
+BuildsExactly deal place r =
+    (out : List ℕ) → length r ≤ length out → (buildAnswer deal place out ≡ record { code = 0; length = length r }) × (buildOutput deal place out ≡ splice out 0 r)

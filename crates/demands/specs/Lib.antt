@@ -1,0 +1,9 @@
+pub mod Settles
+pub mod BuildsExactly
+pub mod Demand2
+pub mod Demand3
+pub mod Table
+pub mod Chains
+pub mod TwoRecords
+pub mod WithDeal
+pub mod BuildsExactlyLaws

@@ -1,0 +1,3 @@
+pub fn half(n: usize) -> usize {
+    n / 2
+}

@@ -1,0 +1,3 @@
+pub mod OffsetTest
+pub mod Written
+pub mod OneNode

@@ -1,0 +1,62 @@
+-- Index entries (document 01, "Entries and the index area"): commitment, 32 bytes; offset, 8; size, 8; checksum, 16.
+use mathlib.Core.Bool.{Bool}
+use Prim.Native.Nat.{ℕ}
+use mathlib.Core.List.{List, [], _∷_, _++_}
+use lib.ListN.{length, replicate}
+use lib.Dec.{eqb}
+use Rattle.octets.specs.Choice.{choose}
+use Rattle.octets.specs.Refusals.{rule, firstRefusal, unlessRefused}
+use Rattle.octets.specs.Equality.{sameBytes}
+use Rattle.octets.specs.LittleEndian.{numberOf, bytesOf}
+use Rattle.octets.specs.Splice.{part}
+use Rattle.merkle.specs.StrayBits.{clearNode}
+use Rattle.entries.specs.Checksum.{checksumOf}
+use Rattle.entries.specs.declared.MadeEntry.{MadeEntry}
+use Rattle.entries.specs.declared.EntryKind.{EntryKind}
+use Rattle.entries.specs.declared.ReadEntry.{ReadEntry}
+
+-- the first 48 bytes of an entry: all but its checksum
+unfoldable pub entryBody : List ℕ → ℕ → ℕ → List ℕ
+entryBody commitment offset size = commitment ++ (bytesOf 8 offset ++ bytesOf 8 size)
+
+-- the entry for a commitment, an offset and a size
+unfoldable pub entryOf : List ℕ → ℕ → ℕ → List ℕ
+entryOf commitment offset size = entryBody commitment offset size ++ checksumOf (entryBody commitment offset size)
+
+-- the fields of 64 bytes
+unfoldable pub commitmentIn : List ℕ → List ℕ
+commitmentIn entry = part entry 0 32
+
+unfoldable pub offsetIn : List ℕ → ℕ
+offsetIn entry = numberOf (part entry 32 8)
+
+unfoldable pub sizeIn : List ℕ → ℕ
+sizeIn entry = numberOf (part entry 40 8)
+
+-- the checksum is right: what the paper calls valid, of 64 bytes at hand
+unfoldable pub checksumRight : List ℕ → Bool
+checksumRight entry = sameBytes (checksumOf (part entry 0 48)) (part entry 48 16)
+
+-- making an entry: 1 for a commitment that is not 32 bytes long, 8 for one with stray bits; the numbers are taken as they are
+abbrev pub entryRefused : ℕ → MadeEntry
+entryRefused code = record { code = code; entry = replicate 64 0 }
+
+unfoldable pub madeEntry : List ℕ → ℕ → ℕ → MadeEntry
+madeEntry commitment offset size =
+    unlessRefused
+    (firstRefusal (rule (eqb (length commitment) 32) 1 ∷ rule (clearNode commitment) 8 ∷ []))
+    entryRefused
+    (record { code = 0; entry = entryOf commitment offset size })
+
+-- reading an entry: 2 unless there are 64 bytes, else whether it is valid, with its three fields or zeros
+abbrev pub notValid : ℕ → ReadEntry
+notValid code = record { code = code; kind = EntryKind.NotValid; commitment = replicate 32 0; offset = 0; size = 0 }
+
+unfoldable pub readEntry : List ℕ → ReadEntry
+readEntry entry =
+    unlessRefused
+    (firstRefusal (rule (eqb (length entry) 64) 2 ∷ []))
+    notValid
+    (choose (checksumRight entry)
+    (record { code = 0; kind = EntryKind.Valid; commitment = commitmentIn entry; offset = offsetIn entry; size = sizeIn entry })
+    (notValid 0))

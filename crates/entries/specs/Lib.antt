@@ -1,0 +1,7 @@
+pub mod Sizes
+pub mod Numbers
+pub mod Checksum
+pub mod Entry
+pub mod SizesLaws
+pub mod EntryLaws
+pub mod MadeLaws

@@ -1,0 +1,4 @@
+pub mod SlotAnswers
+pub mod SegmentNode
+pub mod Keeping
+pub mod View

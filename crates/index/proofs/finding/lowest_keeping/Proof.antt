@@ -1,0 +1,105 @@
+-- No slot below i keeps the commitment, so the lowest that does is the lowest of those from i on.
+use mathlib.Core.Path.{_≡_, sym, ap, _∙_}
+use mathlib.Core.Bool.{true, false}
+use Prim.Native.Nat.{_-_, _≤_}
+use native.Mathlib.Omega.{arith}
+use lib.ListN.{length}
+use denote.Ref.{now}
+use borrow.Author.Needs.{needs}
+use Rattle.octets.specs.Search.{lowest}
+use Rattle.octets.specs.SearchLaws.{lowest-start, lowest-here, lowest-next, lowest-over}
+use Rattle.entries.specs.Sizes.{slotPlace}
+use Rattle.entries.specs.SizesLaws.{lent-size, slot-allowed, entry-place}
+use Rattle.index.specs.Find.{keepsCommitment, lowestKeeping, foundIn}
+use Rattle.index.proofs.Keeping.{answer-keeps, answer-found}
+use Rattle.index.proofs.finding.lowest_keeping.Statement.{statement}
+use Rattle.index.proofs.finding.lowest_keeping.Tie as tie
+
+abbrev Inv-loop : tie.InvT-loop
+Inv-loop deal commitment deal-size count i₀ i = (i ≤ count) × (lowestKeeping commitment deal ≡ lowest (keepsCommitment commitment deal) i (count - i))
+
+abbrev μ-loop : tie.MeasureT-loop
+μ-loop deal commitment deal-size count i₀ i = count - i
+
+entry-count-requires : tie.Need-entry-count-requires Inv-loop μ-loop
+entry-count-requires c κs = search needs
+
+loop-holds : tie.Need-loop-holds Inv-loop μ-loop
+loop-holds c =
+    let s = c .before .before .before in
+    let keeps = keepsCommitment (now (s .args .commitment)) (now (s .args .deal)) in
+    (search needs, ap (lowest keeps 0) (sym (c .entry-count .ensures)) ∙ lowest-start keeps (c .entry-count .result))
+
+slot-place-requires : tie.Need-slot-place-requires Inv-loop μ-loop
+slot-place-requires c κs =
+    let n = c .before .before in
+    let s = n .before .before .before in
+    (lent-size (length (now (s .args .deal))) (s .pre) .allowed, omega (arith, n .entry-count .ensures))
+
+keeping-at-requires : tie.Need-keeping-at-requires Inv-loop μ-loop
+keeping-at-requires c κs =
+    let l = c .before .before in
+    let s = l .before .before .before .before in
+    let d = length (now (s .args .deal)) in
+    let t = lent-size d (s .pre) .deal in
+    let p = entry-place d (slotPlace d (l .loop .i)) t (slot-allowed d (l .loop .i) t (omega (arith, l .before .entry-count .ensures))) in
+    (s .pre, omega (arith, p .in-deal, c .slot-place .ensures))
+
+returns : tie.Need-returns Inv-loop μ-loop
+returns c =
+    let k = c .before in
+    let l = k .before .before .before in
+    let s = l .before .before .before .before in
+    let deal = now (s .args .deal) in
+    let commitment = now (s .args .commitment) in
+    let i = l .loop .i in
+    let place = k .before .slot-place .result in
+    let keeps : keepsCommitment commitment deal i ≡ true = sym (answer-keeps deal commitment i place (k .keeping-at .result) (k .before .slot-place .ensures) (k .keeping-at .ensures)) ∙ c .if1 .taken in
+    answer-found deal commitment i place (k .keeping-at .result) (k .before .slot-place .ensures) (k .keeping-at .ensures) (c .if1 .taken)
+    ∙ ap (foundIn deal) (sym (l .loop .inv .1 ∙ lowest-here (keepsCommitment commitment deal) (l .before .entry-count .result) i (omega arith) keeps))
+
+add-i : tie.Need-add-i Inv-loop μ-loop
+add-i c = search needs
+
+loop-less : tie.Need-loop-less Inv-loop μ-loop
+loop-less c = search needs
+
+loop-again : tie.Need-loop-again Inv-loop μ-loop
+loop-again c =
+    let k = c .before in
+    let l = k .before .before .before in
+    let s = l .before .before .before .before in
+    let deal = now (s .args .deal) in
+    let commitment = now (s .args .commitment) in
+    let i = l .loop .i in
+    let keeps : keepsCommitment commitment deal i ≡ false = sym (answer-keeps deal commitment i (k .before .slot-place .result) (k .keeping-at .result) (k .before .slot-place .ensures) (k .keeping-at .ensures)) ∙ c .if1 .left in
+    (search needs, l .loop .inv .1 ∙ lowest-next (keepsCommitment commitment deal) (l .before .entry-count .result) i (omega arith) keeps)
+
+not-found-requires : tie.Need-not-found-requires Inv-loop μ-loop
+not-found-requires c κs = search needs
+
+returns-2 : tie.Need-returns-2 Inv-loop μ-loop
+returns-2 c =
+    let l = c .before .before in
+    let s = l .before .before .before .before in
+    let deal = now (s .args .deal) in
+    let commitment = now (s .args .commitment) in
+    c .not-found .ensures
+    ∙ ap (foundIn deal) (sym (l .loop .inv .1 ∙ lowest-over (keepsCommitment commitment deal) (l .before .entry-count .result) (l .loop .i) (omega arith)))
+
+pub lowest-keeping-spec : {M : Type 1} → statement M
+lowest-keeping-spec =
+    tie.close
+    (tie.spec
+    Inv-loop
+    μ-loop
+    entry-count-requires
+    loop-holds
+    slot-place-requires
+    keeping-at-requires
+    returns
+    add-i
+    loop-less
+    loop-again
+    not-found-requires
+    returns-2)

@@ -1,0 +1,5 @@
+pub mod Slots
+pub mod Find
+pub mod SlotsLaws
+pub mod FindLaws
+pub mod KeptLaws

@@ -1,0 +1,50 @@
+-- The slots of a deal's index (document 01, "Entries and the index area").
+use mathlib.Core.Bool.{Bool, true, false, _&&_}
+use Prim.Native.Nat.{ℕ}
+use mathlib.Core.List.{List}
+use lib.ListN.{length, replicate}
+use Rattle.octets.specs.Choice.{choose}
+use Rattle.octets.specs.Equality.{sameBytes}
+use Rattle.octets.specs.Splice.{part}
+use Rattle.paths.specs.NodeSource.{NodeSource}
+use Rattle.entries.specs.Sizes.{segmentSizeAllowed, offsetAllowed, slotPlace, segmentLevel, segmentPosition}
+use Rattle.entries.specs.Entry.{commitmentIn, offsetIn, sizeIn, checksumRight}
+use Rattle.index.specs.declared.Standing.{Standing}
+
+-- the 64 bytes at a place, and those in slot i
+abbrev pub entryAt : List ℕ → ℕ → List ℕ
+entryAt deal place = part deal place 64
+
+abbrev pub slotAt : List ℕ → ℕ → List ℕ
+slotAt deal i = entryAt deal (slotPlace (length deal) i)
+
+-- standing: the entry is valid, its size is allowed, and so is its offset (house rule)
+unfoldable pub standing : ℕ → List ℕ → Bool
+standing d entry = checksumRight entry && (segmentSizeAllowed d (sizeIn entry) && offsetAllowed d (offsetIn entry) (sizeIn entry))
+
+-- kept: standing, and the commitment is that of the bytes at the offset, by a source of the deal's nodes
+unfoldable pub kept : NodeSource → ℕ → List ℕ → Bool
+kept nodes d entry =
+    standing d entry && sameBytes (nodes (segmentLevel (sizeIn entry)) (segmentPosition (offsetIn entry) (sizeIn entry))) (commitmentIn entry)
+
+-- a row: what stands in a slot. A slot without a standing entry is free
+pub data Row : Type 0 where
+  free : Row
+  holds : List ℕ → ℕ → ℕ → Row
+
+-- the row of an entry: its commitment, offset and size
+unfoldable pub rowOf : ℕ → List ℕ → Row
+rowOf d entry = choose (standing d entry) (holds (commitmentIn entry) (offsetIn entry) (sizeIn entry)) free
+
+-- the same for a kept entry alone
+unfoldable pub keptRow : NodeSource → ℕ → List ℕ → Row
+keptRow nodes d entry = choose (kept nodes d entry) (holds (commitmentIn entry) (offsetIn entry) (sizeIn entry)) free
+
+-- a row as the code answers it
+abbrev pub standingOf : Row → Standing
+standingOf free = record { stands = false; commitment = replicate 32 0; offset = 0; size = 0 }
+standingOf (holds commitment offset size) = record { stands = true; commitment = commitment; offset = offset; size = size }
+
+-- the rows of a deal, slot by slot
+abbrev pub rowAt : List ℕ → ℕ → Row
+rowAt deal i = rowOf (length deal) (slotAt deal i)

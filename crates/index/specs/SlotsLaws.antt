@@ -1,0 +1,162 @@
+-- What standing and kept entries are, and what an all-zero slot is not.
+use mathlib.Core.Path.{_≡_, refl, sym, ap, ap₂, _∙_}
+use mathlib.Core.Bool.{Bool, true, false, _&&_, true≢false}
+use Prim.Native.Nat.{ℕ, zero, suc, _^_, _<_}
+use native.Mathlib.Omega.{arith}
+use mathlib.Core.List.{List}
+use lib.ListN.{length, getD, replicate}
+use Rattle.octets.specs.Choice.{choose}
+use Rattle.octets.specs.RefusalLaws.{and-left, and-right}
+use Rattle.octets.specs.Equality.{sameBytes}
+use Rattle.octets.specs.EqualityLaws.{same-true, same-of}
+use Rattle.octets.specs.LittleEndian.{numberOf}
+use Rattle.octets.specs.Splice.{part}
+use Rattle.paths.specs.NodeSource.{NodeSource}
+use Rattle.merkle.specs.Tree.{nodeAt}
+use Rattle.merkle.specs.TreeLaws.{node-at-clear}
+use Rattle.merkle.specs.StrayBits.{clearNode}
+use Rattle.merkle.specs.StrayBitsLaws.{clear-node}
+use Rattle.entries.specs.Sizes.{segmentSizeAllowed, offsetAllowed, segmentLevel, segmentPosition}
+use Rattle.entries.specs.Entry.{entryOf, commitmentIn, offsetIn, sizeIn, checksumRight}
+use Rattle.entries.specs.SizesLaws.{DealSize, segment-size}
+use Rattle.entries.specs.EntryLaws.{made-right, commitment-back, offset-back, size-back}
+use Rattle.index.specs.Slots.{standing, kept, free, holds, rowOf, keptRow, standingOf}
+use Rattle.index.specs.declared.Standing.{Standing}
+
+-- standing implies valid and in bounds
+pub record Stands (d : ℕ) (entry : List ℕ) : Type 0 where
+  pub right : checksumRight entry ≡ true
+  pub size-allowed : segmentSizeAllowed d (sizeIn entry) ≡ true
+  pub offset-allowed : offsetAllowed d (offsetIn entry) (sizeIn entry) ≡ true
+
+pub stands : (d : ℕ) (entry : List ℕ) → standing d entry ≡ true → Stands d entry
+unfolding standing
+stands d entry e =
+    let q = and-right (checksumRight entry) (segmentSizeAllowed d (sizeIn entry) && offsetAllowed d (offsetIn entry) (sizeIn entry)) e in
+    record {
+      right = and-left (checksumRight entry) (segmentSizeAllowed d (sizeIn entry) && offsetAllowed d (offsetIn entry) (sizeIn entry)) e;
+      size-allowed = and-left (segmentSizeAllowed d (sizeIn entry)) (offsetAllowed d (offsetIn entry) (sizeIn entry)) q;
+      offset-allowed = and-right (segmentSizeAllowed d (sizeIn entry)) (offsetAllowed d (offsetIn entry) (sizeIn entry)) q;
+    }
+
+pub record Keeps (nodes : NodeSource) (d : ℕ) (entry : List ℕ) : Type 0 where
+  pub is-standing : Stands d entry
+  pub node-is : nodes (segmentLevel (sizeIn entry)) (segmentPosition (offsetIn entry) (sizeIn entry)) ≡ commitmentIn entry
+
+pub keeps : (nodes : NodeSource) (d : ℕ) (entry : List ℕ) → kept nodes d entry ≡ true → Keeps nodes d entry
+unfolding kept
+keeps nodes d entry e =
+    let n = nodes (segmentLevel (sizeIn entry)) (segmentPosition (offsetIn entry) (sizeIn entry)) in
+    record {
+      is-standing = stands d entry (and-left (standing d entry) (sameBytes n (commitmentIn entry)) e);
+      node-is = same-true n (commitmentIn entry) (and-right (standing d entry) (sameBytes n (commitmentIn entry)) e);
+    }
+
+-- a kept commitment is a node above the lowest level, and so has no stray bits
+above-lowest : (run : List ℕ) (level q : ℕ) → 0 < level → getD (nodeAt run level q) 31 0 < 64
+above-lowest run zero q h = absurd (omega arith)
+above-lowest run (suc level) q h = node-at-clear level q run
+
+pub kept-clear : (deal : List ℕ) (d : ℕ) (entry : List ℕ) → DealSize d → kept (nodeAt deal) d entry ≡ true → clearNode (commitmentIn entry) ≡ true
+kept-clear deal d entry t e =
+    let k = keeps (nodeAt deal) d entry e in
+    let z = segment-size d (sizeIn entry) t (k .is-standing .size-allowed) in
+    let level = segmentLevel (sizeIn entry) in
+    let position = segmentPosition (offsetIn entry) (sizeIn entry) in
+    sym (ap clearNode (k .node-is)) ∙ clear-node (nodeAt deal level position) (above-lowest deal level position (omega (arith, z .level-low)))
+
+-- an entry made from an allowed size and offset stands, and is kept where the node is its commitment
+module _ (d : ℕ) (commitment : List ℕ) (offset size : ℕ) (l : length commitment ≡ 32) (ho : offset < 256 ^ 8) (hs : size < 256 ^ 8) where
+  pub made-stands : segmentSizeAllowed d size ≡ true → offsetAllowed d offset size ≡ true → standing d (entryOf commitment offset size) ≡ true
+  unfolding standing
+  made-stands a b = rw (made-right commitment offset size l, offset-back commitment offset size l ho, size-back commitment offset size l hs, a, b)
+
+  pub made-kept : (nodes : NodeSource) → segmentSizeAllowed d size ≡ true → offsetAllowed d offset size ≡ true
+      → nodes (segmentLevel size) (segmentPosition offset size) ≡ commitment → kept nodes d (entryOf commitment offset size) ≡ true
+  unfolding kept
+  made-kept nodes a b n =
+      rw (
+        made-stands a b,
+        commitment-back commitment offset size l,
+        offset-back commitment offset size l ho,
+        size-back commitment offset size l hs,
+        same-of (nodes (segmentLevel size) (segmentPosition offset size)) commitment n,
+      )
+
+  -- its row is what it was made from
+  pub made-row : segmentSizeAllowed d size ≡ true → offsetAllowed d offset size ≡ true → rowOf d (entryOf commitment offset size) ≡ holds commitment offset size
+  unfolding rowOf
+  made-row a b =
+      rw (made-stands a b, commitment-back commitment offset size l, offset-back commitment offset size l ho, size-back commitment offset size l hs)
+
+and-false : (b : Bool) → (b && false) ≡ false
+and-false true = refl
+and-false false = refl
+
+-- an all-zero slot holds no standing entry, whatever its checksum: its size is 0
+pub zero-free : (d : ℕ) → standing d (replicate 64 0) ≡ false
+unfolding standing sizeIn part numberOf segmentSizeAllowed
+zero-free d = and-false (checksumRight (replicate 64 0))
+
+-- an answer by the test that decides on its row
+module _ (commitment : List ℕ) (offset size : ℕ) (answer : Standing) where
+  answer-test : (t : Bool) → answer ≡ standingOf (choose t (holds commitment offset size) free) → answer .stands ≡ t
+  answer-test true e = ap (λ (a : Standing). a .stands) e
+  answer-test false e = ap (λ (a : Standing). a .stands) e
+
+  answer-row : (t : Bool) → answer ≡ standingOf (choose t (holds commitment offset size) free) → t ≡ true → answer ≡ standingOf (holds commitment offset size)
+  answer-row true e h = e
+  answer-row false e h = absurd (true≢false (sym h))
+
+-- an answer that stands: what it says of the entry that it was read from, and its bounds
+pub record StandsAs (d : ℕ) (entry : List ℕ) (answer : Standing) : Type 0 where
+  pub is-standing : standing d entry ≡ true
+  pub commitment-is : answer .commitment ≡ commitmentIn entry
+  pub offset-is : answer .offset ≡ offsetIn entry
+  pub size-is : answer .size ≡ sizeIn entry
+  pub size-allowed : segmentSizeAllowed d (answer .size) ≡ true
+  pub offset-allowed : offsetAllowed d (answer .offset) (answer .size) ≡ true
+
+module _ (d : ℕ) (entry : List ℕ) (answer : Standing) where
+  stands-as : standing d entry ≡ true → answer ≡ standingOf (holds (commitmentIn entry) (offsetIn entry) (sizeIn entry)) → StandsAs d entry answer
+  stands-as t e =
+      let s = stands d entry t in
+      let o : answer .offset ≡ offsetIn entry = ap (λ (a : Standing). a .offset) e in
+      let z : answer .size ≡ sizeIn entry = ap (λ (a : Standing). a .size) e in
+      record {
+        is-standing = t;
+        commitment-is = ap (λ (a : Standing). a .commitment) e;
+        offset-is = o;
+        size-is = z;
+        size-allowed = ap (segmentSizeAllowed d) z ∙ s .size-allowed;
+        offset-allowed = ap₂ (offsetAllowed d) o z ∙ s .offset-allowed;
+      }
+
+  pub answer-stands : answer ≡ standingOf (rowOf d entry) → answer .stands ≡ true → StandsAs d entry answer
+  unfolding rowOf
+  answer-stands e h =
+      let t : standing d entry ≡ true = sym (answer-test (commitmentIn entry) (offsetIn entry) (sizeIn entry) answer (standing d entry) e) ∙ h in
+      stands-as t (answer-row (commitmentIn entry) (offsetIn entry) (sizeIn entry) answer (standing d entry) e t)
+
+  pub answer-free : answer ≡ standingOf (rowOf d entry) → answer .stands ≡ false → standing d entry ≡ false
+  unfolding rowOf
+  answer-free e h = sym (answer-test (commitmentIn entry) (offsetIn entry) (sizeIn entry) answer (standing d entry) e) ∙ h
+
+-- the same for an answer about a kept entry
+pub record KeptAs (nodes : NodeSource) (d : ℕ) (entry : List ℕ) (answer : Standing) : Type 0 where
+  pub is-kept : kept nodes d entry ≡ true
+  pub as-standing : StandsAs d entry answer
+
+module _ (nodes : NodeSource) (d : ℕ) (entry : List ℕ) (answer : Standing) where
+  pub answer-kept : answer ≡ standingOf (keptRow nodes d entry) → answer .stands ≡ true → KeptAs nodes d entry answer
+  unfolding keptRow kept
+  answer-kept e h =
+      let t : kept nodes d entry ≡ true = sym (answer-test (commitmentIn entry) (offsetIn entry) (sizeIn entry) answer (kept nodes d entry) e) ∙ h in
+      record {
+        is-kept = t;
+        as-standing = stands-as d entry answer (and-left (standing d entry) _ t) (answer-row (commitmentIn entry) (offsetIn entry) (sizeIn entry) answer (kept nodes d entry) e t);
+      }
+
+  pub answer-not-kept : answer ≡ standingOf (keptRow nodes d entry) → answer .stands ≡ false → kept nodes d entry ≡ false
+  unfolding keptRow
+  answer-not-kept e h = sym (answer-test (commitmentIn entry) (offsetIn entry) (sizeIn entry) answer (kept nodes d entry) e) ∙ h

@@ -1,0 +1,78 @@
+// The slots of a deal's index: which entries stand, and which are kept.
+use crate::Standing;
+ghost use mathlib.Core.Path.{_≡_};
+ghost use mathlib.Core.Bool.{true};
+ghost use Prim.Native.Nat.{_+_, _≤_};
+ghost use lib.ListN.{length};
+ghost use Rattle.octets.specs.Equality.{sameBytes};
+ghost use Rattle.merkle.specs.Tree.{nodeAt};
+ghost use Rattle.entries.specs.Sizes.{lentSizeAllowed, segmentSizeAllowed, offsetAllowed, segmentLevel, segmentPosition};
+ghost use Rattle.index.specs.Slots.{entryAt, free, rowOf, keptRow, standingOf};
+
+// A slot without a standing entry.
+pub fn free_slot() -> Standing
+    ensures { λ r. ⌜ r ≡ standingOf free ⌝ }
+{
+    Standing {
+        stands: false,
+        commitment: [0u8; 32],
+        offset: 0,
+        size: 0,
+    }
+}
+
+// The standing entry at a place of a lent deal.
+pub fn standing_at(deal: &[u8], place: usize) -> Standing
+    requires { ⌜ (lentSizeAllowed (length (now deal)) ≡ true) × (place + 64 ≤ length (now deal)) ⌝ }
+    ensures { λ r. ⌜ r ≡ standingOf (rowOf (length (now (deal .entry))) (entryAt (now (deal .entry)) place)) ⌝ }
+{
+    let end = place + 64;
+    let entry = &deal[place..end];
+    if !entries::checksum_right(entry) {
+        return free_slot();
+    }
+    let deal_size = deal.len() as u64;
+    let size = octets::read_u64(entry, 40);
+    if !entries::segment_size_allowed(deal_size, size) {
+        return free_slot();
+    }
+    let offset = octets::read_u64(entry, 32);
+    if !entries::offset_allowed(deal_size, offset, size) {
+        return free_slot();
+    }
+    Standing {
+        stands: true,
+        commitment: octets::node_at(entry, 0),
+        offset,
+        size,
+    }
+}
+
+// Whether the bytes of a segment of a lent deal have this commitment.
+pub fn segment_has(deal: &[u8], offset: u64, size: u64, commitment: [u8; 32]) -> bool
+    requires { ⌜ lentSizeAllowed (length (now deal)) ≡ true ⌝ }
+    requires { ⌜ segmentSizeAllowed (length (now deal)) size ≡ true ⌝ }
+    requires { ⌜ offsetAllowed (length (now deal)) offset size ≡ true ⌝ }
+    ensures { λ r. ⌜ r ≡ sameBytes (nodeAt (now (deal .entry)) (segmentLevel size) (segmentPosition offset size)) commitment ⌝ }
+{
+    let level = entries::segment_level(size);
+    let position = entries::segment_position(offset, size) as usize;
+    let node = merkle::node_at(deal, level, position);
+    octets::same_node(node, commitment)
+}
+
+// The kept entry at a place of a lent deal.
+pub fn kept_at(deal: &[u8], place: usize) -> Standing
+    requires { ⌜ (lentSizeAllowed (length (now deal)) ≡ true) × (place + 64 ≤ length (now deal)) ⌝ }
+    ensures { λ r. ⌜ r ≡ standingOf (keptRow (nodeAt (now (deal .entry))) (length (now (deal .entry))) (entryAt (now (deal .entry)) place)) ⌝ }
+{
+    let entry = standing_at(deal, place);
+    if !entry.stands {
+        return entry;
+    }
+    let commitment = entry.commitment;
+    if !segment_has(deal, entry.offset, entry.size, commitment) {
+        return free_slot();
+    }
+    entry
+}

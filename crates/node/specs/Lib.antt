@@ -1,0 +1,4 @@
+pub mod Node
+pub mod PaddingBlock
+pub mod PaddingBlockLaws
+pub mod Every

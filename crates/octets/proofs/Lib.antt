@@ -1,0 +1,3 @@
+pub mod EqualityLoops
+pub mod CopyLoops
+pub mod NumberLoops

@@ -1,0 +1,34 @@
+-- What the tests on byte strings say.
+use mathlib.Core.Path.{_≡_, refl, sym, ap, ap₂, _∙_}
+use mathlib.Core.Bool.{Bool, true, false, _&&_, true≢false}
+use Prim.Native.Nat.{ℕ, suc}
+use mathlib.Core.List.{List, [], _∷_, _++_}
+use lib.Dec.{eqb}
+use lib.ListN.{length, replicate}
+use borrow.Author.Tests.{eqb-true, eq-eqb}
+use Rattle.octets.specs.Equality.{sameBytes, allZero}
+use Rattle.octets.specs.RefusalLaws.{and-left, and-right}
+
+pub same-true : (v w : List ℕ) → sameBytes v w ≡ true → v ≡ w
+unfolding sameBytes
+same-true [] [] e = refl
+same-true [] (y ∷ ys) e = cc
+same-true (x ∷ xs) [] e = cc
+same-true (x ∷ xs) (y ∷ ys) e =
+    ap₂ _∷_ (eqb-true x y (and-left (eqb x y) (sameBytes xs ys) e)) (same-true xs ys (and-right (eqb x y) (sameBytes xs ys) e))
+
+pub same-refl : (v : List ℕ) → sameBytes v v ≡ true
+unfolding sameBytes
+same-refl [] = refl
+same-refl (x ∷ xs) = ap₂ _&&_ (eq-eqb x x refl) (same-refl xs)
+
+pub same-of : (v w : List ℕ) → v ≡ w → sameBytes v w ≡ true
+same-of v w e = sym (ap (sameBytes v) e) ∙ same-refl v
+
+pub same-false : (v w : List ℕ) → sameBytes v w ≡ false → v ≡ w → ⊥
+same-false v w e h = true≢false (sym (same-of v w h) ∙ e)
+
+pub zero-true : (v : List ℕ) → allZero v ≡ true → v ≡ replicate (length v) 0
+unfolding allZero
+zero-true [] e = refl
+zero-true (x ∷ xs) e = ap₂ _∷_ (eqb-true x 0 (and-left (eqb x 0) (allZero xs) e)) (zero-true xs (and-right (eqb x 0) (allZero xs) e))

@@ -1,0 +1,12 @@
+pub mod Choice
+pub mod Refusals
+pub mod RefusalLaws
+pub mod Bytes
+pub mod Equality
+pub mod EqualityLaws
+pub mod LittleEndian
+pub mod LittleEndianLaws
+pub mod Splice
+pub mod SpliceLaws
+pub mod Search
+pub mod SearchLaws

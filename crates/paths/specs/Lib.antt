@@ -1,0 +1,12 @@
+pub mod Path
+pub mod Strings
+pub mod Difference
+pub mod Collision
+pub mod NodeSource
+pub mod IsTree
+pub mod Compare
+pub mod Chain
+pub mod DifferenceLaws
+pub mod PathLaws
+pub mod NodeSourceLaws
+pub mod CompareLaws

@@ -1,0 +1,172 @@
+-- Each test that is passed leaves the rest of the judgement.
+use mathlib.Core.Path.{_≡_, refl, sym, ap, _∙_}
+use mathlib.Core.Bool.{true}
+use Prim.Native.Nat.{ℕ, _*_}
+use native.Mathlib.Omega.{arith}
+use mathlib.Core.List.{List}
+use lib.ListN.{length, drop}
+use denote.Ref.{now}
+use Rattle.octets.specs.Refusals.{Rule, firstRefusal}
+use Rattle.octets.specs.Equality.{sameBytes}
+use Rattle.node.specs.Node.{nodeHash}
+use Rattle.entries.specs.Sizes.{segmentSizeAllowed, segmentPathLevels, entryPathLevels}
+use Rattle.entries.specs.SizesLaws.{deal-size, segment-size}
+use Rattle.record.specs.Form.{Fields, fields, parsed}
+use Rattle.record.specs.Check.{dealTerms, segmentPathRoot, entryPathRoot, judgement}
+use Rattle.record.proofs.Tests.{passed, failed, clear, stray, sized, leads}
+use borrow.Author.Needs.{needs}
+use Rattle.record.proofs.judgement.judge.Statement.{statement}
+use Rattle.record.proofs.judgement.judge.Tie as tie
+
+-- the fields, their judgement, and what is left of it after k tests
+abbrev judged : tie.Start → Fields
+judged s =
+    let a = s .args in
+    fields (a .t3) (a .offset) (a .size) (a .place) (now (a .segment-path)) (now (a .entry-path))
+
+abbrev rules : tie.Start → List Rule
+rules s = judgement (dealTerms (now (s .args .commitment)) (s .args .d)) (parsed (judged s))
+
+abbrev Left : tie.Start → ℕ → Type 0
+Left s k = firstRefusal (rules s) ≡ firstRefusal (drop k (rules s))
+
+-- the function's entry, from the place after each test
+abbrev start1 : tie.Else1 → tie.Start
+start1 c = c .before .before .before .before .before
+
+abbrev start2 : tie.Else2 → tie.Start
+start2 c = start1 (c .before .before)
+
+abbrev start3 : tie.Else3 → tie.Start
+start3 c = start2 (c .before .before)
+
+abbrev start4 : tie.Else4 → tie.Start
+start4 c = start3 (c .before .before)
+
+abbrev start5 : tie.Else5 → tie.Start
+start5 c = start4 (c .before)
+
+abbrev start6 : tie.Else6 → tie.Start
+start6 c = start5 (c .before .before .before)
+
+size-allowed : (c : tie.Else1) → segmentSizeAllowed (start1 c .args .d) (start1 c .args .size) ≡ true
+size-allowed c = passed (c .before .segment-size-allowed .ensures) (c .if1 .left)
+
+lengths : (c : tie.Else4) → let a = start4 c .args in (length (now (a .segment-path)) ≡ 32 * segmentPathLevels (a .d) (a .size)) × (length (now (a .entry-path)) ≡ 32 * entryPathLevels (a .d))
+lengths c =
+    let a = start4 c .args in
+    sized (a .d) (a .size) (now (a .segment-path)) (now (a .entry-path)) (passed (c .before .paths-sized .ensures) (c .if4 .left))
+
+after-size : (c : tie.Else1) → Left (start1 c) 1
+after-size c = rw (size-allowed c)
+
+after-offset : (c : tie.Else2) → Left (start2 c) 2
+after-offset c = after-size (c .before .before) ∙ rw (passed (c .before .offset-allowed .ensures) (c .if2 .left))
+
+after-place : (c : tie.Else3) → Left (start3 c) 3
+after-place c = after-offset (c .before .before) ∙ rw (passed (c .before .place-allowed .ensures) (c .if3 .left))
+
+after-lengths : (c : tie.Else4) → Left (start4 c) 4
+after-lengths c = after-place (c .before .before) ∙ rw (passed (c .before .paths-sized .ensures) (c .if4 .left))
+
+after-clear : (c : tie.Else5) → Left (start5 c) 5
+after-clear c = after-lengths (c .before) ∙ rw (clear (start5 c .args .t3) (c .if5 .left))
+
+-- where the two paths lead
+segment-path-leads : (c : tie.After-leads-to) → let s = start5 (c .before .before) in c .leads-to .result ≡ sameBytes (segmentPathRoot (s .args .d) (judged s)) (now (s .args .commitment))
+segment-path-leads c =
+    let a = start5 (c .before .before) .args in
+    leads (segmentPathLevels (a .d) (a .size)) (now (a .segment-path)) (now (a .commitment)) (lengths (c .before .before .before) .0) refl
+    (c .before .segment-position .ensures)
+    (c .leads-to .ensures)
+
+entry-path-leads : (c : tie.After-leads-to2) → let s = start6 (c .before .before .before) in c .leads-to2 .result ≡ sameBytes (entryPathRoot (s .args .d) (judged s)) (now (s .args .commitment))
+entry-path-leads c =
+    let a = start6 (c .before .before .before) .args in
+    leads (entryPathLevels (a .d)) (now (a .entry-path)) (now (a .commitment)) (lengths (c .before .before .before .before .before .before .before) .1)
+    (c .before .node-hash .ensures ∙ ap nodeHash (c .before .before .entry-of .ensures))
+    refl
+    (c .leads-to2 .ensures)
+
+after-segment-path : (c : tie.Else6) → Left (start6 c) 6
+after-segment-path c = after-clear (c .before .before .before) ∙ rw (passed (segment-path-leads (c .before)) (c .if6 .left))
+
+segment-size-allowed-requires : tie.Need-segment-size-allowed-requires
+segment-size-allowed-requires c κs = search needs
+
+returns : tie.Need-returns
+returns c = sym (rw (failed (c .before .segment-size-allowed .ensures) (c .if1 .taken)))
+
+offset-allowed-requires : tie.Need-offset-allowed-requires
+offset-allowed-requires c κs = (start1 c .pre, size-allowed c)
+
+returns-2 : tie.Need-returns-2
+returns-2 c = sym (after-size (c .before .before) ∙ rw (failed (c .before .offset-allowed .ensures) (c .if2 .taken)))
+
+place-allowed-requires : tie.Need-place-allowed-requires
+place-allowed-requires c κs = search needs
+
+returns-3 : tie.Need-returns-3
+returns-3 c = sym (after-offset (c .before .before) ∙ rw (failed (c .before .place-allowed .ensures) (c .if3 .taken)))
+
+paths-sized-requires : tie.Need-paths-sized-requires
+paths-sized-requires c κs = (start3 c .pre, size-allowed (c .before .before .before .before))
+
+returns-4 : tie.Need-returns-4
+returns-4 c = sym (after-place (c .before .before) ∙ rw (failed (c .before .paths-sized .ensures) (c .if4 .taken)))
+
+array-read-if5 : tie.Need-array-read-if5
+array-read-if5 c = search needs
+
+returns-5 : tie.Need-returns-5
+returns-5 c = sym (after-lengths (c .before) ∙ rw (stray (start4 (c .before) .args .t3) (c .if5 .taken)))
+
+segment-position-requires : tie.Need-segment-position-requires
+segment-position-requires c κs =
+    let s = start5 c in
+    let z = segment-size (s .args .d) (s .args .size) (deal-size (s .args .d) (s .pre)) (size-allowed (c .before .before .before .before .before .before .before)) in
+    omega arith
+
+leads-to-requires : tie.Need-leads-to-requires
+leads-to-requires c κs = search needs
+
+returns-6 : tie.Need-returns-6
+returns-6 c = sym (after-clear (c .before .before .before) ∙ rw (failed (segment-path-leads (c .before)) (c .if6 .taken)))
+
+entry-of-requires : tie.Need-entry-of-requires
+entry-of-requires c κs = search needs
+
+node-hash-requires : tie.Need-node-hash-requires
+node-hash-requires c κs = search needs
+
+leads-to-requires-2 : tie.Need-leads-to-requires-2
+leads-to-requires-2 c κs = search needs
+
+returns-7 : tie.Need-returns-7
+returns-7 c = sym (after-segment-path (c .before .before .before .before) ∙ rw (failed (entry-path-leads (c .before)) (c .if7 .taken)))
+
+returns-8 : tie.Need-returns-8
+returns-8 c = sym (after-segment-path (c .before .before .before .before) ∙ rw (passed (entry-path-leads (c .before)) (c .if7 .left)))
+
+pub judge-spec : {M : Type 1} → statement M
+judge-spec =
+    tie.close
+    (tie.spec
+    segment-size-allowed-requires
+    returns
+    offset-allowed-requires
+    returns-2
+    place-allowed-requires
+    returns-3
+    paths-sized-requires
+    returns-4
+    array-read-if5
+    returns-5
+    segment-position-requires
+    leads-to-requires
+    returns-6
+    entry-of-requires
+    node-hash-requires
+    leads-to-requires-2
+    returns-7
+    returns-8)

@@ -1,0 +1,70 @@
+// The judgement over the fields of a well-formed record.
+ghost use mathlib.Core.Path.{_≡_};
+ghost use mathlib.Core.Bool.{true, _&&_};
+ghost use Prim.Native.Nat.{_*_, _/_};
+ghost use lib.Dec.{eqb};
+ghost use lib.ListN.{length};
+ghost use Rattle.octets.specs.Equality.{sameBytes};
+ghost use Rattle.octets.specs.Refusals.{firstRefusal};
+ghost use Rattle.paths.specs.Path.{pathRoot};
+ghost use Rattle.entries.specs.Sizes.{dealSizeAllowed, segmentSizeAllowed, segmentPathLevels, entryPathLevels};
+ghost use Rattle.record.specs.Form.{fields, parsed};
+ghost use Rattle.record.specs.Check.{dealTerms, judgement};
+
+// Whether the paths' lengths are those that the record table asks: 32 times log2 (D / S), and 32 times log2 (D / 64).
+fn paths_sized(d: u64, size: u64, segment_path_length: usize, entry_path_length: usize) -> bool
+    requires { ⌜ (dealSizeAllowed d ≡ true) × (segmentSizeAllowed d size ≡ true) ⌝ }
+    ensures { λ r. ⌜ r ≡ (eqb «segment_path_length» (32 * segmentPathLevels d size) && eqb «entry_path_length» (32 * entryPathLevels d)) ⌝ }
+{
+    let level = entries::deal_level(d);
+    segment_path_length == 32 * (level - entries::segment_level(size))
+        && entry_path_length == 32 * (level - 1)
+}
+
+// Whether a path leads from a node at a position to a commitment.
+fn leads_to(commitment: &[u8], node: [u8; 32], position: u64, path: &[u8]) -> bool
+    ensures { λ r. ⌜ r ≡ sameBytes (pathRoot (length (now (path .entry)) / 32) node position (now (path .entry))) (now (commitment .entry)) ⌝ }
+{
+    let root = paths::path_root(node, position, path);
+    octets::same(&root, commitment)
+}
+
+// The code of the fields of a well-formed record, 4 to 10 as numbered.
+pub(crate) fn judge(
+    commitment: &[u8],
+    d: u64,
+    segment: [u8; 32],
+    offset: u64,
+    size: u64,
+    place: u64,
+    segment_path: &[u8],
+    entry_path: &[u8],
+) -> u8
+    requires { ⌜ dealSizeAllowed d ≡ true ⌝ }
+    ensures { λ r. ⌜ r ≡ firstRefusal (judgement (dealTerms (now (commitment .entry)) d) (parsed (fields segment offset size place (now («segment_path» .entry)) (now («entry_path» .entry))))) ⌝ }
+{
+    if !entries::segment_size_allowed(d, size) {
+        return 4;
+    }
+    if !entries::offset_allowed(d, offset, size) {
+        return 5;
+    }
+    if !entries::place_allowed(d, place) {
+        return 6;
+    }
+    if !paths_sized(d, size, segment_path.len(), entry_path.len()) {
+        return 7;
+    }
+    if segment[31] >= 64 {
+        return 8;
+    }
+    let position = entries::segment_position(offset, size);
+    if !leads_to(commitment, segment, position, segment_path) {
+        return 9;
+    }
+    let entry = entries::entry_of(segment, offset, size);
+    if !leads_to(commitment, node::node_hash(entry), place / 64, entry_path) {
+        return 10;
+    }
+    0
+}

@@ -1,0 +1,70 @@
+-- Settling (document 01, "Booking, finding, building, settling": settle).
+use mathlib.Core.Bool.{Bool, true, false}
+use Prim.Native.Nat.{ℕ}
+use mathlib.Core.List.{List, [], _∷_, _++_}
+use lib.ListN.{length, replicate}
+use lib.Dec.{eqb}
+use Rattle.octets.specs.Refusals.{rule, firstRefusal, unlessRefused}
+use Rattle.node.specs.Node.{nodeHash}
+use Rattle.merkle.specs.StrayBits.{noStrayBits}
+use Rattle.paths.specs.Strings.{pathStrings}
+use Rattle.paths.specs.Difference.{Difference, same, differ, firstDifference}
+use Rattle.paths.specs.NodeSource.{nodePairs}
+use Rattle.entries.specs.Sizes.{lentSizeAllowed, segmentLevel, segmentPathLevels, entryPathLevels, segmentPosition, entryPosition}
+use Rattle.index.specs.Slots.{entryAt}
+use Rattle.record.specs.Form.{Fields, Parsed, parsed, broken, parse}
+use Rattle.record.specs.Check.{DealTerms, entryFor, checkOf}
+use Rattle.build.specs.Build.{LentDeal, dealSize, termsOf}
+use Rattle.settle.specs.declared.Settled.{Settled}
+
+abbrev pub notSettled : ℕ → Settled
+notSettled code = record { code = code; left = replicate 64 0; right = replicate 64 0 }
+
+-- 0 exactly if no string differs, else 17 and the two strings at the first difference
+abbrev pub settledBy : Difference → Settled
+settledBy same = notSettled 0
+settledBy (differ left right) = record { code = 17; left = left; right = right }
+
+-- a record's strings: those of the entry path from the top down, then the entry itself, then those of the segment path from the top
+unfoldable pub entryStrings : ℕ → Fields → List (List ℕ)
+entryStrings d x = pathStrings (entryPathLevels d) (nodeHash (entryFor x)) (entryPosition (x .place)) (x .entryPath) (entryFor x ∷ [])
+
+unfoldable pub segmentStrings : ℕ → Fields → List (List ℕ)
+segmentStrings d x = pathStrings (segmentPathLevels d (x .size)) (x .commitment) (segmentPosition (x .offset) (x .size)) (x .segmentPath) []
+
+abbrev pub stringsOf : ℕ → Fields → List (List ℕ)
+stringsOf d x = entryStrings d x ++ segmentStrings d x
+
+-- the strings and the entry place of a record's bytes
+abbrev pub stringsIn : ℕ → Parsed → List (List ℕ)
+stringsIn d (parsed x) = stringsOf d x
+stringsIn d broken = []
+
+abbrev pub placeIn : Parsed → ℕ
+placeIn (parsed x) = x .place
+placeIn broken = 0
+
+-- two records: the first one's refusal, the second one's, 18, then 0 or 17
+unfoldable pub settleRecords : DealTerms → List ℕ → List ℕ → Settled
+settleRecords terms r s =
+    unlessRefused (checkOf terms r) notSettled
+    (unlessRefused (checkOf terms s) notSettled
+    (unlessRefused (firstRefusal (rule (eqb (placeIn (parse r)) (placeIn (parse s))) 18 ∷ [])) notSettled
+    (settledBy (firstDifference (stringsIn (terms .size) (parse r)) (stringsIn (terms .size) (parse s))))))
+
+-- a deal's strings along the two paths of a record: its own pairs of nodes, and at the entry the 64 bytes at that place
+abbrev pub dealStrings : LentDeal → Fields → List (List ℕ)
+dealStrings deal x =
+    nodePairs (deal .nodes) (entryPathLevels (dealSize deal)) 1 (entryPosition (x .place)) (entryAt (deal .bytes) (x .place) ∷ [])
+    ++ nodePairs (deal .nodes) (segmentPathLevels (dealSize deal) (x .size)) (segmentLevel (x .size)) (segmentPosition (x .offset) (x .size)) []
+
+abbrev pub dealStringsIn : LentDeal → Parsed → List (List ℕ)
+dealStringsIn deal (parsed x) = dealStrings deal x
+dealStringsIn deal broken = []
+
+-- a record with a deal: 2, 11, the check against the deal's own commitment and length, then 0 or 17
+unfoldable pub settleWithDeal : LentDeal → List ℕ → Settled
+settleWithDeal deal r =
+    unlessRefused (firstRefusal (rule (lentSizeAllowed (dealSize deal)) 2 ∷ rule (noStrayBits (deal .bytes)) 11 ∷ [])) notSettled
+    (unlessRefused (checkOf (termsOf deal) r) notSettled
+    (settledBy (firstDifference (stringsIn (dealSize deal) (parse r)) (dealStringsIn deal (parse r)))))

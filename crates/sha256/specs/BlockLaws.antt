@@ -1,0 +1,66 @@
+-- Laws of the schedule and of the rounds.
+use mathlib.Core.Path.{_≡_, refl, sym, ap, _∙_}
+use mathlib.Core.List.{List, [], _∷_, _++_}
+use Prim.Native.Nat.{ℕ, zero, suc, _+_, _-_, _*_, _/_, _%_, _≤_, _<_}
+use native.Mathlib.Omega.{arith}
+use lib.ListN.{length, take, set, getD}
+use lib.Seq.{take-suc-set, take-suc, getD-take}
+use Rattle.sha256.specs.Fips.{_⊞_, Σ1, ch, nextWord, scheduleTo, rounds, round, blockAt, compress, hashValue}
+
+next-take : (w : List ℕ) (i : ℕ) → 16 ≤ i → nextWord (take i w) i ≡ nextWord w i
+next-take w i h =
+    rw (
+      getD-take i w (i - 2) 0 (omega arith),
+      getD-take i w (i - 7) 0 (omega arith),
+      getD-take i w (i - 15) 0 (omega arith),
+      getD-take i w (i - 16) 0 (omega arith),
+    )
+
+schedule-suc : (m : List ℕ) (n : ℕ) → scheduleTo m (suc n) ≡ scheduleTo m n ++ (nextWord (scheduleTo m n) (16 + n) ∷ [])
+unfolding scheduleTo
+schedule-suc m n = refl
+
+-- one more word of the schedule, stored at its place
+pub schedule-more : (m w : List ℕ) (i j v : ℕ) → 16 ≤ i → i < length w → take i w ≡ scheduleTo m (i - 16) → v ≡ nextWord w i → j ≡ suc i
+    → take j (set w i v) ≡ scheduleTo m (j - 16)
+schedule-more m w i j v h hw e ev ej =
+    let a : suc i - 16 ≡ suc (i - 16) = omega arith in
+    let b : 16 + (i - 16) ≡ i = omega arith in
+    rw (ej, a, schedule-suc, b, ← e, next-take w i h, ← ev) (take-suc-set w i v hw)
+
+-- a list each of whose words follows from those before it is the schedule
+pub schedule-of : (m w : List ℕ) (n : ℕ) → 16 + n ≤ length w → take 16 w ≡ m → ((i : ℕ) → i < n → getD w (16 + i) 0 ≡ nextWord w (16 + i)) → scheduleTo m n ≡ take (16 + n) w
+unfolding scheduleTo
+schedule-of m w zero h e r = sym e
+schedule-of m w (suc n) h e r =
+    let a : 16 + suc n ≡ suc (16 + n) = omega arith in
+    let q : getD w (16 + n) 0 ≡ nextWord w (16 + n) = r n (omega arith) in
+    rw (schedule-of m w n (omega arith) e (λ i l. r i (omega arith)), next-take w (16 + n) (omega arith), a, take-suc w (16 + n) 0 (omega arith), q)
+
+-- one more round
+pub rounds-more : (k w h s t : List ℕ) (i j : ℕ) → s ≡ rounds k w h i → t ≡ round s (getD k i 0) (getD w i 0) → j ≡ suc i → t ≡ rounds k w h j
+unfolding rounds
+rounds-more k w h s t i j e f g = rw (g, f, e)
+
+-- constants and words that give the same rounds one by one give the same rounds
+pub rounds-same : (k w k' w' h : List ℕ) (n : ℕ) → ((i : ℕ) → i < n → (s : List ℕ) → round s (getD k i 0) (getD w i 0) ≡ round s (getD k' i 0) (getD w' i 0)) → rounds k w h n ≡ rounds k' w' h n
+unfolding rounds
+rounds-same k w k' w' h zero f = refl
+rounds-same k w k' w' h (suc n) f =
+    rw (rounds-same k w k' w' h n (λ i l. f i (omega arith))) (f n (omega arith) (rounds k' w' h n))
+
+-- a constant and a word may be added before the round
+add-first : (x k w : ℕ) → x ⊞ (k ⊞ w) ⊞ 0 ≡ x ⊞ k ⊞ w
+add-first x k w = omega arith
+
+pub round-sum : (s : List ℕ) (k w : ℕ) → round s (k ⊞ w) 0 ≡ round s k w
+unfolding round
+round-sum s k w = rw (add-first (getD s 7 0 ⊞ Σ1 (getD s 4 0) ⊞ ch (getD s 4 0) (getD s 5 0) (getD s 6 0)) k w)
+
+-- one more block of a padded message
+pub hash-more : (bytes h m g : List ℕ) (at : ℕ) → at % 64 ≡ 0 → h ≡ hashValue bytes (at / 64) → m ≡ blockAt bytes at → g ≡ compress h m → g ≡ hashValue bytes ((at + 64) / 64)
+unfolding hashValue
+hash-more bytes h m g at z eh em eg =
+    let e : (at + 64) / 64 ≡ suc (at / 64) = omega arith in
+    let a : 64 * (at / 64) ≡ at = omega arith in
+    rw (e, a, eg, eh, em)

@@ -1,0 +1,318 @@
+"""An independent model of the rules (document 01, FRC-0058, FIPS 180-4), written from the papers alone.
+
+SHA-256 is Python's hashlib. Nothing here is shared with the library under test. The node hash and the checksum can be
+replaced by weak ones (see `weak`), so that code 17 can be seen to occur.
+"""
+import hashlib
+
+ZERO32, ZERO64 = bytes(32), bytes(64)
+
+
+class Hashes:
+    """The two hash functions that everything else rests on."""
+
+    def node(self, pair):
+        d = bytearray(hashlib.sha256(pair).digest())
+        d[31] &= 0x3F
+        return bytes(d)
+
+    def checksum(self, body):
+        d = bytearray(hashlib.sha256(body + bytes(16)).digest()[:16])
+        d[15] &= 0x3F
+        return bytes(d)
+
+
+class Weak(Hashes):
+    """A node hash of a few bits: collisions are easy to find."""
+
+    def __init__(self, bits):
+        self.bits = bits
+
+    def node(self, pair):
+        v = int.from_bytes(hashlib.sha256(pair).digest()[:4], "little") % (1 << self.bits)
+        return bytes([v]) + bytes(31)
+
+
+def power(n):
+    return n > 0 and bin(n).count("1") == 1
+
+
+def le(v, n=8):
+    return v.to_bytes(n, "little")
+
+
+def sha256(message):
+    if len(message) > 1 << 24:
+        return 2, ZERO32
+    return 0, hashlib.sha256(message).digest()
+
+
+def stray(data):
+    return any(data[i + 31] >= 64 for i in range(0, len(data) - 31, 32))
+
+
+def index_numbers(d):
+    if not (power(d) and 512 <= d <= 1 << 36):
+        return 2, 0, 0
+    n = max(4, d // 131072)
+    return 0, n, d - 64 * n
+
+
+class Model:
+    def __init__(self, hashes=None):
+        self.h = hashes or Hashes()
+
+    # ---- trees
+    def tree(self, run):
+        """All levels, the nodes of level 0 first."""
+        level = [run[i : i + 32] for i in range(0, len(run), 32)]
+        levels = [level]
+        while len(level) > 1:
+            level = [self.h.node(level[i] + level[i + 1]) for i in range(0, len(level), 2)]
+            levels.append(level)
+        return levels
+
+    def commitment(self, run):
+        if not (power(len(run)) and 32 <= len(run) <= 1 << 24):
+            return 2, ZERO32
+        if stray(run):
+            return 11, ZERO32
+        return 0, self.tree(run)[-1][0]
+
+    def path_root(self, node, p, path):
+        for s in path:
+            node = self.h.node(node + s if p % 2 == 0 else s + node)
+            p //= 2
+        return node
+
+    def path_strings(self, node, p, path):
+        """The strings hashed at each level, from the top down."""
+        out = []
+        for s in path:
+            pair = node + s if p % 2 == 0 else s + node
+            out.append(pair)
+            node = self.h.node(pair)
+            p //= 2
+        return out[::-1]
+
+    # ---- entries
+    def entry(self, commitment, offset, size):
+        body = commitment + le(offset) + le(size)
+        return body + self.h.checksum(body)
+
+    def make_entry(self, commitment, offset, size):
+        if len(commitment) != 32:
+            return 1, ZERO64
+        if commitment[31] >= 64:
+            return 8, ZERO64
+        return 0, self.entry(commitment, offset, size)
+
+    def read_entry(self, e):
+        if len(e) != 64:
+            return 2, False, ZERO32, 0, 0
+        if self.h.checksum(e[:48]) != e[48:]:
+            return 0, False, ZERO32, 0, 0
+        return 0, True, e[:32], int.from_bytes(e[32:40], "little"), int.from_bytes(e[40:48], "little")
+
+    @staticmethod
+    def size_allowed(d, s):
+        return power(s) and 128 <= s <= d // 2
+
+    @staticmethod
+    def offset_allowed(d, o, s):
+        return o % s == 0 and o + s <= index_numbers(d)[2]
+
+    def standing(self, deal, i):
+        """What stands in slot i: (commitment, offset, size) or None."""
+        d = len(deal)
+        _, n, start = index_numbers(d)
+        p = start + 64 * i
+        _, valid, c, o, s = self.read_entry(deal[p : p + 64])
+        if valid and self.size_allowed(d, s) and self.offset_allowed(d, o, s):
+            return c, o, s
+        return None
+
+    def kept(self, deal, i):
+        row = self.standing(deal, i)
+        if row is None:
+            return None
+        c, o, s = row
+        return row if self.tree(deal[o : o + s])[-1][0] == c else None
+
+    @staticmethod
+    def lent_allowed(d):
+        return power(d) and 512 <= d <= 1 << 24
+
+    # ---- find
+    def find(self, deal, commitment):
+        """Code, offset, size, place; the view is deal[offset:offset + size]."""
+        if len(commitment) != 32:
+            return 1, 0, 0, 0
+        if not self.lent_allowed(len(deal)):
+            return 2, 0, 0, 0
+        if stray(deal):
+            return 11, 0, 0, 0
+        _, n, start = index_numbers(len(deal))
+        for i in range(n):
+            row = self.standing(deal, i)
+            if row and row[0] == commitment and self.kept(deal, i):
+                return 0, row[1], row[2], start + 64 * i
+        return 16, 0, 0, 0
+
+    # ---- book
+    def book(self, deal, segment):
+        """Code, offset, place, the deal afterwards."""
+        d, s = len(deal), len(segment)
+        if not self.lent_allowed(d):
+            return 2, 0, 0, deal
+        if not self.size_allowed(d, s):
+            return 4, 0, 0, deal
+        if stray(deal) or stray(segment):
+            return 11, 0, 0, deal
+        _, n, start = index_numbers(d)
+        rows = [self.standing(deal, i) for i in range(n)]
+        for i, row in enumerate(rows):
+            if row and row[2] == s and deal[row[1] : row[1] + s] == segment and self.kept(deal, i):
+                return 15, row[1], start + 64 * i, deal
+        slots = [i for i, row in enumerate(rows) if row is None]
+        if not slots:
+            return 13, 0, 0, deal
+        used = [(row[1], row[1] + row[2]) for row in rows if row]
+        for o in range(0, start - s + 1, s):
+            if all(b <= o or o + s <= a for a, b in used):
+                break
+        else:
+            return 14, 0, 0, deal
+        out = bytearray(deal)
+        out[o : o + s] = segment
+        p = start + 64 * slots[0]
+        out[p : p + 64] = self.entry(self.tree(segment)[-1][0], o, s)
+        return 0, o, p, bytes(out)
+
+    # ---- records
+    @staticmethod
+    def parse(record):
+        """(commitment, offset, size, place, segment path, entry path) or None."""
+        at, contents = 0, []
+        for tag, length in ((1, 32), (2, 8), (3, 8), (4, 8), (5, None), (6, None)):
+            head = record[at : at + 3]
+            if len(head) < 3 or head[0] != tag:
+                return None
+            n = head[1] + 256 * head[2]
+            content = record[at + 3 : at + 3 + n]
+            if len(content) != n or (n != length if length is not None else n % 32 != 0):
+                return None
+            contents.append(content)
+            at += 3 + n
+        if at != len(record):
+            return None
+        c, o, s, p, u, v = contents
+        nodes = lambda x: [x[i : i + 32] for i in range(0, len(x), 32)]
+        number = lambda x: int.from_bytes(x, "little")
+        return c, number(o), number(s), number(p), nodes(u), nodes(v)
+
+    @staticmethod
+    def encode(c, o, s, p, u, v):
+        out = b""
+        for tag, content in ((1, c), (2, le(o)), (3, le(s)), (4, le(p)), (5, b"".join(u)), (6, b"".join(v))):
+            out += bytes([tag]) + le(len(content), 2) + content
+        return out
+
+    def check(self, commitment, d, record):
+        if len(commitment) != 32:
+            return 1
+        code, n, start = index_numbers(d)
+        if code:
+            return 2
+        fields = self.parse(record)
+        if fields is None:
+            return 3
+        c, o, s, p, u, v = fields
+        if not self.size_allowed(d, s):
+            return 4
+        if not self.offset_allowed(d, o, s):
+            return 5
+        if p % 64 or not start <= p < d:
+            return 6
+        if len(u) != (d // s).bit_length() - 1 or len(v) != (d // 64).bit_length() - 1:
+            return 7
+        if c[31] >= 64:
+            return 8
+        if self.path_root(c, o // s, u) != commitment:
+            return 9
+        if self.path_root(self.h.node(self.entry(c, o, s)), p // 64, v) != commitment:
+            return 10
+        return 0
+
+    def build(self, deal, place):
+        """Code and record."""
+        d = len(deal)
+        if not self.lent_allowed(d):
+            return 2, b""
+        if stray(deal):
+            return 11, b""
+        _, n, start = index_numbers(d)
+        if place % 64 or not start <= place < d:
+            return 6, b""
+        row = self.kept(deal, (place - start) // 64)
+        if row is None:
+            return 16, b""
+        c, o, s = row
+        tree = self.tree(deal)
+        return 0, self.encode(c, o, s, place, self.path(tree, s, o // s), self.path(tree, 64, place // 64))
+
+    @staticmethod
+    def path(tree, size, q):
+        level = (size // 32).bit_length() - 1
+        out = []
+        while level < len(tree) - 1:
+            out.append(tree[level][q ^ 1])
+            q //= 2
+            level += 1
+        return out
+
+    def strings(self, record):
+        c, o, s, p, u, v = self.parse(record)
+        e = self.entry(c, o, s)
+        return self.path_strings(self.h.node(e), p // 64, v) + [e] + self.path_strings(c, o // s, u)
+
+    @staticmethod
+    def settled(vs, ws):
+        for a, b in zip(vs, ws):
+            if a != b:
+                return 17, a, b
+        return 0, ZERO64, ZERO64
+
+    def settle_records(self, commitment, d, r, s):
+        for x in (r, s):
+            code = self.check(commitment, d, x)
+            if code:
+                return code, ZERO64, ZERO64
+        if self.parse(r)[3] != self.parse(s)[3]:
+            return 18, ZERO64, ZERO64
+        return self.settled(self.strings(r), self.strings(s))
+
+    def settle_deal(self, deal, record):
+        d = len(deal)
+        if not self.lent_allowed(d):
+            return 2, ZERO64, ZERO64
+        if stray(deal):
+            return 11, ZERO64, ZERO64
+        tree = self.tree(deal)
+        code = self.check(tree[-1][0], d, record)
+        if code:
+            return code, ZERO64, ZERO64
+        c, o, s, p, u, v = self.parse(record)
+        pairs = lambda size, q: self.pairs(tree, size, q)
+        return self.settled(self.strings(record), pairs(64, p // 64) + [deal[p : p + 64]] + pairs(s, o // s))
+
+    @staticmethod
+    def pairs(tree, size, q):
+        """The deal's pairs of nodes along a path, from the top down."""
+        level = (size // 32).bit_length() - 1
+        out = []
+        while level < len(tree) - 1:
+            out.append(tree[level][q & ~1] + tree[level][q | 1])
+            q //= 2
+            level += 1
+        return out[::-1]

@@ -1,0 +1,85 @@
+"""Runs the independent model on the papers' own worked values. Prints one line; exits non-zero at the first difference."""
+import hashlib
+import random
+import sys
+
+from model import Hashes, Model, Weak, index_numbers, le, sha256, stray, ZERO32
+
+
+def expect(what, got, want):
+    if got != want:
+        sys.exit(f"model_test: {what}: got {got!r}, expected {want!r}")
+
+
+def node_of(rng):
+    return bytes(rng.randrange(256) for _ in range(31)) + bytes([rng.randrange(64)])
+
+
+def segment(rng, size):
+    return b"".join(node_of(rng) for _ in range(size // 32))
+
+
+def published_values():
+    expect("SHA-256 of abc", sha256(b"abc")[1].hex(), "ba7816bf8f01cfea414140de5dae2223b00361a396177a9cb410ff61f20015ad")
+    expect("SHA-256 of nothing", sha256(b"")[1].hex(), "e3b0c44298fc1c149afbf4c8996fb92427ae41e4649b934ca495991b7852b855")
+    for d, n, start in ((512, 4, 256), (524288, 4, 524032), (1048576, 8, 1048064), (16777216, 128, 16769024),
+                        (34359738368, 262144, 34342961152), (68719476736, 524288, 68685922304)):
+        expect(f"index of {d}", index_numbers(d), (0, n, start))
+    for d in (0, 256, 513, 1 << 37):
+        expect(f"index of {d}", index_numbers(d), (2, 0, 0))
+
+
+def worked_runs():
+    m, rng = Model(), random.Random(1)
+    a, b, c = (segment(rng, 128) for _ in range(3))
+    code, o, p, deal = m.book(bytes(512), a)
+    expect("A", (code, o, p), (0, 0, 256))
+    expect("A again", m.book(deal, a)[:3], (15, 0, 256))
+    code, o, p, deal = m.book(deal, b)
+    expect("B", (code, o, p), (0, 128, 320))
+    expect("a third", m.book(deal, c), (14, 0, 0, deal))
+    deal = bytes(1024)
+    for i in range(4):
+        code, o, p, deal = m.book(deal, segment(rng, 128))
+        expect(f"segment {i}", (code, o, p), (0, 128 * i, 768 + 64 * i))
+    expect("a fifth", m.book(deal, segment(rng, 128))[:3], (13, 0, 0))
+    expect("the all-zero segment", m.book(bytes(512), bytes(128))[:3], (0, 0, 256))
+    expect("an all-zero slot", m.read_entry(bytes(64)), (0, False, ZERO32, 0, 0))
+
+
+def records():
+    m, rng = Model(), random.Random(2)
+    for d, s, length in ((512, 256, 202), (512, 128, 234), (1 << 20, 1024, 842)):
+        code, o, p, deal = m.book(bytes(d), segment(rng, s))
+        code, r = m.build(deal, p)
+        expect(f"a record for {d}, {s}", (code, len(r)), (0, length))
+        root = m.tree(deal)[-1][0]
+        expect("its check", m.check(root, d, r), 0)
+        expect("its settling", (m.settle_records(root, d, r, r)[0], m.settle_deal(deal, r)[0]), (0, 0))
+
+
+def collisions():
+    """With a node hash of four bits, forged records are accepted, and settling shows a collision, never anything else."""
+    shown = 0
+    for seed in range(3000):
+        rng = random.Random(seed)
+        m = Model(Weak(4))
+        _, o, p, deal = m.book(bytes(512), segment(rng, 128))
+        root = m.tree(deal)[-1][0]
+        r = bytearray(m.build(deal, p)[1])
+        at = rng.choice((74, 141)) + rng.randrange(len(r) - 141)
+        r[min(at, len(r) - 1)] ^= 1 << rng.randrange(6)
+        if m.check(root, 512, bytes(r)):
+            continue
+        for code, v, w in (m.settle_deal(deal, bytes(r)), m.settle_records(root, 512, bytes(r), m.build(deal, p)[1])):
+            if code == 17:
+                shown += 1
+                expect("a collision", (v != w, m.h.node(v) == m.h.node(w), len(v), len(w)), (True, True, 64, 64))
+    expect("collisions occur", shown > 50, True)
+    return shown
+
+
+published_values()
+worked_runs()
+records()
+print(f"model_test: the papers' values hold in the model; with a weak node hash {collisions()} collisions were shown")
