@@ -16,19 +16,19 @@ use Rattle.record.specs.Check.{dealTerms, judgement, checkOf}
 use Rattle.record.specs.declared.Places.the-variants.{Fields as FieldPlaces, Malformed}
 
 module _ (commitment : List ℕ) (d : ℕ) (r : List ℕ) where
-  pub other-length : (length commitment ≡ 32 → ⊥) → 1 ≡ checkOf (dealTerms commitment d) r
+  pub wrong-commitment : (length commitment ≡ 32 → ⊥) → 1 ≡ checkOf (dealTerms commitment d) r
   unfolding checkOf
-  other-length h = rw (ne-eqb (length commitment) 32 h)
+  wrong-commitment h = rw (ne-eqb (length commitment) 32 h)
 
   module _ (l : length commitment ≡ 32) where
-    pub other-size : dealSizeAllowed d ≡ false → 2 ≡ checkOf (dealTerms commitment d) r
+    pub wrong-deal-size : dealSizeAllowed d ≡ false → 2 ≡ checkOf (dealTerms commitment d) r
     unfolding checkOf
-    other-size e = rw (eq-eqb (length commitment) 32 l, e)
+    wrong-deal-size e = rw (eq-eqb (length commitment) 32 l, e)
 
     module _ (s : dealSizeAllowed d ≡ true) where
-      pub not-formed : placesOf r ≡ Malformed → 3 ≡ checkOf (dealTerms commitment d) r
+      pub malformed : placesOf r ≡ Malformed → 3 ≡ checkOf (dealTerms commitment d) r
       unfolding checkOf
-      not-formed e =
+      malformed e =
           let p : parse r ≡ broken = parse-places r ∙ ap (fieldsAt r) e in
           rw (eq-eqb (length commitment) 32 l, s, p)
 

@@ -7,7 +7,7 @@ use mathlib.Core.List.{List}
 use lib.ListN.{length, getD}
 use borrow.Author.Tests.{eqb-true, eq-eqb, ne-eqb, le-leb, lt-leb}
 use Rattle.record.specs.Form.{FieldRule, fieldRule, exactly, wholeNodes}
-use Rattle.record.specs.FieldAt.{lengthAt, fieldAt, asked, fieldFor, numberAt, pathPlaces, placesOf}
+use Rattle.record.specs.FieldAt.{lengthAt, fieldAt, fieldFor, numberAt, pathPlaces, placesOf}
 use Rattle.record.specs.FieldAtLaws.{is-field}
 use Rattle.record.specs.declared.Field.{Field}
 use Rattle.record.specs.declared.Field.the-variants.{Content, Refused}
@@ -53,10 +53,10 @@ module _ (f : FieldRule) (r : List ℕ) (at : ℕ) where
   asked-for {tag} e t a = rw (e, eq-eqb tag (f .tag) t, a)
 
 -- a fixed length fits into the record
-pub fixed-fits : (r : List ℕ) (at asked length' : ℕ) {tag start n next : ℕ} → fieldFor (fieldRule asked (exactly length')) r at ≡ Content tag start n next → start + length' ≤ length r
-fixed-fits r at asked length' {tag} {start} {n} {next} e =
-    let f = is-field (fieldRule asked (exactly length')) r at tag start n next e in
-    let l : n ≡ length' = eqb-true n length' (f .length-allowed) in
+pub fixed-fits : (r : List ℕ) (at number fixed : ℕ) {tag start n next : ℕ} → fieldFor (fieldRule number (exactly fixed)) r at ≡ Content tag start n next → start + fixed ≤ length r
+fixed-fits r at number fixed {tag} {start} {n} {next} e =
+    let f = is-field (fieldRule number (exactly fixed)) r at tag start n next e in
+    let l : n ≡ fixed = eqb-true n fixed (f .length-allowed) in
     let x : next ≡ start + n = f .next-is in
     let w : next ≤ length r = f .within in
     omega arith

@@ -72,6 +72,7 @@ pub record Fields : Type 0 where
   pub segmentPath : List ℕ
   pub entryPath : List ℕ
 
+-- fields, named in the order of the table
 abbrev pub fields : List ℕ → ℕ → ℕ → ℕ → List ℕ → List ℕ → Fields
 fields commitment offset size place segmentPath entryPath =
     record { commitment = commitment; offset = offset; size = size; place = place; segmentPath = segmentPath; entryPath = entryPath }

@@ -81,7 +81,7 @@ fn path_field(record: &[u8], place: usize, tag: u8) -> Field
     field
 }
 
-// Where a record has its paths, the last of its fields, from a place on; the numbers are those of the fields before.
+// The places of the two paths, the last fields of a record, which start at a place; the numbers stand before them.
 fn path_places(record: &[u8], at: usize, offset: u64, size: u64, place: u64) -> Places
     ensures { λ r. ⌜ r ≡ pathPlaces (now («record» .entry)) at offset size place ⌝ }
 {
@@ -117,7 +117,7 @@ fn path_places(record: &[u8], at: usize, offset: u64, size: u64, place: u64) -> 
     }
 }
 
-// The numbers of a record, and where it has its paths.
+// The numbers of a record and the places of its paths, where its fields stand in order, each once, with nothing after.
 pub fn places_of(record: &[u8]) -> Places
     ensures { λ r. ⌜ r ≡ placesOf (now («record» .entry)) ⌝ }
 {

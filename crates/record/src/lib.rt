@@ -1,6 +1,6 @@
 // Inclusion records: their fields, and the check.
-mod form;
-mod judgement;
+mod form; // form.rt: the fields of a record, from its bytes alone
+mod judgement; // judgement.rt: the judgement over the fields, codes 4 to 10
 
 pub use form::places_of;
 pub use form::read_field;
@@ -32,7 +32,7 @@ pub enum Places {
     Malformed,
 }
 
-// The code of the check of a record against a deal's commitment and its size.
+// The code of the check of a record against a deal's commitment and size: 1 to 10 as numbered, 0 for a record that is accepted.
 pub fn check(commitment: &[u8], size: u64, record: &[u8]) -> u8
     ensures { λ r. ⌜ r ≡ checkOf (dealTerms (now (commitment .entry)) size) (now («record» .entry)) ⌝ }
 {
@@ -54,12 +54,13 @@ pub fn check(commitment: &[u8], size: u64, record: &[u8]) -> u8
     else {
         return 3;
     };
+    let segment = octets::node_at(record, 3);
     let segment_path_end = segment_path + segment_path_length;
     let entry_path_end = entry_path + entry_path_length;
     judgement::judge(
         commitment,
         size,
-        octets::node_at(record, 3),
+        segment,
         offset,
         segment_size,
         place,

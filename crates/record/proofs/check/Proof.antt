@@ -6,7 +6,7 @@ use Prim.Native.Nat.{ℕ}
 use denote.Ref.{now}
 use Rattle.record.specs.FieldAtLaws.{ArePlaces, places-are}
 use Rattle.record.proofs.Tests.{passed, failed}
-use Rattle.record.proofs.CheckCases.{other-length, other-size, not-formed, well-formed}
+use Rattle.record.proofs.CheckCases.{wrong-commitment, wrong-deal-size, malformed, well-formed}
 use borrow.Author.Needs.{needs}
 use Rattle.record.proofs.check.Statement.{statement}
 use Rattle.record.proofs.check.Tie as tie
@@ -19,7 +19,7 @@ within : (c : tie.After-offset) → let x = c .offset .given .0 .1 .1 .1 in AreP
 within c = places-are (lent c) (sym (c .before .before .places-of .ensures) ∙ c .offset .given .1)
 
 returns : tie.Need-returns
-returns c = let a = c .before .before .before .args in other-length (now (a .commitment)) (a .size) (now (a .record)) (c .if1 .taken)
+returns c = let a = c .before .before .before .args in wrong-commitment (now (a .commitment)) (a .size) (now (a .record)) (c .if1 .taken)
 
 deal-size-allowed-requires : tie.Need-deal-size-allowed-requires
 deal-size-allowed-requires c κs = search needs
@@ -27,7 +27,7 @@ deal-size-allowed-requires c κs = search needs
 returns-2 : tie.Need-returns-2
 returns-2 c =
     let a = c .before .before .before .before .before .args in
-    other-size (now (a .commitment)) (a .size) (now (a .record)) (c .before .before .if1 .left) (failed (c .before .deal-size-allowed .ensures) (c .if2 .taken))
+    wrong-deal-size (now (a .commitment)) (a .size) (now (a .record)) (c .before .before .if1 .left) (failed (c .before .deal-size-allowed .ensures) (c .if2 .taken))
 
 places-of-requires : tie.Need-places-of-requires
 places-of-requires c κs = search needs
@@ -42,17 +42,17 @@ returns-3 : tie.Need-returns-3
 returns-3 c =
     let t = c .before .before .before in
     let a = t .before .before .before .before .before .args in
-    not-formed (now (a .commitment)) (a .size) (now (a .record)) (t .before .before .if1 .left) (passed (t .before .deal-size-allowed .ensures) (t .if2 .left))
+    malformed (now (a .commitment)) (a .size) (now (a .record)) (t .before .before .if1 .left) (passed (t .before .deal-size-allowed .ensures) (t .if2 .left))
     (sym (c .before .before .places-of .ensures) ∙ c .enum-told .given .1)
-
-add-segment-path-end : tie.Need-add-segment-path-end
-add-segment-path-end c = let w = within (c .before) in omega arith
-
-add-entry-path-end : tie.Need-add-entry-path-end
-add-entry-path-end c = let w = within (c .before) in omega arith
 
 node-at-requires : tie.Need-node-at-requires
 node-at-requires c κs = within (c .before) .commitment-within
+
+add-segment-path-end : tie.Need-add-segment-path-end
+add-segment-path-end c = let w = within (c .before .before) in omega arith
+
+add-entry-path-end : tie.Need-add-entry-path-end
+add-entry-path-end c = let w = within (c .before .before) in omega arith
 
 sub-judge : tie.Need-sub-judge
 sub-judge c = search needs
@@ -98,9 +98,9 @@ check-spec =
     enum-known-offset
     enum-told
     returns-3
+    node-at-requires
     add-segment-path-end
     add-entry-path-end
-    node-at-requires
     sub-judge
     part-judge-start
     part-judge-end

@@ -1,0 +1,101 @@
+/*
+ * Vizhuthamen: verifiable data aggregation (FRC-0058), proved.
+ *
+ * Every function answers one of the codes below, for any bytes and numbers. Lent memory is a pointer and a length; a pointer
+ * may be dangling only where its length is 0, and is never NULL. Memory that is written must not overlap any other argument.
+ *
+ * An output that has one fixed length is refused with 12, before all else, where it has another. Outputs are written with
+ * code 0 (also with 15 in vz_book, and with 17 in the two settlings) and left as they were with every other code.
+ */
+#ifndef VIZHUTHAMEN_H
+#define VIZHUTHAMEN_H
+
+#include <stddef.h>
+#include <stdint.h>
+
+#ifdef __cplusplus
+extern "C" {
+#endif
+
+enum {
+  VZ_OK = 0,                 /* done, accepted, or both records the same */
+  VZ_COMMITMENT_LENGTH = 1,  /* a lent commitment is not 32 bytes long */
+  VZ_SIZE = 2,               /* a deal, run, message or lent entry size is not allowed */
+  VZ_FORM = 3,               /* a record's tags, order, lengths or end are wrong */
+  VZ_SEGMENT_SIZE = 4,       /* segment size not allowed for this deal size */
+  VZ_OFFSET = 5,             /* offset not a multiple of the segment size, or segment beyond the index start */
+  VZ_PLACE = 6,              /* entry place not a multiple of 64, or outside the index area */
+  VZ_PATH_LENGTH = 7,        /* a path has another number of nodes than it must have */
+  VZ_COMMITMENT_BITS = 8,    /* the segment commitment has stray bits */
+  VZ_SEGMENT_PATH = 9,       /* the segment path does not lead to the deal commitment */
+  VZ_ENTRY_PATH = 10,        /* the entry path does not lead to it */
+  VZ_STRAY_BITS = 11,        /* a node of a lent run, deal or segment has stray bits */
+  VZ_OUTPUT = 12,            /* a lent output is too short, or not of its one length */
+  VZ_NO_SLOT = 13,           /* no slot is free */
+  VZ_NO_PLACE = 14,          /* no free place */
+  VZ_ALREADY_KEPT = 15,      /* the segment is kept already */
+  VZ_NOT_KEPT = 16,          /* no kept entry at that place, or with that commitment */
+  VZ_COLLISION = 17,         /* two different 64-byte strings with one node hash are shown */
+  VZ_OTHER_PLACE = 18        /* the two records name different entry places */
+};
+
+/* SHA-256 of a message of 0 to 2^24 bytes. digest: 32 bytes. Codes: 2. */
+uint32_t vz_sha256(const uint8_t *message, size_t message_len, uint8_t *digest, size_t digest_len);
+
+/* The commitment of a run, a power of two from 32 to 2^24 bytes. node: 32 bytes. Codes: 2, 11. */
+uint32_t vz_commitment(const uint8_t *run, size_t run_len, uint8_t *node, size_t node_len);
+
+/* The number of index entries and the index start for a deal size, a power of two from 512 to 2^36. Codes: 2. */
+uint32_t vz_index_numbers(uint64_t size, uint64_t *entries, uint64_t *start);
+
+/* The index entry for a commitment of 32 bytes and two numbers, taken as they are. entry: 64 bytes. Codes: 1, 8. */
+uint32_t vz_make_entry(const uint8_t *commitment, size_t commitment_len, uint64_t offset, uint64_t size, uint8_t *entry,
+                       size_t entry_len);
+
+/* What the 64 bytes of an entry say: valid is 1 where the checksum is right, with the three fields, else 0 with zeros.
+ * commitment: 32 bytes. Codes: 2. */
+uint32_t vz_read_entry(const uint8_t *entry, size_t entry_len, uint32_t *valid, uint8_t *commitment, size_t commitment_len,
+                       uint64_t *offset, uint64_t *size);
+
+/* What stands at an entry place of a deal: state is 0 where the slot is free, 1 where an entry stands, 2 where it is kept; with
+ * its commitment (32 bytes), offset and size, zeros where it is free. Codes: 2, 11, 6. */
+uint32_t vz_inspect(const uint8_t *deal, size_t deal_len, uint64_t place, uint32_t *state, uint8_t *commitment,
+                    size_t commitment_len, uint64_t *offset, uint64_t *size);
+
+/* The lowest slot that holds a kept entry with this commitment; the segment is the size bytes of the deal at offset.
+ * Codes: 1, 2, 11, 16. */
+uint32_t vz_find(const uint8_t *deal, size_t deal_len, const uint8_t *commitment, size_t commitment_len, uint64_t *offset,
+                 uint64_t *size, uint64_t *place);
+
+/* Books a segment: with 0 the segment and its entry are written into the deal, and no other byte changes. The numbers are
+ * written with 0, and with 15 (where the segment is kept). Codes: 2, 4, 11, 15, 13, 14. */
+uint32_t vz_book(uint8_t *deal, size_t deal_len, const uint8_t *segment, size_t segment_len, uint64_t *offset, uint64_t *place);
+
+/* Builds the inclusion record of the entry at a place: it fills the first length bytes of record, the rest stays. 1,962 bytes
+ * hold any record. Codes: 2, 11, 6, 16, 12. */
+uint32_t vz_build(const uint8_t *deal, size_t deal_len, uint64_t place, uint8_t *record, size_t record_len, uint64_t *length);
+
+/* Checks a record against a deal's commitment and size. Codes: 1 to 10, in this order. */
+uint32_t vz_check(const uint8_t *commitment, size_t commitment_len, uint64_t size, const uint8_t *record, size_t record_len);
+
+/* Settles two records for one deal commitment and size: 0 exactly where both are accepted and the same bytes; 17 with two
+ * different strings (left and right, 64 bytes each) that have one node hash. Codes: the first one's check, the second one's, 18, 17. */
+uint32_t vz_settle_records(const uint8_t *commitment, size_t commitment_len, uint64_t size, const uint8_t *first,
+                           size_t first_len, const uint8_t *second, size_t second_len, uint8_t *left, size_t left_len,
+                           uint8_t *right, size_t right_len);
+
+/* Settles a record with a deal in hand: 0 exactly where building at its place would write it; 17 with a pair as above.
+ * Codes: 2, 11, those of the check against the deal's own commitment and length, 17. */
+uint32_t vz_settle_with_deal(const uint8_t *deal, size_t deal_len, const uint8_t *record, size_t record_len, uint8_t *left,
+                             size_t left_len, uint8_t *right, size_t right_len);
+
+/* The field at a place of a record: its tag, where its content starts, the content's length, the next field's place.
+ * Codes: 3 where no field lies there. */
+uint32_t vz_read_field(const uint8_t *record, size_t record_len, uint64_t place, uint32_t *tag, uint64_t *start,
+                       uint64_t *length, uint64_t *next);
+
+#ifdef __cplusplus
+}
+#endif
+
+#endif
