@@ -12,6 +12,8 @@ SHA256, COMMITMENT, NUMBERS, MAKE, READ, FIND, BOOK, BUILD, CHECK, SETTLE, SETTL
 NAMES = {SHA256: "sha256", COMMITMENT: "commitment", NUMBERS: "index_numbers", MAKE: "make_entry", READ: "read_entry", FIND: "find",
          BOOK: "book", BUILD: "build", CHECK: "check", SETTLE: "settle_records", SETTLE_DEAL: "settle_with_deal", FIELDS: "read_field"}
 
+CHECK_INPUT = 13  # of the program check_record; no routine of its own
+
 MODEL = Model()
 
 
@@ -72,8 +74,21 @@ def answer(case):
     if op == SETTLE_DEAL:  # a is the deal, b the record
         return line(*m.settle_deal(a, b))
     if op == FIELDS:
-        return line(*fields(a))
+        return line(0, *fields(a))
+    if op == CHECK_INPUT:
+        return line(check_input(a))
     raise ValueError(op)
+
+
+def check_input(data):
+    """What the program check_record prints for its input."""
+    if len(data) < 32:
+        return 1
+    if len(data) < 40:
+        return 2
+    if len(data) > 40 + 4096:
+        return 3
+    return MODEL.check(data[:32], int.from_bytes(data[32:40], "little"), data[40:])
 
 
 # ---- what the calls are made of

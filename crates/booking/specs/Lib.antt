@@ -1,7 +1,9 @@
 pub mod Room
 pub mod Booking
 pub mod Run
+pub mod Gather
 pub mod RoomLaws
+pub mod GatherLaws
 pub mod BookingLaws
 pub mod FrameLaws
 pub mod AlreadyLaws

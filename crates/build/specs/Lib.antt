@@ -1,2 +1,4 @@
 pub mod Build
+pub mod Encode
 pub mod BuildLaws
+pub mod EncodeLaws

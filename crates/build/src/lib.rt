@@ -1,4 +1,9 @@
 // Building an inclusion record.
+mod building;
+mod fields;
+mod writing;
+
+pub use building::build;
 
 // The length of the record that was written; 0 on a refusal.
 pub struct BuildAnswer {

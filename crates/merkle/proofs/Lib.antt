@@ -1,1 +1,2 @@
 mod Cuts
+mod Quarters

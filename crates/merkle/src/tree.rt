@@ -1,8 +1,16 @@
 // The tree over a run of bytes.
+use lanes::node_of_lane;
+use node::node_hash;
+use octets::join;
 ghost use mathlib.Core.Path.{_≡_};
-ghost use Prim.Native.Nat.{_+_, _*_, _^_, _≤_, _<_};
+ghost use mathlib.Core.List.{_++_};
+ghost use Prim.Native.Nat.{ℕ, _+_, _*_, _^_, _≤_, _<_};
 ghost use lib.ListN.{length};
 ghost use Rattle.octets.specs.Splice.{part};
+ghost use Rattle.sha256.specs.Fips.{digest};
+ghost use Rattle.node.specs.Node.{nodeHash};
+ghost use Rattle.lanes.specs.Lanes.{lane};
+ghost use Rattle.lanes.specs.NodeWords.{Holds};
 ghost use Rattle.merkle.specs.Tree.{commitmentOf, nodeAt};
 
 // The commitment of 2^height nodes, the `size` bytes from `at` on, one node after the other.
@@ -16,15 +24,43 @@ fn plain(run: &[u8], at: usize, size: usize, height: usize) -> [u8; 32]
     let half = size / 2;
     let left = plain(run, at, half, height - 1);
     let right = plain(run, at + half, half, height - 1);
-    node::node_hash(octets::join(left, right))
+    node_hash(join(left, right))
 }
 
-// The same, by whichever way is the faster.
+// The commitments of four parts of a run, `step` bytes apart, four nodes at once: each part has 2^height nodes, the
+// `size` bytes from its start on, and the first starts at `at`.
+fn four(run: &[u8], step: usize, at: usize, size: usize, height: usize) -> [u32; 32]
+    requires { ⌜ (size ≡ 32 * 2 ^ height) × (at + size + 3 * step ≤ length (now run)) ⌝ }
+    ensures { λ r. ⌜ ((l : ℕ) → l < 4 → Holds r l (commitmentOf height (part (now (run .entry)) (at + l * step) size))) ⌝ }
+{
+    if height == 0 {
+        return lanes::load_nodes(run, step, at);
+    }
+    let half = size / 2;
+    let left = four(run, step, at, half, height - 1);
+    let right = four(run, step, at + half, half, height - 1);
+    lanes::hash_nodes(left, right)
+}
+
+// The node two levels above the nodes of the four lanes.
+fn over_four(nodes: [u32; 32]) -> [u8; 32]
+    ensures { λ r. ⌜ r ≡ nodeHash (nodeHash (digest (lane 8 nodes 0) ++ digest (lane 8 nodes 1)) ++ nodeHash (digest (lane 8 nodes 2) ++ digest (lane 8 nodes 3))) ⌝ }
+{
+    let left = join(node_of_lane(nodes, 0), node_of_lane(nodes, 1));
+    let right = join(node_of_lane(nodes, 2), node_of_lane(nodes, 3));
+    node_hash(join(node_hash(left), node_hash(right)))
+}
+
+// The commitment of 2^height nodes, the `size` bytes from `at` on: four quarters at once, where they have two nodes each.
 pub fn part_root(run: &[u8], at: usize, size: usize, height: usize) -> [u8; 32]
     requires { ⌜ (size ≡ 32 * 2 ^ height) × (at + size ≤ length (now run)) ⌝ }
     ensures { λ r. ⌜ r ≡ commitmentOf height (part (now (run .entry)) at size) ⌝ }
 {
-    plain(run, at, size, height)
+    if height < 3 {
+        return plain(run, at, size, height);
+    }
+    let quarter = size / 4;
+    over_four(four(run, quarter, at, quarter, height - 2))
 }
 
 // The commitment of a run of 2^height nodes.

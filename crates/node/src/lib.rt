@@ -2,10 +2,10 @@
 mod padding_block; // padding_block.rt: the second block, which is always the same
 
 pub use padding_block::PADDING_SUMS;
-use sha256::block::INITIAL;
-use sha256::block::compress;
-use sha256::words::block_at;
-use sha256::words::digest;
+use sha256::INITIAL;
+use sha256::block_at;
+use sha256::compress;
+use sha256::digest;
 ghost use mathlib.Core.Path.{_≡_};
 ghost use Rattle.node.specs.Node.{nodeHash};
 

@@ -1,6 +1,6 @@
 // The second block of a padded message of 64 bytes: nothing but padding, so that it is always the same.
-use sha256::block::round;
-use sha256::block::sums;
+use sha256::round;
+use sha256::sums;
 ghost use mathlib.Core.Path.{_≡_};
 ghost use Rattle.sha256.specs.Fips as F;
 ghost use Rattle.node.specs.PaddingBlock.{paddingBlock};

@@ -1,8 +1,18 @@
 // SHA-256 (FIPS 180-4).
-pub mod words; // words.rt: operations on 32-bit words; words and bytes
-pub mod block; // block.rt: the block routine
+mod block; // block.rt: the block routine
 mod padding; // padding.rt: the padded message, block by block
+mod words; // words.rt: operations on 32-bit words; words and bytes
 
+pub use block::INITIAL;
+pub use block::K;
+pub use block::compress;
+pub use block::round;
+pub use block::schedule_word;
+pub use block::sums;
+pub use words::add;
+pub use words::block_at;
+pub use words::digest;
+pub use words::word_at;
 ghost use mathlib.Core.Path.{_≡_};
 ghost use Rattle.sha256.specs.Answers.{hashed};
 

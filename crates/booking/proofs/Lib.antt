@@ -1,0 +1,5 @@
+pub mod Found
+pub mod Jump
+pub mod GatherTurn
+pub mod KeepingSlot
+pub mod Deciding

@@ -1,0 +1,68 @@
+use mathlib.Core.Path.{_≡_}
+use Rattle.octets.specs.SearchLaws.{lowest-start}
+use Rattle.booking.specs.Gather.{emptyAt}
+use Rattle.booking.proofs.Found.{found-here, found-later, found-nowhere}
+use mathlib.Core.Path.{_≡_, sym, ap, _∙_}
+use Prim.Native.Nat.{_-_, _≤_}
+use native.Mathlib.Omega.{arith}
+use borrow.Author.Tests.{eq-eqb, ne-eqb}
+use Rattle.octets.specs.Search.{lowest}
+use Rattle.octets.specs.SearchLaws.{lowest-start, lowest-here, lowest-next, lowest-over}
+use Rattle.booking.specs.Gather.{emptyAt, asLowest}
+use borrow.Author.Needs.{needs}
+use Rattle.booking.proofs.room.lowest_free_slot.Statement.{statement}
+use Rattle.booking.proofs.room.lowest_free_slot.Tie as tie
+
+abbrev Inv-loop : tie.InvT-loop
+Inv-loop slots ranges i₀ i = (i ≤ slots) × (lowest (emptyAt (ranges .areas)) 0 slots ≡ lowest (emptyAt (ranges .areas)) i (slots - i))
+
+abbrev μ-loop : tie.MeasureT-loop
+μ-loop slots ranges i₀ i = slots - i
+
+loop-holds : tie.Need-loop-holds Inv-loop μ-loop
+loop-holds c = (search needs, lowest-start (emptyAt (c .args .t1 .areas)) (c .args .slots))
+
+mul-if1 : tie.Need-mul-if1 Inv-loop μ-loop
+mul-if1 c = search needs
+
+element-copy-out-if1 : tie.Need-element-copy-out-if1 Inv-loop μ-loop
+element-copy-out-if1 c = search needs
+
+returns : tie.Need-returns Inv-loop μ-loop
+returns c =
+    let l = c .before .before .before in
+    let a = l .before .args in
+    found-here (emptyAt (a .t1 .areas)) (a .slots) (l .loop .i) (l .loop .inv .1) (omega arith) (eq-eqb _ _ (c .if1 .taken))
+
+add-i : tie.Need-add-i Inv-loop μ-loop
+add-i c = search needs
+
+loop-less : tie.Need-loop-less Inv-loop μ-loop
+loop-less c = search needs
+
+loop-again : tie.Need-loop-again Inv-loop μ-loop
+loop-again c =
+    let l = c .before .before .before in
+    let a = l .before .args in
+    (search needs, found-later (emptyAt (a .t1 .areas)) (a .slots) (l .loop .i) (l .loop .inv .1) (omega arith) (ne-eqb _ _ (c .if1 .left)))
+
+returns-2 : tie.Need-returns-2 Inv-loop μ-loop
+returns-2 c =
+    let l = c .before in
+    let a = l .before .args in
+    found-nowhere (emptyAt (a .t1 .areas)) (a .slots) (l .loop .i) (l .loop .inv .1) (omega arith)
+
+pub lowest-free-slot-spec : {M : Type 1} → statement M
+lowest-free-slot-spec =
+    tie.close
+    (tie.spec
+    Inv-loop
+    μ-loop
+    loop-holds
+    mul-if1
+    element-copy-out-if1
+    returns
+    add-i
+    loop-less
+    loop-again
+    returns-2)

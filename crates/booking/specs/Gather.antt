@@ -1,0 +1,47 @@
+-- The ranges of a deal's standing entries, gathered slot by slot into two lists, and the searches of booking over such lists.
+use mathlib.Core.Path.{_≡_}
+use mathlib.Core.Bool.{Bool}
+use mathlib.Core.List.{List}
+use Prim.Native.Nat.{ℕ, _+_, _*_, _≤_, _<_}
+use lib.ListN.{getD}
+use lib.Dec.{eqb}
+use Rattle.octets.specs.Search.{Found, found, missing, lowest}
+use Rattle.entries.specs.Sizes.{area}
+use Rattle.index.specs.Slots.{Row, free, holds}
+use Rattle.booking.specs.Room.{overlap, isMissing}
+use Rattle.booking.specs.declared.Lowest.{Lowest}
+
+-- where a row's bytes start, and how many they are: none for a free row
+abbrev pub rowOffset : Row → ℕ
+rowOffset free = 0
+rowOffset (holds commitment offset size) = offset
+
+abbrev pub rowArea : Row → ℕ
+rowArea free = 0
+rowArea (holds commitment offset size) = area size
+
+-- two lists that hold the ranges of the first rows
+pub record Gathered (rows : ℕ → Row) (slots : ℕ) (offsets areas : List ℕ) : Type 0 where
+  pub offset-at : (i : ℕ) → i < slots → getD offsets i 0 ≡ rowOffset (rows i)
+  pub area-at : (i : ℕ) → i < slots → getD areas i 0 ≡ rowArea (rows i)
+
+-- each of the first ranges ends by a limit
+abbrev pub EndBy : ℕ → ℕ → List ℕ → List ℕ → Type 0
+EndBy limit slots offsets areas = (i : ℕ) → i < slots → getD offsets i 0 + getD areas i 0 ≤ limit
+
+-- slot i has no bytes
+abbrev pub emptyAt : List ℕ → ℕ → Bool
+emptyAt areas i = eqb (getD areas i 0) 0
+
+-- the range of slot i overlaps the n bytes from o
+abbrev pub overlapsAt : List ℕ → List ℕ → ℕ → ℕ → ℕ → Bool
+overlapsAt offsets areas o n i = overlap o n (getD offsets i 0) (getD areas i 0)
+
+-- the n bytes from k * n overlap none of the first ranges
+abbrev pub roomAt : List ℕ → List ℕ → ℕ → ℕ → ℕ → Bool
+roomAt offsets areas slots n k = isMissing (lowest (overlapsAt offsets areas (k * n) n) 0 slots)
+
+-- what a search found, as the code answers it
+abbrev pub asLowest : Found → Lowest
+asLowest (found i) = Lowest.At i
+asLowest missing = Lowest.Nothing

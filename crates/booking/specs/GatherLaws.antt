@@ -1,0 +1,72 @@
+-- Searches over gathered ranges are searches over the rows that they were gathered from.
+use mathlib.Core.Path.{_≡_, refl, sym, ap, ap₂, _∙_}
+use mathlib.Core.Bool.{Bool, true, false}
+use mathlib.Core.List.{List}
+use Prim.Native.Nat.{ℕ, suc, _+_, _*_, _/_, _≤_, _<_}
+use native.Mathlib.Omega.{arith}
+use lib.Dec.{eqb}
+use lib.ListN.{length, getD}
+use borrow.Author.Tests.{le-ltb, ne-eqb}
+use Rattle.octets.specs.Choice.{choose}
+use Rattle.octets.specs.Search.{lowest}
+use Rattle.octets.specs.SearchLaws.{lowest-cong}
+use Rattle.entries.specs.Sizes.{lentSizeAllowed, area, entryCount, indexStart, slotPlace}
+use Rattle.entries.specs.SizesLaws.{DealSize, lent-size, segment-size, segment-place, slot-allowed, entry-place}
+use Rattle.entries.specs.Entry.{commitmentIn, offsetIn, sizeIn}
+use Rattle.index.specs.Slots.{Row, free, holds, standing, rowOf}
+use Rattle.index.specs.SlotsLaws.{stands}
+use Rattle.booking.specs.Room.{overlap, rowOverlaps, isFree, isMissing, lowestFreeSlot, lowestPlace}
+use Rattle.booking.specs.Gather.{rowOffset, rowArea, Gathered, EndBy, emptyAt, overlapsAt, roomAt}
+
+-- a free row has no bytes, and so overlaps nothing
+pub row-overlaps : (o n : ℕ) (row : Row) → rowOverlaps o n row ≡ overlap o n (rowOffset row) (rowArea row)
+unfolding overlap
+row-overlaps o n free = rw (le-ltb o 0 (omega arith))
+row-overlaps o n (holds commitment offset size) = refl
+
+-- a row of a deal
+module _ (d : ℕ) (entry : List ℕ) (t : DealSize d) where
+  -- ends by the index start
+  pub row-ends : rowOffset (rowOf d entry) + rowArea (rowOf d entry) ≤ indexStart d
+  unfolding rowOf
+  row-ends = by-test (standing d entry) refl
+    where
+      by-test : (b : Bool) → standing d entry ≡ b
+          → rowOffset (choose b (holds (commitmentIn entry) (offsetIn entry) (sizeIn entry)) free) + rowArea (choose b (holds (commitmentIn entry) (offsetIn entry) (sizeIn entry)) free) ≤ indexStart d
+      by-test true e =
+          let s = stands d entry e in
+          segment-place d (offsetIn entry) (sizeIn entry) t (segment-size d (sizeIn entry) t (s .size-allowed)) (s .offset-allowed) .ends
+      by-test false e = omega arith
+
+  -- is free exactly if it has no bytes
+  pub row-empty : eqb (rowArea (rowOf d entry)) 0 ≡ isFree (rowOf d entry)
+  unfolding rowOf
+  row-empty = by-test (standing d entry) refl
+    where
+      by-test : (b : Bool) → standing d entry ≡ b
+          → eqb (rowArea (choose b (holds (commitmentIn entry) (offsetIn entry) (sizeIn entry)) free)) 0 ≡ isFree (choose b (holds (commitmentIn entry) (offsetIn entry) (sizeIn entry)) free)
+      by-test true e = let z = segment-size d (sizeIn entry) t (stands d entry e .size-allowed) in ne-eqb (area (sizeIn entry)) 0 (λ q. omega (arith, z .area-low))
+      by-test false e = refl
+
+-- the number of slots of a lent deal
+pub slots-high : (d : ℕ) → lentSizeAllowed d ≡ true → entryCount d ≤ 128
+unfolding entryCount
+slots-high d t = omega (arith, lent-size d t .lent-high)
+
+-- every slot lies in the deal
+pub slot-within : (d i : ℕ) → DealSize d → i < entryCount d → slotPlace d i + 64 ≤ d
+slot-within d i t h = entry-place d (slotPlace d i) t (slot-allowed d i t h) .in-deal
+
+module _ {rows : ℕ → Row} {slots : ℕ} {offsets areas : List ℕ} (g : Gathered rows slots offsets areas) where
+  overlaps-at : (o n i : ℕ) → i < slots → overlapsAt offsets areas o n i ≡ rowOverlaps o n (rows i)
+  overlaps-at o n i h = ap₂ (overlap o n) (g .offset-at i h) (g .area-at i h) ∙ sym (row-overlaps o n (rows i))
+
+  pub gathered-room : (n limit : ℕ) → lowest (roomAt offsets areas slots n) 0 (limit / n) ≡ lowestPlace rows slots n limit
+  gathered-room n limit =
+      lowest-cong _ _ 0 (limit / n) (λ k a b. ap isMissing (lowest-cong _ _ 0 slots (λ i c h. overlaps-at (k * n) n i (omega arith))))
+
+  pub gathered-free : ((i : ℕ) → eqb (rowArea (rows i)) 0 ≡ isFree (rows i)) → lowest (emptyAt areas) 0 slots ≡ lowestFreeSlot rows slots
+  gathered-free f = lowest-cong _ _ 0 slots (λ i a h. ap (λ (x : ℕ). eqb x 0) (g .area-at i (omega arith)) ∙ f i)
+
+  pub gathered-ends : (limit : ℕ) → ((i : ℕ) → rowOffset (rows i) + rowArea (rows i) ≤ limit) → EndBy limit slots offsets areas
+  gathered-ends limit f i h = omega (arith, f i, g .offset-at i h, g .area-at i h)

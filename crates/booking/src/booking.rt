@@ -1,0 +1,93 @@
+// Booking: the place for a segment, and writing it there.
+use crate::Booked;
+use crate::Lowest;
+use crate::gathering::gather;
+use crate::keeping::lowest_keeping;
+use crate::room::lowest_free_slot;
+use crate::room::lowest_place;
+ghost use mathlib.Core.Path.{_≡_};
+ghost use Prim.Native.Nat.{_+_, _≤_};
+ghost use lib.ListN.{length};
+ghost use Rattle.octets.specs.Splice.{splice};
+ghost use Rattle.entries.specs.Entry.{entryOf};
+ghost use Rattle.booking.specs.Booking.{segmentCommitment, bookAnswer, bookedDeal};
+ghost use Rattle.booking.specs.BookingLaws.{Bookable};
+
+// A refusal.
+fn refused(code: u8) -> Booked
+    ensures { λ r. ⌜ r ≡ record { code = code; offset = 0; place = 0 } ⌝ }
+{
+    Booked {
+        code,
+        offset: 0,
+        place: 0,
+    }
+}
+
+// Where a segment goes in a lent deal: with 15 the lowest slot that keeps it already, else the lowest free slot and the lowest
+// free place; 13 and 14 where there is none.
+fn place_for(deal: &[u8], segment: &[u8], commitment: [u8; 32]) -> Booked
+    requires { ⌜ Bookable (now deal) (now segment) ⌝ }
+    requires { ⌜ commitment ≡ segmentCommitment (now segment) ⌝ }
+    ensures { λ r. ⌜ r ≡ bookAnswer (now (deal .entry)) (now (segment .entry)) ⌝ }
+{
+    let deal_size = deal.len() as u64;
+    let ranges = gather(deal);
+    if let Lowest::At(i) = lowest_keeping(deal, segment, commitment, ranges) {
+        return Booked {
+            code: 15,
+            offset: ranges.offsets[i],
+            place: entries::slot_place(deal_size, i as u64),
+        };
+    }
+    let slots = entries::entry_count(deal_size) as usize;
+    let Lowest::At(i) = lowest_free_slot(ranges, slots) else {
+        return refused(13);
+    };
+    let area = entries::area(segment.len() as u64);
+    let Lowest::At(k) = lowest_place(ranges, slots, area, entries::index_start(deal_size)) else {
+        return refused(14);
+    };
+    Booked {
+        code: 0,
+        offset: k as u64 * area,
+        place: entries::slot_place(deal_size, i as u64),
+    }
+}
+
+// Writes a segment and its entry.
+fn write_segment(deal: &mut [u8], segment: &[u8], commitment: [u8; 32], offset: u64, place: u64)
+    requires { ⌜ (offset + length (now segment) ≤ length (now deal)) × (place + 64 ≤ length (now deal)) ⌝ }
+    ensures { λ _. ⌜ now (deal .exit) ≡ splice (splice (now (deal .entry)) offset (now (segment .entry))) place (entryOf commitment offset (length (now (segment .entry)))) ⌝ }
+{
+    let entry = entries::entry_of(commitment, offset, segment.len() as u64);
+    octets::put(deal, offset as usize, segment);
+    octets::put_pair(deal, place as usize, entry);
+}
+
+// Books a segment in a lent deal: the segment and its entry are written, and no other byte changes. 2 for a deal size that is
+// not allowed, 4 for a segment size that is not allowed in it, 11 for stray bits in either, 15 with offset and entry place of a
+// slot that keeps the segment already, 13 for no free slot, 14 for no free place; on a refusal nothing is written.
+pub fn book(deal: &mut [u8], segment: &[u8]) -> Booked
+    ensures { λ r. ⌜ (r ≡ bookAnswer (now (deal .entry)) (now (segment .entry))) × (now (deal .exit) ≡ bookedDeal (now (deal .entry)) (now (segment .entry))) ⌝ }
+{
+    let size = segment.len() as u64;
+    if !entries::lent_size_allowed(deal.len()) {
+        return refused(2);
+    }
+    if !entries::segment_size_allowed(deal.len() as u64, size) {
+        return refused(4);
+    }
+    if !merkle::no_stray_bits(deal) {
+        return refused(11);
+    }
+    if !merkle::no_stray_bits(segment) {
+        return refused(11);
+    }
+    let commitment = merkle::root(segment, entries::segment_level(size));
+    let answer = place_for(deal, segment, commitment);
+    if answer.code == 0 {
+        write_segment(deal, segment, commitment, answer.offset, answer.place);
+    }
+    answer
+}

@@ -1,0 +1,68 @@
+// A segment that a deal keeps already.
+use crate::Lowest;
+use crate::Ranges;
+ghost use mathlib.Core.Path.{_≡_};
+ghost use mathlib.Core.Bool.{true};
+ghost use Prim.Native.Nat.{_<_};
+ghost use lib.ListN.{length};
+ghost use Rattle.octets.specs.Search.{lowest};
+ghost use Rattle.entries.specs.Sizes.{lentSizeAllowed, segmentSizeAllowed, entryCount};
+ghost use Rattle.index.specs.Slots.{rowAt};
+ghost use Rattle.booking.specs.Booking.{keepsSegment, segmentCommitment};
+ghost use Rattle.booking.specs.Gather.{rowOffset, rowArea, Gathered, asLowest};
+
+// Whether slot i of a lent deal, whose range is given, keeps the segment: its entry has the segment's size and commitment, and
+// exactly the segment's bytes are at its offset. The commitment of those bytes is then the segment's: the deal is not hashed.
+fn slot_keeps(
+    deal: &[u8],
+    segment: &[u8],
+    commitment: [u8; 32],
+    i: usize,
+    offset: u64,
+    area: u64,
+) -> bool
+    requires { ⌜ lentSizeAllowed (length (now deal)) ≡ true ⌝ }
+    requires { ⌜ segmentSizeAllowed (length (now deal)) (length (now segment)) ≡ true ⌝ }
+    requires { ⌜ commitment ≡ segmentCommitment (now segment) ⌝ }
+    requires { ⌜ (i < entryCount (length (now deal))) × (offset ≡ rowOffset (rowAt (now deal) i)) × (area ≡ rowArea (rowAt (now deal) i)) ⌝ }
+    ensures { λ r. ⌜ r ≡ keepsSegment (now (deal .entry)) (now (segment .entry)) i ⌝ }
+{
+    let size = segment.len() as u64;
+    if area != entries::area(size) {
+        return false;
+    }
+    let place = entries::slot_place(deal.len() as u64, i as u64) as usize;
+    if octets::read_u64(deal, place + 40) != size {
+        return false;
+    }
+    if !octets::same_at(deal, place, &commitment) {
+        return false;
+    }
+    octets::same_at(deal, offset as usize, segment)
+}
+
+// The lowest slot of a lent deal that keeps the segment.
+pub fn lowest_keeping(deal: &[u8], segment: &[u8], commitment: [u8; 32], ranges: Ranges) -> Lowest
+    requires { ⌜ lentSizeAllowed (length (now deal)) ≡ true ⌝ }
+    requires { ⌜ segmentSizeAllowed (length (now deal)) (length (now segment)) ≡ true ⌝ }
+    requires { ⌜ commitment ≡ segmentCommitment (now segment) ⌝ }
+    requires { ⌜ Gathered (rowAt (now deal)) (entryCount (length (now deal))) (ranges .offsets) (ranges .areas) ⌝ }
+    ensures { λ r. ⌜ r ≡ asLowest (lowest (keepsSegment (now (deal .entry)) (now (segment .entry))) 0 (entryCount (length (now (deal .entry))))) ⌝ }
+{
+    let slots = entries::entry_count(deal.len() as u64) as usize;
+    let mut i: usize = 0;
+    while i < slots {
+        if slot_keeps(
+            deal,
+            segment,
+            commitment,
+            i,
+            ranges.offsets[i],
+            ranges.areas[i],
+        ) {
+            return Lowest::At(i);
+        }
+        i += 1;
+    }
+    Lowest::Nothing
+}

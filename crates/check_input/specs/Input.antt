@@ -1,0 +1,17 @@
+-- What the program answers for its input (document 01, "What is built").
+use Prim.Native.Nat.{ℕ, _+_}
+use mathlib.Core.List.{List, [], _∷_}
+use lib.ListN.{length, take, drop}
+use lib.Dec.{leb}
+use Rattle.octets.specs.Refusals.{rule, firstRefusal, unlessRefused}
+use Rattle.octets.specs.LittleEndian.{numberOf}
+use Rattle.octets.specs.Splice.{part}
+use Rattle.record.specs.Check.{dealTerms, checkOf}
+
+-- a commitment of 32 bytes, D in 8 bytes, and a record of at most 4,096 bytes
+unfoldable pub checkInput : List ℕ → ℕ
+checkInput input =
+    unlessRefused
+    (firstRefusal (rule (leb 32 (length input)) 1 ∷ rule (leb 40 (length input)) 2 ∷ rule (leb (length input) (40 + 4096)) 3 ∷ []))
+    (λ code. code)
+    (checkOf (dealTerms (take 32 input) (numberOf (part input 32 8))) (drop 40 input))

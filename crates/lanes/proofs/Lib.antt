@@ -1,0 +1,5 @@
+mod ClearLaws
+mod LaneLaws
+mod LoadLaws
+mod RoundLaws
+mod ScheduleLaws

@@ -1,0 +1,21 @@
+use mathlib.Core.Path.{ap, _∙_}
+use lib.ListN.{replicate}
+use Rattle.sha256.specs.Fips.{sums, compress}
+use Rattle.node.specs.PaddingBlock.{paddingSums}
+use Rattle.node.specs.PaddingBlockLaws.{padding-rounds}
+use Rattle.lanes.specs.Lanes.{lane}
+use Rattle.lanes.proofs.RoundLaws.{lane-sums, lane-zero}
+use borrow.Author.Needs.{needs}
+use Rattle.lanes.proofs.block.finish4.Statement.{statement}
+use Rattle.lanes.proofs.block.finish4.Tie as tie
+
+returns : tie.Need-returns
+unfolding compress paddingSums
+returns c = λ l b.
+    let hash = c .before .before .args .hash in
+    rw (c .sums4 .ensures)
+    (lane-sums hash (c .before .rounds4 .result) l b
+    ∙ ap (sums (lane 8 hash l)) (c .before .rounds4 .ensures l b ∙ padding-rounds (lane 8 hash l) (lane 64 (replicate 256 0) l) (λ i h. lane-zero l i b h)))
+
+pub finish4-spec : {M : Type 1} → statement M
+finish4-spec = tie.close (tie.spec (λ c κs. search needs) (λ c κs. search needs) returns)

@@ -1,0 +1,135 @@
+// The calls. Each prints its answer, and `answer` the end of the line.
+use crate::show;
+use entries::EntryKind;
+use record::Field;
+use settle::Settled;
+
+fn hash(message: &[u8]) {
+    let hashed = sha256::sha256(message);
+    let digest = hashed.digest;
+    show::code(hashed.code);
+    show::bytes(&digest);
+}
+
+fn commit(run: &[u8]) {
+    let committed = merkle::commitment(run);
+    let node = committed.node;
+    show::code(committed.code);
+    show::bytes(&node);
+}
+
+fn index_numbers(size: u64) {
+    let numbers = entries::index_numbers(size);
+    show::code(numbers.code);
+    show::number(numbers.entries);
+    show::number(numbers.start);
+}
+
+fn make_entry(commitment: &[u8], offset: u64, size: u64) {
+    let made = entries::make_entry(commitment, offset, size);
+    let entry = made.entry;
+    show::code(made.code);
+    show::bytes(&entry);
+}
+
+fn read_entry(bytes: &[u8]) {
+    let entry = entries::read_entry(bytes);
+    let commitment = entry.commitment;
+    let kind = entry.kind;
+    show::code(entry.code);
+    match kind {
+        EntryKind::Valid => show::number(1),
+        EntryKind::NotValid => show::number(0),
+    }
+    show::bytes(&commitment);
+    show::number(entry.offset);
+    show::number(entry.size);
+}
+
+fn find(deal: &[u8], commitment: &[u8]) {
+    let found = index::find_numbers(deal, commitment);
+    let view = index::find(deal, commitment);
+    show::code(found.code);
+    show::number(found.offset);
+    show::number(found.size);
+    show::number(found.place);
+    show::number(view.len() as u64);
+    show::digest(view);
+}
+
+fn book(deal: &mut [u8], segment: &[u8]) {
+    let booked = booking::book(deal, segment);
+    show::code(booked.code);
+    show::number(booked.offset);
+    show::number(booked.place);
+    show::digest(deal);
+}
+
+fn build(deal: &[u8], place: u64, out: &mut [u8]) {
+    let built = build::build(deal, place, out);
+    show::code(built.code);
+    show::number(built.length as u64);
+    show::digest(out);
+}
+
+fn settled(answer: Settled) {
+    let left = answer.left;
+    let right = answer.right;
+    show::code(answer.code);
+    show::bytes(&left);
+    show::bytes(&right);
+}
+
+// The commitment is the first y bytes of b, the second record the rest.
+fn settle_records(first: &[u8], b: &[u8], size: u64, y: u64) {
+    if (b.len() as u64) < y {
+        return;
+    }
+    let split = y as usize;
+    let answer = settle::settle_records(&b[..split], size, first, &b[split..]);
+    settled(answer);
+}
+
+// The fields in turn from place 0, and the first place that is no field.
+fn fields(record: &[u8]) {
+    let mut place: usize = 0;
+    let mut turns: usize = 8192;
+    while turns > 0 {
+        let Field::Content {
+            tag,
+            start,
+            length,
+            next,
+        } = record::read_field(record, place)
+        else {
+            break;
+        };
+        show::number(tag as u64);
+        show::number(start as u64);
+        show::number(length as u64);
+        show::number(next as u64);
+        place = next;
+        turns -= 1;
+    }
+    show::number(place as u64);
+}
+
+pub fn answer(operation: u64, a: &mut [u8], b: &mut [u8], x: u64, y: u64) {
+    match operation {
+        1 => hash(a),
+        2 => commit(a),
+        3 => index_numbers(x),
+        4 => make_entry(a, x, y),
+        5 => read_entry(a),
+        6 => find(a, b),
+        7 => book(a, b),
+        8 => build(a, x, b),
+        9 => show::code(record::check(b, x, a)),
+        10 => settle_records(a, b, x, y),
+        11 => settled(settle::settle_with_deal(a, b)),
+        12 => fields(a),
+        13 => show::code(check_input::check_input(a)),
+        _ => {}
+    }
+    show::end();
+}

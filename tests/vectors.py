@@ -1,0 +1,118 @@
+"""Writes the calls that the program `vectors` replays, and the answers that the independent model gives.
+
+Run from the repository's root: python3 tests/vectors.py. It writes crates/vectors/stdin and crates/vectors/stdout; with --check
+it compares them with what stands there.
+"""
+import random
+import sys
+from pathlib import Path
+
+from cases import (BOOK, BUILD, CHECK, CHECK_INPUT, COMMITMENT, FIELDS, FIND, MODEL, NAMES, NUMBERS, READ, SETTLE, SETTLE_DEAL,
+                   answer, case, encode, node, run)
+from model import index_numbers, le
+
+ROOT = Path(__file__).resolve().parent.parent
+
+
+def table_of_sizes():
+    for k in range(8, 38):
+        yield NUMBERS, b"", b"", 1 << k, 0
+    for d in (0, 511, 513, 768, (1 << 36) + 1, (1 << 64) - 1):
+        yield NUMBERS, b"", b"", d, 0
+
+
+def bookings(rng, size, segments):
+    """A run of bookings: each call gets the deal that the one before left."""
+    deal = bytes(size)
+    for s in segments:
+        yield BOOK, deal, s, 0, 0
+        deal = MODEL.book(deal, s)[3]
+    yield SETTLE_DEAL, deal, MODEL.build(deal, index_numbers(size)[2])[1], 0, 0
+
+
+def worked_runs(rng):
+    """Document 01's two runs, and the all-zero segment and slot."""
+    a, b, c = (run(rng, 128) for _ in range(3))
+    yield from bookings(rng, 512, (a, a, b, c, a))
+    yield from bookings(rng, 1024, [b"".join(node(rng) for _ in range(4)) for _ in range(5)])
+    yield from bookings(rng, 512, (bytes(128), bytes(128)))
+    yield READ, bytes(64), b"", 0, 0
+
+
+def sparse_record(rng, d, size):
+    """The record and the commitment of a deal of d bytes that is zero but for one segment and its entry."""
+    h = MODEL.h
+    zero = [bytes(32)]
+    for _ in range(40):
+        zero.append(h.node(zero[-1] + zero[-1]))
+    _, n, start = index_numbers(d)
+    segment = run(rng, size)
+    o = rng.randrange(start // size) * size
+    p = start + 64 * rng.randrange(n)
+    commitment = MODEL.tree(segment)[-1][0]
+    entry = MODEL.entry(commitment, o, size)
+    levels = [{(o + 32 * i) // 32: segment[32 * i : 32 * i + 32] for i in range(size // 32)}]
+    levels[0][p // 32], levels[0][p // 32 + 1] = entry[:32], entry[32:]
+    top = d.bit_length() - 6
+    for k in range(top):
+        at = lambda i: levels[k].get(i, zero[k])
+        levels.append({i // 2: h.node(at(i & ~1) + at(i | 1)) for i in levels[k]})
+    path = lambda k, q: [levels[k + j].get((q >> j) ^ 1, zero[k + j]) for j in range(top - k)]
+    k = (size // 32).bit_length() - 1
+    record = MODEL.encode(commitment, o, size, p, path(k, o // size), path(1, p // 64))
+    return levels[top][0], record
+
+
+def large_deals(rng):
+    """Records for deals up to 2^36 bytes, whole and damaged in one byte of each kind of field."""
+    for d, size in ((512, 128), (512, 256), (1 << 20, 1024), (1 << 24, 128), (1 << 30, 1 << 12), (1 << 36, 128), (1 << 36, 1 << 20)):
+        root, r = sparse_record(rng, d, size)
+        yield CHECK, r, root, d, 0
+        yield SETTLE, r, root + r, d, 32
+        yield FIELDS, r, b"", 0, 0
+        yield CHECK_INPUT, root + le(d) + r, b"", 0, 0
+        for at in (0, 1, 3, 38, 49, 60, 68, 71, len(r) - 1, len(r) - 32):
+            damaged = bytearray(r)
+            damaged[at] ^= 1
+            yield CHECK, bytes(damaged), root, d, 0
+            yield SETTLE, r, root + bytes(damaged), d, 32
+        yield CHECK, r, root, d // 2, 0
+        yield CHECK, r, bytes(32), d, 0
+
+
+def inputs(rng):
+    """Inputs of the program check_record at the edges of its lengths."""
+    root, r = sparse_record(rng, 512, 128)
+    for n in (0, 1, 31, 32, 39, 40, 41, 273, 274):
+        yield CHECK_INPUT, (root + le(512) + r)[:n], b"", 0, 0
+    for n in (4096, 4097):
+        yield CHECK_INPUT, root + le(512) + (r + bytes(n))[:n], b"", 0, 0
+        yield CHECK_INPUT, root + le(0) + bytes(n), b"", 0, 0
+
+
+def all_cases():
+    rng = random.Random(58)
+    yield from table_of_sizes()
+    yield from worked_runs(rng)
+    yield from large_deals(rng)
+    yield from inputs(rng)
+    yield COMMITMENT, run(rng, 8192), b"", 0, 0
+    for i in range(720):
+        yield case(rng, 1 + i % len(NAMES), (512, 512, 1024))
+
+
+def main():
+    calls = list(all_cases())
+    texts = {"stdin": b"".join(map(encode, calls)), "stdout": "".join(map(answer, calls)).encode()}
+    for name, data in texts.items():
+        path = ROOT / "crates" / "vectors" / name
+        if "--check" in sys.argv:
+            if path.read_bytes() != data:
+                sys.exit(f"vectors: {path} is not what the model gives")
+        else:
+            path.write_bytes(data)
+    codes = sorted({int(line.split()[0]) for line in texts["stdout"].decode().splitlines()})
+    print(f"vectors: {len(calls)} calls, codes {codes}")
+
+
+main()
