@@ -1,25 +1,25 @@
 -- What booking decides, and so answers and writes, by the tests and searches on the way.
-use mathlib.Core.Path.{_≡_, refl, sym, ap, ap₂, _∙_}
+use mathlib.Core.Path.{_≡_, sym, ap, ap₂, _∙_}
 use mathlib.Core.Bool.{true, false, _&&_}
-use mathlib.Core.List.{List}
 use mathlib.Core.Logic.{_≢_}
-use Prim.Native.Nat.{ℕ, _+_, _*_, _/_, _^_, _≤_, _<_}
+use mathlib.Core.List.{List}
+use Prim.Native.Nat.{ℕ, _+_, _*_, _/_, _^_, _≤_}
 use native.Mathlib.Omega.{arith}
 use lib.ListN.{length}
 use Rattle.octets.specs.Search.{found, missing, lowest}
 use Rattle.octets.specs.Splice.{splice}
 use Rattle.merkle.specs.StrayBits.{noStrayBits}
-use Rattle.entries.specs.Sizes.{lentSizeAllowed, segmentSizeAllowed, area, entryCount, indexStart, slotPlace}
+use Rattle.entries.specs.Entry.{entryOf}
+use Rattle.entries.specs.Sizes.{lentSizeAllowed, segmentSizeAllowed, area, entryCount, indexStart}
 use Rattle.entries.specs.SizesLaws.{index-start-le}
-use Rattle.entries.specs.Entry.{entryOf, offsetIn}
 use Rattle.index.specs.Slots.{slotAt, rowAt}
-use Rattle.booking.specs.declared.Booked.{Booked}
-use Rattle.booking.specs.Room.{lowestFreeSlot, lowestPlace}
-use Rattle.booking.specs.Booking.{keepsSegment, Decision, refuse, already, place, inRoom, unlessKept, decision, segmentCommitment, answerTo, dealAfter, bookAnswer, bookedDeal}
+use Rattle.booking.specs.Booking.{keepsSegment, refuse, already, place, inRoom, unlessKept, decision, segmentCommitment, answerTo, bookAnswer, bookedDeal}
 use Rattle.booking.specs.BookingLaws.{Bookable, Books, bookable-deal, bookable-segment, books, answer-is, deal-is, code-0}
 use Rattle.booking.specs.FrameLaws.{refused-same}
 use Rattle.booking.specs.Gather.{Gathered, EndBy, emptyAt, roomAt}
 use Rattle.booking.specs.GatherLaws.{row-ends, row-empty, slot-within, gathered-room, gathered-free, gathered-ends}
+use Rattle.booking.specs.Room.{lowestFreeSlot, lowestPlace}
+use Rattle.booking.specs.declared.Booked.{Booked}
 
 module _ (deal segment : List ℕ) where
   -- a size or a stray bit is refused

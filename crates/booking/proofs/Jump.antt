@@ -7,10 +7,10 @@ use native.Mathlib.Omega.{arith}
 use lib.ListN.{getD}
 use Rattle.octets.specs.Search.{Found, found, missing, lowest}
 use Rattle.octets.specs.SearchLaws.{IsLowest, lowest-found, lowest-missing, lowest-skip}
+use Rattle.booking.specs.Gather.{overlapsAt, roomAt}
 use Rattle.booking.specs.Room.{isMissing}
 use Rattle.booking.specs.RoomLaws.{overlap-true, overlap-jump, place-ends}
-use Rattle.booking.specs.Gather.{overlapsAt, roomAt}
-use Rattle.booking.proofs.Found.{found-below}
+use Rattle.booking.proofs.Searching.{found-below}
 
 -- where one passes, the search does not miss
 not-missing : (p : ℕ → Bool) (n i : ℕ) → i < n → p i ≡ true → isMissing (lowest p 0 n) ≡ false

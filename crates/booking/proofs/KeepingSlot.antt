@@ -1,6 +1,6 @@
 -- Whether a slot keeps a segment, by the tests on the way. The deal is not hashed: over equal bytes the node is the segment's own commitment.
-use mathlib.Core.Path.{_≡_, refl, sym, ap, ap₂, _∙_}
-use mathlib.Core.Bool.{Bool, true, false, _&&_, true≢false}
+use mathlib.Core.Path.{_≡_, refl, sym, ap, _∙_}
+use mathlib.Core.Bool.{Bool, true, false}
 use mathlib.Core.List.{List}
 use Prim.Native.Nat.{ℕ, _+_, _≤_, _<_}
 use native.Mathlib.Nat.{add-zero}
@@ -8,31 +8,22 @@ use native.Mathlib.Omega.{arith}
 use lib.Dec.{eqb}
 use lib.ListN.{length}
 use borrow.Author.Tests.{eqb-true, eq-eqb}
-use Rattle.octets.specs.Choice.{choose}
-use Rattle.octets.specs.RefusalLaws.{and-left, and-right, and-both, not-passed}
 use Rattle.octets.specs.Equality.{sameBytes}
 use Rattle.octets.specs.EqualityLaws.{same-true, same-of, same-false}
 use Rattle.octets.specs.LittleEndian.{numberOf}
+use Rattle.octets.specs.RefusalLaws.{and-left, and-right, not-passed}
 use Rattle.octets.specs.Splice.{part}
 use Rattle.octets.specs.SpliceLaws.{part-part}
 use Rattle.merkle.specs.Tree.{commitmentOf, nodeAt}
-use Rattle.entries.specs.Sizes.{area, entryCount, slotPlace, segmentLevel, segmentPosition}
-use Rattle.entries.specs.SizesLaws.{DealSize, segment-size, segment-place, slot-allowed, entry-place}
 use Rattle.entries.specs.Entry.{commitmentIn, offsetIn, sizeIn}
-use Rattle.index.specs.Slots.{slotAt, standing, kept, free, holds, rowOf, rowAt}
-use Rattle.index.specs.SlotsLaws.{Stands, stands, keeps}
+use Rattle.entries.specs.Sizes.{area, slotPlace, segmentLevel, segmentPosition}
+use Rattle.entries.specs.SizesLaws.{DealSize, segment-size, segment-place}
 use Rattle.index.specs.KeptLaws.{row-stands, kept-stands, segment-node}
+use Rattle.index.specs.Slots.{slotAt, standing, kept, rowAt}
+use Rattle.index.specs.SlotsLaws.{Stands, stands, keeps}
 use Rattle.booking.specs.Booking.{keepsSegment, segmentCommitment}
 use Rattle.booking.specs.Gather.{rowOffset, rowArea}
-
--- a row that has bytes is that of a standing entry
-bytes-stand : (d : ℕ) (entry : List ℕ) → 0 < rowArea (rowOf d entry) → standing d entry ≡ true
-unfolding rowOf
-bytes-stand d entry = by-test (standing d entry)
-  where
-    by-test : (b : Bool) → 0 < rowArea (choose b (holds (commitmentIn entry) (offsetIn entry) (sizeIn entry)) free) → b ≡ true
-    by-test true h = refl
-    by-test false h = absurd (omega arith)
+use Rattle.booking.specs.GatherLaws.{row-some}
 
 module _ (deal segment : List ℕ) (i : ℕ) where
   module _ (e : keepsSegment deal segment i ≡ true) where
@@ -82,7 +73,7 @@ module _ (deal segment : List ℕ) (i : ℕ) where
     -- an entry that agrees in all three: its bytes decide
     module _ (a : 0 < rowArea (rowAt deal i)) (z : sizeIn (slotAt deal i) ≡ length segment) (n : sameBytes (commitmentIn (slotAt deal i)) (segmentCommitment segment) ≡ true) where
       stood : standing (length deal) (slotAt deal i) ≡ true
-      stood = bytes-stand (length deal) (slotAt deal i) a
+      stood = row-some (length deal) (slotAt deal i) a
 
       pub offset-there : rowOffset (rowAt deal i) ≡ offsetIn (slotAt deal i)
       offset-there = ap rowOffset (row-stands (length deal) (slotAt deal i) stood)

@@ -1,4 +1,4 @@
-pub mod Found
+pub mod Searching
 pub mod Jump
 pub mod GatherTurn
 pub mod KeepingSlot

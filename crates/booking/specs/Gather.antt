@@ -1,4 +1,5 @@
--- The ranges of a deal's standing entries, gathered slot by slot into two lists, and the searches of booking over such lists.
+-- The ranges of a deal's standing entries, gathered slot by slot into two lists, and the searches of booking over them, with
+-- which the contracts of the code are stated. They are those of Room, over the rows (GatherLaws).
 use mathlib.Core.Path.{_≡_}
 use mathlib.Core.Bool.{Bool}
 use mathlib.Core.List.{List}

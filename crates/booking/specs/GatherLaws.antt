@@ -2,21 +2,20 @@
 use mathlib.Core.Path.{_≡_, refl, sym, ap, ap₂, _∙_}
 use mathlib.Core.Bool.{Bool, true, false}
 use mathlib.Core.List.{List}
-use Prim.Native.Nat.{ℕ, suc, _+_, _*_, _/_, _≤_, _<_}
+use Prim.Native.Nat.{ℕ, _+_, _*_, _/_, _≤_, _<_}
 use native.Mathlib.Omega.{arith}
 use lib.Dec.{eqb}
-use lib.ListN.{length, getD}
 use borrow.Author.Tests.{le-ltb, ne-eqb}
-use Rattle.octets.specs.Choice.{choose}
 use Rattle.octets.specs.Search.{lowest}
 use Rattle.octets.specs.SearchLaws.{lowest-cong}
+use Rattle.entries.specs.Entry.{offsetIn, sizeIn}
 use Rattle.entries.specs.Sizes.{lentSizeAllowed, area, entryCount, indexStart, slotPlace}
 use Rattle.entries.specs.SizesLaws.{DealSize, lent-size, segment-size, segment-place, slot-allowed, entry-place}
-use Rattle.entries.specs.Entry.{commitmentIn, offsetIn, sizeIn}
+use Rattle.index.specs.KeptLaws.{row-stands, row-free}
 use Rattle.index.specs.Slots.{Row, free, holds, standing, rowOf}
 use Rattle.index.specs.SlotsLaws.{stands}
-use Rattle.booking.specs.Room.{overlap, rowOverlaps, isFree, isMissing, lowestFreeSlot, lowestPlace}
 use Rattle.booking.specs.Gather.{rowOffset, rowArea, Gathered, EndBy, emptyAt, overlapsAt, roomAt}
+use Rattle.booking.specs.Room.{overlap, rowOverlaps, isFree, isMissing, lowestFreeSlot, lowestPlace}
 
 -- a free row has no bytes, and so overlaps nothing
 pub row-overlaps : (o n : ℕ) (row : Row) → rowOverlaps o n row ≡ overlap o n (rowOffset row) (rowArea row)
@@ -28,25 +27,31 @@ row-overlaps o n (holds commitment offset size) = refl
 module _ (d : ℕ) (entry : List ℕ) (t : DealSize d) where
   -- ends by the index start
   pub row-ends : rowOffset (rowOf d entry) + rowArea (rowOf d entry) ≤ indexStart d
-  unfolding rowOf
   row-ends = by-test (standing d entry) refl
     where
-      by-test : (b : Bool) → standing d entry ≡ b
-          → rowOffset (choose b (holds (commitmentIn entry) (offsetIn entry) (sizeIn entry)) free) + rowArea (choose b (holds (commitmentIn entry) (offsetIn entry) (sizeIn entry)) free) ≤ indexStart d
+      by-test : (b : Bool) → standing d entry ≡ b → rowOffset (rowOf d entry) + rowArea (rowOf d entry) ≤ indexStart d
       by-test true e =
           let s = stands d entry e in
-          segment-place d (offsetIn entry) (sizeIn entry) t (segment-size d (sizeIn entry) t (s .size-allowed)) (s .offset-allowed) .ends
-      by-test false e = omega arith
+          rw (row-stands d entry e) (segment-place d (offsetIn entry) (sizeIn entry) t (segment-size d (sizeIn entry) t (s .size-allowed)) (s .offset-allowed) .ends)
+      by-test false e = rw (row-free d entry e) (omega arith)
 
   -- is free exactly if it has no bytes
   pub row-empty : eqb (rowArea (rowOf d entry)) 0 ≡ isFree (rowOf d entry)
-  unfolding rowOf
   row-empty = by-test (standing d entry) refl
     where
-      by-test : (b : Bool) → standing d entry ≡ b
-          → eqb (rowArea (choose b (holds (commitmentIn entry) (offsetIn entry) (sizeIn entry)) free)) 0 ≡ isFree (choose b (holds (commitmentIn entry) (offsetIn entry) (sizeIn entry)) free)
-      by-test true e = let z = segment-size d (sizeIn entry) t (stands d entry e .size-allowed) in ne-eqb (area (sizeIn entry)) 0 (λ q. omega (arith, z .area-low))
-      by-test false e = refl
+      by-test : (b : Bool) → standing d entry ≡ b → eqb (rowArea (rowOf d entry)) 0 ≡ isFree (rowOf d entry)
+      by-test true e =
+          let z = segment-size d (sizeIn entry) t (stands d entry e .size-allowed) in
+          rw (row-stands d entry e) (ne-eqb (area (sizeIn entry)) 0 (λ q. omega (arith, z .area-low)))
+      by-test false e = rw (row-free d entry e)
+
+-- a row that has bytes is that of a standing entry
+pub row-some : (d : ℕ) (entry : List ℕ) → 0 < rowArea (rowOf d entry) → standing d entry ≡ true
+row-some d entry h = by-test (standing d entry) refl
+  where
+    by-test : (b : Bool) → standing d entry ≡ b → b ≡ true
+    by-test true e = refl
+    by-test false e = absurd (omega (arith, ap rowArea (row-free d entry e)))
 
 -- the number of slots of a lent deal
 pub slots-high : (d : ℕ) → lentSizeAllowed d ≡ true → entryCount d ≤ 128

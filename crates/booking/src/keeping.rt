@@ -9,26 +9,20 @@ ghost use Rattle.octets.specs.Search.{lowest};
 ghost use Rattle.entries.specs.Sizes.{lentSizeAllowed, segmentSizeAllowed, entryCount};
 ghost use Rattle.index.specs.Slots.{rowAt};
 ghost use Rattle.booking.specs.Booking.{keepsSegment, segmentCommitment};
-ghost use Rattle.booking.specs.Gather.{rowOffset, rowArea, Gathered, asLowest};
+ghost use Rattle.booking.specs.Gather.{Gathered, asLowest};
 
-// Whether slot i of a lent deal, whose range is given, keeps the segment: its entry has the segment's size and commitment, and
-// exactly the segment's bytes are at its offset. The commitment of those bytes is then the segment's: the deal is not hashed.
-fn slot_keeps(
-    deal: &[u8],
-    segment: &[u8],
-    commitment: [u8; 32],
-    i: usize,
-    offset: u64,
-    area: u64,
-) -> bool
+// Whether slot i of a lent deal keeps the segment: its entry stands and has the segment's size and commitment, and exactly the
+// segment's bytes are at its offset. The commitment of those bytes is then the segment's: the deal is not hashed.
+fn slot_keeps(deal: &[u8], segment: &[u8], commitment: [u8; 32], ranges: Ranges, i: usize) -> bool
     requires { ⌜ lentSizeAllowed (length (now deal)) ≡ true ⌝ }
     requires { ⌜ segmentSizeAllowed (length (now deal)) (length (now segment)) ≡ true ⌝ }
     requires { ⌜ commitment ≡ segmentCommitment (now segment) ⌝ }
-    requires { ⌜ (i < entryCount (length (now deal))) × (offset ≡ rowOffset (rowAt (now deal) i)) × (area ≡ rowArea (rowAt (now deal) i)) ⌝ }
+    requires { ⌜ Gathered (rowAt (now deal)) (entryCount (length (now deal))) (ranges .offsets) (ranges .areas) ⌝ }
+    requires { ⌜ i < entryCount (length (now deal)) ⌝ }
     ensures { λ r. ⌜ r ≡ keepsSegment (now (deal .entry)) (now (segment .entry)) i ⌝ }
 {
     let size = segment.len() as u64;
-    if area != entries::area(size) {
+    if ranges.areas[i] != entries::area(size) {
         return false;
     }
     let place = entries::slot_place(deal.len() as u64, i as u64) as usize;
@@ -38,7 +32,7 @@ fn slot_keeps(
     if !octets::same_at(deal, place, &commitment) {
         return false;
     }
-    octets::same_at(deal, offset as usize, segment)
+    octets::same_at(deal, ranges.offsets[i] as usize, segment)
 }
 
 // The lowest slot of a lent deal that keeps the segment.
@@ -52,14 +46,7 @@ pub fn lowest_keeping(deal: &[u8], segment: &[u8], commitment: [u8; 32], ranges:
     let slots = entries::entry_count(deal.len() as u64) as usize;
     let mut i: usize = 0;
     while i < slots {
-        if slot_keeps(
-            deal,
-            segment,
-            commitment,
-            i,
-            ranges.offsets[i],
-            ranges.areas[i],
-        ) {
+        if slot_keeps(deal, segment, commitment, ranges, i) {
             return Lowest::At(i);
         }
         i += 1;

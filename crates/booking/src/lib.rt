@@ -1,8 +1,8 @@
 // Booking a segment in a deal.
-mod booking;
-mod gathering;
-mod keeping;
-mod room;
+mod booking; // booking.rt: the place for a segment, and writing it there
+mod gathering; // gathering.rt: the standing entries, each read once
+mod keeping; // keeping.rt: a segment that is kept already
+mod room; // room.rt: the lowest free slot and the lowest free place
 
 pub use booking::book;
 
@@ -13,13 +13,13 @@ pub struct Booked {
     pub place: u64,
 }
 
-// The bytes of the standing entries, slot by slot: offset and area. Both are 0 for a free slot.
+// Where the bytes of the standing entries lie, slot by slot: offset and area. Both are 0 for a free slot.
 pub struct Ranges {
     pub offsets: [u64; 128],
     pub areas: [u64; 128],
 }
 
-// The lowest number of a range that passes a test.
+// The lowest number that passes a test.
 pub enum Lowest {
     At(usize),
     Nothing,

@@ -1,4 +1,4 @@
--- Demand 2: whatever is built from a kept entry is accepted against its deal's commitment and size.
+-- Demand 2: whatever is built from a kept entry is accepted against its deal's commitment and size; a segment already kept is never booked again in that deal.
 use mathlib.Core.Path.{_≡_, refl, sym, ap, ap₂, _∙_, subst}
 use mathlib.Core.Bool.{Bool, true, false}
 use Prim.Native.Nat.{ℕ, zero, suc, _≤_}
@@ -24,6 +24,9 @@ use Rattle.octets.specs.Refusals.{firstRefusal, unlessRefused}
 use Rattle.record.specs.Form.{encode}
 use Rattle.build.specs.declared.BuildAnswer.{BuildAnswer}
 use Rattle.build.specs.Build.{LentDeal, lentDeal, buildRules, dealSize, termsOf, fieldsFor, Building, built, notBuilt, recordAt, answerFor, outputFor, buildAnswer, buildOutput}
+use Rattle.booking.specs.Booking.{bookAnswer, bookedDeal}
+use Rattle.booking.specs.Run.{runBookings}
+use Rattle.booking.specs.NeverAgain.{never-again, kept-for-good}
 use Rattle.build.specs.BuildLaws.{Builds, build-means, commitment-length, built-parses, built-accepted}
 
 -- for any source of nodes that is a tree over the deal
@@ -61,3 +64,12 @@ built-is-accepted deal b place out e =
     let p = lent-size (length deal) (m .lent) .deal .is-power in
     ap (λ (c : List ℕ). checkOf (dealTerms c (length deal)) r) (sym (top-node deal (dealLevel (length deal)) p))
     ∙ built-checks (lentDeal deal) (run-tree deal (dealLevel (length deal)) p) b place r w
+
+-- Demand 2. A segment that was booked with code 0 gets 15, with the same offset and entry place, whatever is booked in between.
+pub never-booked-again : (deal segment : List ℕ) → bookAnswer deal segment .code ≡ 0 → (later : List (List ℕ))
+    → bookAnswer (runBookings (bookedDeal deal segment) later) segment ≡ record { code = 15; offset = bookAnswer deal segment .offset; place = bookAnswer deal segment .place }
+never-booked-again = never-again
+
+-- and one that a deal keeps to begin with goes on getting 15
+pub kept-never-booked : (deal segment : List ℕ) (later : List (List ℕ)) → bookAnswer deal segment .code ≡ 15 → bookAnswer (runBookings deal later) segment ≡ bookAnswer deal segment
+kept-never-booked = kept-for-good

@@ -1,29 +1,11 @@
--- Document 01, "Table to be proved (P1 to P12)".
-use mathlib.Core.Path.{_≡_, refl, sym, ap, _∙_}
-use Prim.Native.Nat.{ℕ, zero, suc, _+_, _-_, _*_, _/_, _%_, _^_, _≤_, _<_}
-use native.Mathlib.Omega.{arith}
-use mathlib.Core.List.{List, [], _∷_, _++_}
-use lib.ListN.{length, length-append}
+-- Document 01, "Table to be proved (P1 to P12)". The lengths of records are those of `Rattle.build.specs.EncodeLaws.built-length`.
+use mathlib.Core.Path.{_≡_, refl}
+use Prim.Native.Nat.{ℕ, _^_}
+use mathlib.Core.List.{[], _∷_}
 use lib.Count.{ones, trailingZeros}
 use Rattle.octets.specs.Refusals.{rule, firstRefusal}
-use Rattle.octets.specs.LittleEndian.{bytesOf}
-use Rattle.octets.specs.LittleEndianLaws.{length-bytesOf}
-use Rattle.entries.specs.Sizes.{segmentSizeAllowed, area, entryCount, indexStart, offsetAllowed, placeAllowed, dealLevel, segmentLevel, segmentPathLevels, entryPathLevels}
-use Rattle.record.specs.Form.{Fields, putField, writeContents, encode}
-
--- the length of an accepted record, by the deal size and the segment size
-unfoldable pub recordLength : ℕ → ℕ → ℕ
-recordLength d size = 74 + 32 * segmentPathLevels d size + 32 * entryPathLevels d
-
-put-length : (tag : ℕ) (c rest : List ℕ) → length (putField tag c rest) ≡ 3 + length c + length rest
-unfolding putField
-put-length tag c rest = simp length-append (omega arith)
-
--- every record with paths of the right lengths has that length
-pub record-length : (d : ℕ) (x : Fields) → length (x .commitment) ≡ 32 → length (x .segmentPath) ≡ 32 * segmentPathLevels d (x .size) → length (x .entryPath) ≡ 32 * entryPathLevels d
-    → length (encode x) ≡ recordLength d (x .size)
-unfolding encode writeContents recordLength
-record-length d x c s e = simp (put-length, length-bytesOf) (omega arith)
+use Rattle.entries.specs.Sizes.{segmentSizeAllowed, area, entryCount, indexStart, offsetAllowed, placeAllowed, dealLevel, segmentLevel}
+use Rattle.build.specs.Encode.{recordLength}
 
 -- rules 4 to 6 of the check, for a deal size, a segment size and offset, and an entry place
 unfoldable pub numbersCode : ℕ → ℕ → ℕ → ℕ → ℕ

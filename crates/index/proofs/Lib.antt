@@ -2,3 +2,4 @@ pub mod SlotAnswers
 pub mod SegmentNode
 pub mod Keeping
 pub mod View
+pub mod SlotStates

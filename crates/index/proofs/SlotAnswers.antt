@@ -52,7 +52,7 @@ module _ (nodes : NodeSource) (d : ℕ) (entry : List ℕ) (answer : Standing) (
   kept-free h = free-answer h ∙ rw (free-not-kept h)
 
   -- an entry that stands is kept by the node over its segment
-  kept-test : answer .stands ≡ true → kept nodes d entry ≡ nodeTest nodes answer
+  pub kept-test : answer .stands ≡ true → kept nodes d entry ≡ nodeTest nodes answer
   unfolding kept
   kept-test h =
       let s = answer-stands d entry answer e h in

@@ -1,5 +1,6 @@
 pub mod Slots
 pub mod Find
+pub mod Inspect
 pub mod SlotsLaws
 pub mod FindLaws
 pub mod KeptLaws

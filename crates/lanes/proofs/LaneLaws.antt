@@ -1,13 +1,13 @@
--- Writing one lane of four.
+-- One lane of four.
 use mathlib.Core.Path.{_≡_, refl, sym, _∙_}
 use mathlib.Core.List.{List}
-use Prim.Native.Nat.{ℕ, _+_, _*_, _%_, _≤_, _<_}
+use Prim.Native.Nat.{ℕ, _+_, _*_, _/_, _%_, _<_}
 use native.Mathlib.Omega.{arith}
 use borrow.Author.Count.{below-more}
 use lib.ListN.{length, getD, set, length-set}
 use lib.Seq.{getD-set-same, getD-set-other}
 use Rattle.sha256.specs.Table.{table}
-use Rattle.sha256.specs.TableLaws.{table-ext, as-table}
+use Rattle.sha256.specs.TableLaws.{getD-table, table-ext, as-table}
 use Rattle.lanes.specs.Lanes.{lane}
 
 module _ (s words : List ℕ) (l : ℕ) where
@@ -38,3 +38,12 @@ module _ (s words : List ℕ) (l : ℕ) where
 
   pub lane-other : (r : List ℕ) (q : ℕ) → l < 4 → q < 4 → (q ≡ l → ⊥) → Written 8 r → lane 8 r q ≡ lane 8 s q
   lane-other r q a b ne c = table-ext (λ t. getD r (4 * t + q) 0) (λ t. getD s (4 * t + q) 0) 8 (λ t h. c .others (4 * t + q) (λ k. ne (omega arith)))
+
+-- the same words in each lane
+pub lane-same : (words : List ℕ) (l : ℕ) → length words ≡ 8 → l < 4 → lane 8 (table (λ i. getD words (i / 4) 0) 32) l ≡ words
+lane-same words l e h =
+    table-ext (λ t. getD (table (λ i. getD words (i / 4) 0) 32) (4 * t + l) 0) (λ t. getD words t 0) 8
+    (λ t b.
+    let q : (4 * t + l) / 4 ≡ t = omega arith in
+    rw (getD-table (λ i. getD words (i / 4) 0) 32 (4 * t + l) (omega arith), q))
+    ∙ sym (as-table words 8 e)

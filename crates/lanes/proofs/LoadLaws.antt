@@ -9,7 +9,6 @@ use Rattle.octets.specs.SpliceLaws.{part-length, getD-part}
 use Rattle.sha256.specs.Table.{table}
 use Rattle.sha256.specs.Fips.{wordAt}
 use Rattle.sha256.specs.TableLaws.{getD-table, table-ext, table-more}
-use Rattle.lanes.specs.Lanes.{lane}
 use Rattle.lanes.specs.NodeWords.{wordsOf, Holds}
 
 -- word j of the four
@@ -23,8 +22,10 @@ word-of run step at t l j p e h g =
     rw (e, a, b, g)
 
 -- one turn: word t of each lane
-pub load-more : (run m : List ℕ) (step at t j a b c d : ℕ) → j ≡ 4 * t → 4 * t + 4 ≤ length m → take (4 * t) m ≡ table (laneWord run step at) (4 * t)
-    → a ≡ wordAt run (at + 4 * t) → b ≡ wordAt run (at + 4 * t + step) → c ≡ wordAt run (at + 4 * t + 2 * step) → d ≡ wordAt run (at + 4 * t + 3 * step)
+pub load-more : (run m : List ℕ) (step at t j a b c d : ℕ) → j ≡ 4 * t → 4 * t + 4 ≤ length m
+    → take (4 * t) m ≡ table (laneWord run step at) (4 * t)
+    → a ≡ wordAt run (at + 4 * t) → b ≡ wordAt run (at + 4 * t + step) → c ≡ wordAt run (at + 4 * t + 2 * step)
+    → d ≡ wordAt run (at + 4 * t + 3 * step)
     → take (4 * (t + 1)) (set (set (set (set m j a) (j + 1) b) (j + 2) c) (j + 3) d) ≡ table (laneWord run step at) (4 * (t + 1))
 load-more run m step at t j a b c d ej h e ea eb ec ed =
     let f : ℕ → ℕ = laneWord run step at in
@@ -65,7 +66,8 @@ words-at run p =
     ))
 
 -- all words: each lane holds its node
-pub load-lane : (run m : List ℕ) (step at l : ℕ) → l < 4 → at + 32 + 3 * step ≤ length run → m ≡ table (laneWord run step at) 32 → Holds m l (part run (at + l * step) 32)
+pub load-lane : (run m : List ℕ) (step at l : ℕ) → l < 4 → at + 32 + 3 * step ≤ length run → m ≡ table (laneWord run step at) 32
+    → Holds m l (part run (at + l * step) 32)
 load-lane run m step at l h room e =
     record {
       sized = part-length run (at + l * step) 32 (lane-fits at step 32 l (length run) h room);

@@ -1,13 +1,13 @@
 -- Rounds and sums, lane by lane.
-use mathlib.Core.Path.{_≡_, refl, sym, ap, _∙_}
-use mathlib.Core.List.{List, [], _∷_}
+use mathlib.Core.Path.{_≡_, sym, ap, _∙_}
+use mathlib.Core.List.{List}
 use Prim.Native.Nat.{ℕ, zero, suc, _+_, _*_, _≤_, _<_}
 use native.Mathlib.Nat.{add-zero, add-suc}
 use native.Mathlib.Omega.{arith}
-use lib.ListN.{length, getD, drop, replicate, getD-replicate}
+use lib.ListN.{getD, drop, replicate, getD-replicate}
 use lib.Seq.{getD-drop}
 use Rattle.sha256.specs.Table.{table}
-use Rattle.sha256.specs.Fips.{_⊞_, rounds, round, sums, initial}
+use Rattle.sha256.specs.Fips.{_⊞_, rounds, sums}
 use Rattle.sha256.specs.TableLaws.{getD-table, table-ext}
 use Rattle.sha256.specs.BlockLaws.{rounds-same}
 use Rattle.lanes.specs.Lanes.{lane}
@@ -20,7 +20,8 @@ rounds-add k w h i (suc n) = rw (add-suc, rounds-add k w h i n, getD-drop i k n 
 
 -- eight more rounds of a lane
 pub lane-rounds : (k w s h r : List ℕ) (i j l : ℕ) → i + 8 ≤ 64 → l < 4 → j ≡ i + 8 → lane 8 s l ≡ rounds k (lane 64 w l) h i
-    → lane 8 r l ≡ rounds (table (λ n. getD k (i + n) 0) 8) (lane 8 (table (λ n. getD w (4 * i + n) 0) 32) l) (lane 8 s l) 8 → lane 8 r l ≡ rounds k (lane 64 w l) h j
+    → lane 8 r l ≡ rounds (table (λ n. getD k (i + n) 0) 8) (lane 8 (table (λ n. getD w (4 * i + n) 0) 32) l) (lane 8 s l) 8
+    → lane 8 r l ≡ rounds k (lane 64 w l) h j
 lane-rounds k w s h r i j l fits b ej e f =
     let kf : ℕ → ℕ = λ n. getD k (i + n) 0 in
     let wf : ℕ → ℕ = λ n. getD w (4 * i + n) 0 in
@@ -57,19 +58,3 @@ lane-sums h s l b =
 -- a lane of zeros
 pub lane-zero : (l i : ℕ) → l < 4 → i < 64 → getD (lane 64 (replicate 256 0) l) i 0 ≡ 0
 lane-zero l i b h = getD-table (λ t. getD (replicate 256 0) (4 * t + l) 0) 64 i h ∙ getD-replicate 256 (4 * i + l) 0 0 (omega arith)
-
--- the initial hash value in each lane
-abbrev pub initial4 : List ℕ
-initial4 =
-    0x6a09e667 ∷ 0x6a09e667 ∷ 0x6a09e667 ∷ 0x6a09e667 ∷ 0xbb67ae85 ∷ 0xbb67ae85 ∷ 0xbb67ae85 ∷ 0xbb67ae85 ∷
-    0x3c6ef372 ∷ 0x3c6ef372 ∷ 0x3c6ef372 ∷ 0x3c6ef372 ∷ 0xa54ff53a ∷ 0xa54ff53a ∷ 0xa54ff53a ∷ 0xa54ff53a ∷
-    0x510e527f ∷ 0x510e527f ∷ 0x510e527f ∷ 0x510e527f ∷ 0x9b05688c ∷ 0x9b05688c ∷ 0x9b05688c ∷ 0x9b05688c ∷
-    0x1f83d9ab ∷ 0x1f83d9ab ∷ 0x1f83d9ab ∷ 0x1f83d9ab ∷ 0x5be0cd19 ∷ 0x5be0cd19 ∷ 0x5be0cd19 ∷ 0x5be0cd19 ∷ []
-
-pub lane-initial : (l : ℕ) → l < 4 → lane 8 initial4 l ≡ initial
-unfolding table
-lane-initial zero h = refl
-lane-initial (suc zero) h = refl
-lane-initial (suc (suc zero)) h = refl
-lane-initial (suc (suc (suc zero))) h = refl
-lane-initial (suc (suc (suc (suc l)))) h = let z : ⊥ = omega arith in absurd z

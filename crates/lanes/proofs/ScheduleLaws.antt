@@ -1,10 +1,10 @@
 -- Four schedules side by side, lane by lane.
 use mathlib.Core.Path.{_≡_, refl, sym, ap, ap₂, _∙_}
 use mathlib.Core.List.{List, _++_}
-use Prim.Native.Nat.{ℕ, suc, _+_, _-_, _*_, _≤_, _<_}
+use Prim.Native.Nat.{ℕ, _+_, _-_, _*_, _≤_, _<_}
 use native.Mathlib.Omega.{arith}
 use borrow.Author.Count.{below-more}
-use lib.ListN.{length, getD, set, take, drop, length-set, length-drop, List·getD-append}
+use lib.ListN.{length, getD, set, take, drop, length-drop, List·getD-append}
 use lib.Seq.{getD-set-same, getD-set-other, getD-take, getD-append-add, take-at, take-all, take-add, take-set-le, drop-set-add, drop-set-lt}
 use Rattle.sha256.specs.Table.{table}
 use Rattle.sha256.specs.Fips.{scheduleWord, schedule}
@@ -14,18 +14,21 @@ use Rattle.lanes.specs.Lanes.{lane}
 
 -- one turn of a loop that writes two lists of n elements one after the other
 module _ (left right w : List ℕ) (n i : ℕ) (below : i < n) (room : n + n ≤ length w) where
-  pub left-more : take i w ≡ table (λ j. getD left j 0) i → take (i + 1) (set (set w i (getD left i 0)) (n + i) (getD right i 0)) ≡ table (λ j. getD left j 0) (i + 1)
+  pub left-more : take i w ≡ table (λ j. getD left j 0) i
+      → take (i + 1) (set (set w i (getD left i 0)) (n + i) (getD right i 0)) ≡ table (λ j. getD left j 0) (i + 1)
   left-more e =
       take-set-le (i + 1) (set w i (getD left i 0)) (n + i) (getD right i 0) (omega arith)
       ∙ table-more (λ j. getD left j 0) w i (i + 1) (getD left i 0) (omega arith) (omega arith) e refl
 
-  pub right-more : take i (drop n w) ≡ table (λ j. getD right j 0) i → take (i + 1) (drop n (set (set w i (getD left i 0)) (n + i) (getD right i 0))) ≡ table (λ j. getD right j 0) (i + 1)
+  pub right-more : take i (drop n w) ≡ table (λ j. getD right j 0) i
+      → take (i + 1) (drop n (set (set w i (getD left i 0)) (n + i) (getD right i 0))) ≡ table (λ j. getD right j 0) (i + 1)
   right-more e =
       ap (take (i + 1)) (drop-set-add n (set w i (getD left i 0)) i (getD right i 0) ∙ ap (λ (x : List ℕ). set x i (getD right i 0)) (drop-set-lt n w i (getD left i 0) below))
       ∙ table-more (λ j. getD right j 0) (drop n w) i (i + 1) (getD right i 0) (omega arith) (simp length-drop (omega arith)) e refl
 
 -- both are written
-pub both-written : (left right w : List ℕ) (n : ℕ) → length left ≡ n → length right ≡ n → take n w ≡ table (λ j. getD left j 0) n → take n (drop n w) ≡ table (λ j. getD right j 0) n
+pub both-written : (left right w : List ℕ) (n : ℕ) → length left ≡ n → length right ≡ n → take n w ≡ table (λ j. getD left j 0) n
+    → take n (drop n w) ≡ table (λ j. getD right j 0) n
     → take (n + n) w ≡ left ++ right
 both-written left right w n a b e f = take-add n n w ∙ ap₂ _++_ (e ∙ sym (as-table left n a)) (f ∙ sym (as-table right n b))
 
@@ -62,7 +65,8 @@ back : (t d l : ℕ) → d ≤ t → 4 * t + l - 4 * d ≡ 4 * (t - d) + l
 back t d l h = omega arith
 
 -- a lane of the four schedules is the schedule of the lane's block
-pub lane-schedule : (w left right : List ℕ) (l : ℕ) → l < 4 → length left ≡ 32 → take 64 w ≡ left ++ right → ((p : ℕ) → p < 256 → 64 ≤ p → getD w p 0 ≡ word4 w p)
+pub lane-schedule : (w left right : List ℕ) (l : ℕ) → l < 4 → length left ≡ 32 → take 64 w ≡ left ++ right
+    → ((p : ℕ) → p < 256 → 64 ≤ p → getD w p 0 ≡ word4 w p)
     → lane 64 w l ≡ schedule (lane 8 left l ++ lane 8 right l)
 lane-schedule w left right l h sized e all =
     let f : ℕ → ℕ = λ t. getD w (4 * t + l) 0 in

@@ -16,42 +16,6 @@ ghost use Rattle.sha256.specs.Fips as F;
 ghost use Rattle.node.specs.PaddingBlock.{paddingBlock};
 ghost use Rattle.lanes.specs.Lanes.{lane};
 
-// The initial hash value in each lane.
-pub const INITIAL4: [u32; 32] = [
-    0x6a09e667,
-    0x6a09e667,
-    0x6a09e667,
-    0x6a09e667,
-    0xbb67ae85,
-    0xbb67ae85,
-    0xbb67ae85,
-    0xbb67ae85,
-    0x3c6ef372,
-    0x3c6ef372,
-    0x3c6ef372,
-    0x3c6ef372,
-    0xa54ff53a,
-    0xa54ff53a,
-    0xa54ff53a,
-    0xa54ff53a,
-    0x510e527f,
-    0x510e527f,
-    0x510e527f,
-    0x510e527f,
-    0x9b05688c,
-    0x9b05688c,
-    0x9b05688c,
-    0x9b05688c,
-    0x1f83d9ab,
-    0x1f83d9ab,
-    0x1f83d9ab,
-    0x1f83d9ab,
-    0x5be0cd19,
-    0x5be0cd19,
-    0x5be0cd19,
-    0x5be0cd19,
-];
-
 // Eight words from a place on.
 fn eight_at(w: &[u32; 64], at: usize) -> [u32; 8]
     requires { ⌜ at + 8 ≤ 64 ⌝ }

@@ -1,6 +1,6 @@
 // The words of one lane.
 ghost use mathlib.Core.Path.{_≡_};
-ghost use Prim.Native.Nat.{_<_};
+ghost use Prim.Native.Nat.{ℕ, _<_};
 ghost use lib.ListN.{length};
 ghost use Rattle.lanes.specs.Lanes.{lane, LanePut};
 
@@ -28,4 +28,17 @@ pub fn put_lane(s: &mut [u32; 32], l: usize, words: [u32; 8])
         s[4 * t + l] = words[t];
         t += 1;
     }
+}
+
+// The same eight words in each lane.
+pub fn in_each_lane(words: [u32; 8]) -> [u32; 32]
+    ensures { λ r. ⌜ ((l : ℕ) → l < 4 → lane 8 r l ≡ words) ⌝ }
+{
+    let mut lanes = [0u32; 32];
+    let mut i = 0;
+    while i < 32 {
+        lanes[i] = words[i / 4];
+        i += 1;
+    }
+    lanes
 }

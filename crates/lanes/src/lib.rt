@@ -5,6 +5,7 @@ mod load; // load.rt: the words of four nodes
 mod schedule; // schedule.rt: four schedules
 
 pub use load::load_nodes;
+use sha256::INITIAL;
 use sha256::digest;
 ghost use mathlib.Core.Path.{_≡_};
 ghost use mathlib.Core.List.{List, _++_};
@@ -12,7 +13,7 @@ ghost use Prim.Native.Nat.{ℕ, _<_};
 ghost use Rattle.sha256.specs.Fips as F;
 ghost use Rattle.node.specs.Node.{nodeHash};
 ghost use Rattle.lanes.specs.Lanes.{lane};
-ghost use Rattle.lanes.specs.NodeWords.{clearedWord, cleared, nodeWords, Holds};
+ghost use Rattle.lanes.specs.NodeWords.{clearedWord, cleared, Holds};
 
 // A word with bits 7 and 6 of its last byte cleared.
 fn clear(x: u32) -> u32
@@ -37,7 +38,7 @@ fn clear4(s: [u32; 32]) -> [u32; 32]
 pub fn hash_nodes(left: [u32; 32], right: [u32; 32]) -> [u32; 32]
     ensures { λ r. ⌜ ((l : ℕ) → l < 4 → (x y : List ℕ) → Holds left l x → Holds right l y → Holds r l (nodeHash (x ++ y))) ⌝ }
 {
-    let hash = block::INITIAL4;
+    let hash = lane::in_each_lane(INITIAL);
     clear4(block::finish4(block::compress4(hash, left, right)))
 }
 

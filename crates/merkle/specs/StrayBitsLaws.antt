@@ -1,5 +1,5 @@
 -- Laws of stray bits: byte 31 of every node, and a walk over the nodes.
-use mathlib.Core.Path.{_≡_, refl, sym, ap, ap₂, _∙_}
+use mathlib.Core.Path.{_≡_, refl, ap, _∙_}
 use mathlib.Core.Bool.{Bool, true, false, _&&_}
 use mathlib.Core.List.{List}
 use Prim.Native.Nat.{ℕ, zero, suc, _+_, _-_, _*_, _/_, _≤_, _<_}
@@ -45,7 +45,8 @@ nodes-clear (suc n) run e (suc i) h =
     (nodes-clear n (drop 32 run) (and-right (clearNode (take 32 run)) (clearNodes n (drop 32 run)) e) i (omega arith))
 
 -- turns of a walk over n nodes, with i of them passed
-open-node : (run : List ℕ) (n i : ℕ) → i < n → clearNodes (n - i) (drop (i * 32) run) ≡ (clearNode (take 32 (drop (i * 32) run)) && clearNodes (n - (i + 1)) (drop ((i + 1) * 32) run))
+open-node : (run : List ℕ) (n i : ℕ) → i < n
+    → clearNodes (n - i) (drop (i * 32) run) ≡ (clearNode (take 32 (drop (i * 32) run)) && clearNodes (n - (i + 1)) (drop ((i + 1) * 32) run))
 unfolding clearNodes
 open-node run n i h =
     let e : n - i ≡ suc (n - (i + 1)) = omega arith in
@@ -56,7 +57,8 @@ open-node run n i h =
 byte-31 : (run : List ℕ) (i : ℕ) → getD (take 32 (drop (i * 32) run)) 31 0 ≡ getD run (i * 32 + 31) 0
 byte-31 run i = getD-take 32 (drop (i * 32) run) 31 0 (omega arith) ∙ getD-drop (i * 32) run 31 0
 
-pub walk-more : (run : List ℕ) (n i : ℕ) → i < n → getD run (i * 32 + 31) 0 < 64 → clearNodes (n - i) (drop (i * 32) run) ≡ clearNodes (n - (i + 1)) (drop ((i + 1) * 32) run)
+pub walk-more : (run : List ℕ) (n i : ℕ) → i < n → getD run (i * 32 + 31) 0 < 64
+    → clearNodes (n - i) (drop (i * 32) run) ≡ clearNodes (n - (i + 1)) (drop ((i + 1) * 32) run)
 unfolding clearNode
 walk-more run n i h k = open-node run n i h ∙ simp (byte-31 run i, lt-ltb (getD run (i * 32 + 31) 0) 64 k)
 
@@ -87,7 +89,8 @@ module _ (d s : List ℕ) (b m : ℕ) (sized : length s ≡ m * 32) (fits : b * 
       old : (i : ℕ) → i < length (splice d (b * 32) s) / 32 → getD d (i * 32 + 31) 0 < 64
       old i k = nodes-clear (length d / 32) d e i (omega (arith, length-splice d (b * 32) s fits))
 
-      by-end : (t : Bool) (i : ℕ) → i < length (splice d (b * 32) s) / 32 → b ≤ i → ltb i (b + m) ≡ t → getD (splice d (b * 32) s) (i * 32 + 31) 0 < 64
+      by-end : (t : Bool) (i : ℕ) → i < length (splice d (b * 32) s) / 32 → b ≤ i → ltb i (b + m) ≡ t
+          → getD (splice d (b * 32) s) (i * 32 + 31) 0 < 64
       by-end true i k g q =
           let lt : i < b + m = ltb-true i (b + m) q in
           let j : b * 32 + ((i - b) * 32 + 31) ≡ i * 32 + 31 = omega arith in

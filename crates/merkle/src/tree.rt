@@ -14,7 +14,7 @@ ghost use Rattle.lanes.specs.NodeWords.{Holds};
 ghost use Rattle.merkle.specs.Tree.{commitmentOf, nodeAt};
 
 // The commitment of 2^height nodes, the `size` bytes from `at` on, one node after the other.
-fn plain(run: &[u8], at: usize, size: usize, height: usize) -> [u8; 32]
+fn plain_root(run: &[u8], at: usize, size: usize, height: usize) -> [u8; 32]
     requires { ⌜ (size ≡ 32 * 2 ^ height) × (at + size ≤ length (now run)) ⌝ }
     ensures { λ r. ⌜ r ≡ commitmentOf height (part (now (run .entry)) at size) ⌝ }
 {
@@ -22,14 +22,14 @@ fn plain(run: &[u8], at: usize, size: usize, height: usize) -> [u8; 32]
         return octets::node_at(run, at);
     }
     let half = size / 2;
-    let left = plain(run, at, half, height - 1);
-    let right = plain(run, at + half, half, height - 1);
+    let left = plain_root(run, at, half, height - 1);
+    let right = plain_root(run, at + half, half, height - 1);
     node_hash(join(left, right))
 }
 
 // The commitments of four parts of a run, `step` bytes apart, four nodes at once: each part has 2^height nodes, the
 // `size` bytes from its start on, and the first starts at `at`.
-fn four(run: &[u8], step: usize, at: usize, size: usize, height: usize) -> [u32; 32]
+fn four_roots(run: &[u8], step: usize, at: usize, size: usize, height: usize) -> [u32; 32]
     requires { ⌜ (size ≡ 32 * 2 ^ height) × (at + size + 3 * step ≤ length (now run)) ⌝ }
     ensures { λ r. ⌜ ((l : ℕ) → l < 4 → Holds r l (commitmentOf height (part (now (run .entry)) (at + l * step) size))) ⌝ }
 {
@@ -37,13 +37,13 @@ fn four(run: &[u8], step: usize, at: usize, size: usize, height: usize) -> [u32;
         return lanes::load_nodes(run, step, at);
     }
     let half = size / 2;
-    let left = four(run, step, at, half, height - 1);
-    let right = four(run, step, at + half, half, height - 1);
+    let left = four_roots(run, step, at, half, height - 1);
+    let right = four_roots(run, step, at + half, half, height - 1);
     lanes::hash_nodes(left, right)
 }
 
 // The node two levels above the nodes of the four lanes.
-fn over_four(nodes: [u32; 32]) -> [u8; 32]
+fn over_lanes(nodes: [u32; 32]) -> [u8; 32]
     ensures { λ r. ⌜ r ≡ nodeHash (nodeHash (digest (lane 8 nodes 0) ++ digest (lane 8 nodes 1)) ++ nodeHash (digest (lane 8 nodes 2) ++ digest (lane 8 nodes 3))) ⌝ }
 {
     let left = join(node_of_lane(nodes, 0), node_of_lane(nodes, 1));
@@ -57,10 +57,10 @@ pub fn part_root(run: &[u8], at: usize, size: usize, height: usize) -> [u8; 32]
     ensures { λ r. ⌜ r ≡ commitmentOf height (part (now (run .entry)) at size) ⌝ }
 {
     if height < 3 {
-        return plain(run, at, size, height);
+        return plain_root(run, at, size, height);
     }
     let quarter = size / 4;
-    over_four(four(run, quarter, at, quarter, height - 2))
+    over_lanes(four_roots(run, quarter, at, quarter, height - 2))
 }
 
 // The commitment of a run of 2^height nodes.

@@ -46,7 +46,7 @@ pub fn path_root(node: [u8; 32], position: u64, path: &[u8]) -> [u8; 32]
 }
 
 // What is seen with one more pair of strings above: a difference here hides those below.
-fn compare_above(seen: Compared, left: [u8; 64], right: [u8; 64]) -> Compared
+pub fn compare_above(seen: Compared, left: [u8; 64], right: [u8; 64]) -> Compared
     ensures { λ r. ⌜ r ≡ comparedAbove seen left right ⌝ }
 {
     if octets::same_pair(left, right) {

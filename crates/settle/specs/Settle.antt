@@ -1,8 +1,7 @@
 -- Settling (document 01, "Booking, finding, building, settling": settle).
-use mathlib.Core.Bool.{Bool, true, false}
 use Prim.Native.Nat.{ℕ}
 use mathlib.Core.List.{List, [], _∷_, _++_}
-use lib.ListN.{length, replicate}
+use lib.ListN.{replicate}
 use lib.Dec.{eqb}
 use Rattle.octets.specs.Refusals.{rule, firstRefusal, unlessRefused}
 use Rattle.node.specs.Node.{nodeHash}
@@ -53,10 +52,14 @@ settleRecords terms r s =
     (settledBy (firstDifference (stringsIn (terms .size) (parse r)) (stringsIn (terms .size) (parse s))))))
 
 -- a deal's strings along the two paths of a record: its own pairs of nodes, and at the entry the 64 bytes at that place
+abbrev pub dealEntryStrings : LentDeal → Fields → List (List ℕ)
+dealEntryStrings deal x = nodePairs (deal .nodes) (entryPathLevels (dealSize deal)) 1 (entryPosition (x .place)) (entryAt (deal .bytes) (x .place) ∷ [])
+
+abbrev pub dealSegmentStrings : LentDeal → Fields → List (List ℕ)
+dealSegmentStrings deal x = nodePairs (deal .nodes) (segmentPathLevels (dealSize deal) (x .size)) (segmentLevel (x .size)) (segmentPosition (x .offset) (x .size)) []
+
 abbrev pub dealStrings : LentDeal → Fields → List (List ℕ)
-dealStrings deal x =
-    nodePairs (deal .nodes) (entryPathLevels (dealSize deal)) 1 (entryPosition (x .place)) (entryAt (deal .bytes) (x .place) ∷ [])
-    ++ nodePairs (deal .nodes) (segmentPathLevels (dealSize deal) (x .size)) (segmentLevel (x .size)) (segmentPosition (x .offset) (x .size)) []
+dealStrings deal x = dealEntryStrings deal x ++ dealSegmentStrings deal x
 
 abbrev pub dealStringsIn : LentDeal → Parsed → List (List ℕ)
 dealStringsIn deal (parsed x) = dealStrings deal x

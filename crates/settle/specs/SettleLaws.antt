@@ -1,29 +1,26 @@
 -- Settling by comparing paths from the bottom up: the entry paths first, and the segment paths where nothing differed.
-use mathlib.Core.Path.{_≡_, refl, sym, ap, ap₂, _∙_, subst}
+use mathlib.Core.Path.{_≡_, refl, sym, ap, ap₂, _∙_}
 use mathlib.Core.Bool.{Bool, true, false, true≢false}
-use Prim.Native.Nat.{ℕ, zero, suc, _+_, _*_, _^_, _<_}
+use Prim.Native.Nat.{ℕ, zero, suc, _+_}
 use native.Mathlib.Omega.{arith}
 use mathlib.Core.List.{List, [], _∷_, _++_}
 use lib.ListN.{length}
 use Rattle.octets.specs.Choice.{choose}
 use Rattle.octets.specs.Equality.{sameBytes}
 use Rattle.octets.specs.EqualityLaws.{same-true}
-use Rattle.node.specs.Node.{nodeHash, node-hash-length}
+use Rattle.node.specs.Node.{nodeHash}
 use Rattle.paths.specs.Strings.{pathStrings}
 use Rattle.paths.specs.Difference.{Difference, same, differ, firstDifference}
 use Rattle.paths.specs.DifferenceLaws.{orElse, difference-append}
-use Rattle.paths.specs.PathLaws.{strings-injective}
 use Rattle.paths.specs.Compare.{equal, unequal, compared, comparedAbove, comparedUp}
 use Rattle.paths.specs.CompareLaws.{compared-up}
 use Rattle.paths.specs.declared.Compared.{Compared}
-use Rattle.entries.specs.Sizes.{segmentPathLevels, entryPathLevels, segmentPosition, entryPosition}
-use Rattle.entries.specs.Entry.{entryOf, commitmentIn, offsetIn, sizeIn}
+use Rattle.entries.specs.Entry.{commitmentIn, offsetIn, sizeIn}
 use Rattle.entries.specs.EntryLaws.{commitment-back, offset-back, size-back}
 use Rattle.record.specs.Form.{Fields}
 use Rattle.record.specs.FormLaws.{Sized}
-use Rattle.record.specs.Check.{DealTerms, entryFor}
-use Rattle.record.specs.CheckLaws.{Accepted}
-use Rattle.settle.specs.Settle.{notSettled, settledBy, entryStrings, segmentStrings, stringsOf}
+use Rattle.record.specs.Check.{entryFor}
+use Rattle.settle.specs.Settle.{notSettled, settledBy}
 use Rattle.settle.specs.declared.Settled.{Settled}
 
 -- what comparing found, as an answer

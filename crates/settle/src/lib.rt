@@ -1,4 +1,11 @@
 // Settling two records, or a record with a deal.
+mod fields; // fields.rt: the fields of a lent record
+mod records; // records.rt: two records
+mod strings; // strings.rt: the strings along two paths, compared
+mod with_deal; // with_deal.rt: a record with a deal
+
+pub use records::settle_records;
+pub use with_deal::settle_with_deal;
 
 // The answer of settling: with code 17 the pair, else two strings of zeros.
 pub struct Settled {

@@ -1,5 +1,5 @@
 -- Laws of the schedule and of the rounds.
-use mathlib.Core.Path.{_≡_, refl, sym, ap, _∙_}
+use mathlib.Core.Path.{_≡_, refl, sym}
 use mathlib.Core.List.{List, [], _∷_, _++_}
 use Prim.Native.Nat.{ℕ, zero, suc, _+_, _-_, _*_, _/_, _%_, _≤_, _<_}
 use native.Mathlib.Omega.{arith}
@@ -29,7 +29,8 @@ schedule-more m w i j v h hw e ev ej =
     rw (ej, a, schedule-suc, b, ← e, next-take w i h, ← ev) (take-suc-set w i v hw)
 
 -- a list each of whose words follows from those before it is the schedule
-pub schedule-of : (m w : List ℕ) (n : ℕ) → 16 + n ≤ length w → take 16 w ≡ m → ((i : ℕ) → i < n → getD w (16 + i) 0 ≡ nextWord w (16 + i)) → scheduleTo m n ≡ take (16 + n) w
+pub schedule-of : (m w : List ℕ) (n : ℕ) → 16 + n ≤ length w → take 16 w ≡ m → ((i : ℕ) → i < n → getD w (16 + i) 0 ≡ nextWord w (16 + i))
+    → scheduleTo m n ≡ take (16 + n) w
 unfolding scheduleTo
 schedule-of m w zero h e r = sym e
 schedule-of m w (suc n) h e r =
@@ -38,12 +39,15 @@ schedule-of m w (suc n) h e r =
     rw (schedule-of m w n (omega arith) e (λ i l. r i (omega arith)), next-take w (16 + n) (omega arith), a, take-suc w (16 + n) 0 (omega arith), q)
 
 -- one more round
-pub rounds-more : (k w h s t : List ℕ) (i j : ℕ) → s ≡ rounds k w h i → t ≡ round s (getD k i 0) (getD w i 0) → j ≡ suc i → t ≡ rounds k w h j
+pub rounds-more : (k w h s t : List ℕ) (i j : ℕ) → s ≡ rounds k w h i → t ≡ round s (getD k i 0) (getD w i 0) → j ≡ suc i
+    → t ≡ rounds k w h j
 unfolding rounds
 rounds-more k w h s t i j e f g = rw (g, f, e)
 
 -- constants and words that give the same rounds one by one give the same rounds
-pub rounds-same : (k w k' w' h : List ℕ) (n : ℕ) → ((i : ℕ) → i < n → (s : List ℕ) → round s (getD k i 0) (getD w i 0) ≡ round s (getD k' i 0) (getD w' i 0)) → rounds k w h n ≡ rounds k' w' h n
+pub rounds-same : (k w k' w' h : List ℕ) (n : ℕ)
+    → ((i : ℕ) → i < n → (s : List ℕ) → round s (getD k i 0) (getD w i 0) ≡ round s (getD k' i 0) (getD w' i 0))
+    → rounds k w h n ≡ rounds k' w' h n
 unfolding rounds
 rounds-same k w k' w' h zero f = refl
 rounds-same k w k' w' h (suc n) f =
@@ -58,7 +62,8 @@ unfolding round
 round-sum s k w = rw (add-first (getD s 7 0 ⊞ Σ1 (getD s 4 0) ⊞ ch (getD s 4 0) (getD s 5 0) (getD s 6 0)) k w)
 
 -- one more block of a padded message
-pub hash-more : (bytes h m g : List ℕ) (at : ℕ) → at % 64 ≡ 0 → h ≡ hashValue bytes (at / 64) → m ≡ blockAt bytes at → g ≡ compress h m → g ≡ hashValue bytes ((at + 64) / 64)
+pub hash-more : (bytes h m g : List ℕ) (at : ℕ) → at % 64 ≡ 0 → h ≡ hashValue bytes (at / 64) → m ≡ blockAt bytes at → g ≡ compress h m
+    → g ≡ hashValue bytes ((at + 64) / 64)
 unfolding hashValue
 hash-more bytes h m g at z eh em eg =
     let e : (at + 64) / 64 ≡ suc (at / 64) = omega arith in

@@ -7,7 +7,7 @@ use crate::words::maj;
 use crate::words::small_sigma0;
 use crate::words::small_sigma1;
 ghost use mathlib.Core.Path.{_≡_};
-ghost use lib.ListN.{length, take};
+ghost use lib.ListN.{take};
 ghost use Rattle.sha256.specs.Fips as F;
 
 // The constants (4.2.2).

@@ -92,6 +92,7 @@ fn settle_records(first: &[u8], b: &[u8], size: u64, y: u64) {
 
 // The fields in turn from place 0, and the first place that is no field.
 fn fields(record: &[u8]) {
+    show::code(0);
     let mut place: usize = 0;
     let mut turns: usize = 8192;
     while turns > 0 {
@@ -114,7 +115,8 @@ fn fields(record: &[u8]) {
     show::number(place as u64);
 }
 
-pub fn answer(operation: u64, a: &mut [u8], b: &mut [u8], x: u64, y: u64) {
+// The calls that only read.
+fn answer_reading(operation: u64, a: &[u8], b: &[u8], x: u64, y: u64) {
     match operation {
         1 => hash(a),
         2 => commit(a),
@@ -122,8 +124,6 @@ pub fn answer(operation: u64, a: &mut [u8], b: &mut [u8], x: u64, y: u64) {
         4 => make_entry(a, x, y),
         5 => read_entry(a),
         6 => find(a, b),
-        7 => book(a, b),
-        8 => build(a, x, b),
         9 => show::code(record::check(b, x, a)),
         10 => settle_records(a, b, x, y),
         11 => settled(settle::settle_with_deal(a, b)),
@@ -131,5 +131,19 @@ pub fn answer(operation: u64, a: &mut [u8], b: &mut [u8], x: u64, y: u64) {
         13 => show::code(check_input::check_input(a)),
         _ => {}
     }
+}
+
+pub fn answer(operation: u64, a: &mut [u8], b: &mut [u8], x: u64, y: u64) {
+    if operation == 7 {
+        book(a, b);
+        show::end();
+        return;
+    }
+    if operation == 8 {
+        build(a, x, b);
+        show::end();
+        return;
+    }
+    answer_reading(operation, a, b, x, y);
     show::end();
 }

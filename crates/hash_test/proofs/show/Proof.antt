@@ -1,3 +1,4 @@
+-- `show`: the loop ends, and each index is in range.
 use Prim.Native.Nat.{_-_, _≤_}
 use native.Mathlib.Omega.{arith}
 use borrow.Author.Needs.{needs}

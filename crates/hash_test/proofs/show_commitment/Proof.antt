@@ -1,3 +1,4 @@
+-- `show_commitment`: the part has `size` bytes.
 use mathlib.Core.Path.{sym}
 use lib.Seq.{length-take-le}
 use borrow.Author.Needs.{needs}

@@ -1,3 +1,4 @@
+-- `clear4`: a store in each lane.
 use Rattle.lanes.proofs.ClearLaws.{clear-lanes}
 use borrow.Author.Needs.{needs}
 use Rattle.lanes.proofs.clear4.Statement.{statement}

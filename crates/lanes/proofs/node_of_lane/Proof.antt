@@ -1,3 +1,4 @@
+-- `node_of_lane`: the digest of the lane's words.
 use mathlib.Core.Path.{ap, _∙_}
 use Rattle.sha256.specs.Fips.{digest}
 use borrow.Author.Needs.{needs}

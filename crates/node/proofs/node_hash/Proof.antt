@@ -1,6 +1,7 @@
-use mathlib.Core.Path.{_≡_, refl, sym, _∙_}
+-- `node_hash`: SHA-256 of 64 bytes is two blocks, of which the second is the padding block.
+use mathlib.Core.Path.{_≡_}
 use lib.ListN.{length}
-use Rattle.node.specs.Node.{nodeHash, node-hash-is}
+use Rattle.node.specs.Node.{node-hash-is}
 use Rattle.node.specs.PaddingBlockLaws.{sha256-of-64}
 use borrow.Author.Needs.{needs}
 use Rattle.node.proofs.node_hash.Statement.{statement}

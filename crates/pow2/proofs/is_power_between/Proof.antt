@@ -1,3 +1,4 @@
+-- `is_power_between`: the two bounds, then the test.
 use mathlib.Core.Path.{sym, _∙_}
 use native.Mathlib.Omega.{arith}
 use Rattle.pow2.specs.PowerLaws.{below-bound, above-bound, in-bounds}

@@ -1,18 +1,16 @@
-use mathlib.Core.Path.{_≡_, refl, sym, ap, _∙_}
+use mathlib.Core.Path.{_≡_, sym, ap, _∙_}
 use mathlib.Core.Bool.{Bool, true, false, _&&_}
 use Prim.Native.Nat.{ℕ, _*_, _^_}
-use native.Mathlib.Omega.{arith}
 use lib.ListN.{length}
-use borrow.Author.Tests.{not-true, not-false}
 use denote.Ref.{now}
-use Rattle.merkle.specs.Tree.{commitmentOf}
+use borrow.Author.Tests.{not-true, not-false}
+use borrow.Author.Needs.{needs}
 use Rattle.merkle.specs.StrayBits.{noStrayBits}
-use Rattle.entries.specs.Sizes.{area, segmentLevel}
+use Rattle.merkle.specs.Tree.{commitmentOf}
 use Rattle.entries.specs.SizesLaws.{area-own}
 use Rattle.booking.specs.Booking.{segmentCommitment}
 use Rattle.booking.specs.BookingLaws.{Bookable, bookable-segment}
 use Rattle.booking.proofs.Deciding.{refused-2, refused-4, refused-11, segment-within, entry-within, deal-written, deal-kept}
-use borrow.Author.Needs.{needs}
 use Rattle.booking.proofs.booking.book.Statement.{statement}
 use Rattle.booking.proofs.booking.book.Tie as tie
 

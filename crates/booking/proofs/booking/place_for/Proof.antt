@@ -1,24 +1,23 @@
-use Rattle.booking.specs.RoomLaws.{place-ends}
-use mathlib.Core.Path.{_≡_, sym, ap, ap₂, _∙_}
-use Prim.Native.Nat.{ℕ, _+_, _*_, _/_, _≤_, _<_}
+use mathlib.Core.Path.{_≡_, sym, ap₂, _∙_}
+use Prim.Native.Nat.{ℕ, _*_, _/_, _<_}
 use native.Mathlib.Omega.{arith}
 use lib.ListN.{length}
 use denote.Ref.{now}
+use borrow.Author.Needs.{needs}
 use Rattle.octets.specs.Search.{found, missing, lowest}
 use Rattle.octets.specs.SearchLaws.{lowest-found}
-use Rattle.entries.specs.Sizes.{area, entryCount, indexStart}
+use Rattle.entries.specs.Sizes.{area, entryCount}
 use Rattle.entries.specs.SizesLaws.{index-start-le}
 use Rattle.index.specs.Slots.{rowAt}
-use Rattle.booking.specs.declared.Booked.{Booked}
-use Rattle.booking.specs.Room.{isFree, lowestFreeSlot, lowestPlace}
 use Rattle.booking.specs.Booking.{keepsSegment}
 use Rattle.booking.specs.BookingLaws.{bookable-deal, bookable-segment}
 use Rattle.booking.specs.Gather.{emptyAt, roomAt}
 use Rattle.booking.specs.GatherLaws.{slots-high}
-use Rattle.booking.proofs.Found.{found-below, is-found, is-missing}
+use Rattle.booking.specs.Room.{isFree, lowestFreeSlot}
+use Rattle.booking.specs.RoomLaws.{place-ends}
+use Rattle.booking.proofs.Searching.{found-below, is-found, is-missing}
 use Rattle.booking.proofs.KeepingSlot.{keeps-offset}
 use Rattle.booking.proofs.Deciding.{answer-15, answer-13, answer-14, answer-0, free-slot-is, free-place-is, ranges-end}
-use borrow.Author.Needs.{needs}
 use Rattle.booking.proofs.booking.place_for.Statement.{statement}
 use Rattle.booking.proofs.booking.place_for.Tie as tie
 
@@ -46,11 +45,16 @@ kept-below c =
     let s = c .before .before .before .before .before .before .before in
     found-below (keepsSegment (now (s .args .deal)) (now (s .args .segment))) (entryCount (length (now (s .args .deal)))) (c .before .i .given .0 .0) (kept-at c)
 
+kept-high : (c : tie.After-known-told) → c .before .i .given .0 .0 < 128
+kept-high c =
+    let s = c .before .before .before .before .before .before .before in
+    omega (arith, kept-below c, slots-high (length (now (s .args .deal))) (s .pre .0 .deal-allowed))
+
 mul-t14 : tie.Need-mul-t14
-mul-t14 c = let h = kept-below c in let s = c .before .before .before .before .before .before .before in omega (arith, slots-high (length (now (s .args .deal))) (s .pre .0 .deal-allowed))
+mul-t14 c = let h = kept-high c in omega arith
 
 element-copy-out-t17 : tie.Need-element-copy-out-t17
-element-copy-out-t17 c = let h = kept-below c in let s = c .before .before .before .before .before .before .before in omega (arith, slots-high (length (now (s .args .deal))) (s .pre .0 .deal-allowed))
+element-copy-out-t17 c = kept-high c
 
 slot-place-requires : tie.Need-slot-place-requires
 slot-place-requires c κs =

@@ -1,8 +1,8 @@
 use mathlib.Core.Path.{ap₂, _∙_}
 use mathlib.Core.List.{List}
 use Prim.Native.Nat.{ℕ}
-use Rattle.octets.specs.Splice.{splice}
 use borrow.Author.Needs.{needs}
+use Rattle.octets.specs.Splice.{splice}
 use Rattle.booking.proofs.booking.write_segment.Statement.{statement}
 use Rattle.booking.proofs.booking.write_segment.Tie as tie
 

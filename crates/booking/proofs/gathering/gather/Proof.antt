@@ -1,20 +1,20 @@
-use Rattle.booking.specs.GatherLaws.{slots-high, slot-within}
-use mathlib.Core.Path.{_≡_, refl, sym, ap, _∙_, subst}
+use mathlib.Core.Path.{_≡_, subst}
 use Prim.Native.Nat.{ℕ, _-_, _≤_}
 use native.Mathlib.Omega.{arith}
 use lib.ListN.{length, length-set}
 use denote.Ref.{now}
+use borrow.Author.Needs.{needs}
 use Rattle.entries.specs.Sizes.{entryCount}
 use Rattle.entries.specs.SizesLaws.{lent-size}
 use Rattle.index.specs.Slots.{rowAt}
 use Rattle.booking.specs.Gather.{Gathered}
+use Rattle.booking.specs.GatherLaws.{slots-high, slot-within}
 use Rattle.booking.proofs.GatherTurn.{gathered-next}
-use borrow.Author.Needs.{needs}
 use Rattle.booking.proofs.gathering.gather.Statement.{statement}
 use Rattle.booking.proofs.gathering.gather.Tie as tie
 
 abbrev Inv-loop : tie.InvT-loop
-Inv-loop deal deal-size slots offsets₀ areas₀ i₀ offsets areas i = (i ≤ slots) × (length offsets ≡ 128) × (length areas ≡ 128) × Gathered (rowAt deal) i offsets areas
+Inv-loop deal deal-size slots offsets₀ areas₀ i₀ offsets areas i = (i ≤ slots) × (slots ≤ 128) × (length offsets ≡ 128) × (length areas ≡ 128) × Gathered (rowAt deal) i offsets areas
 
 abbrev μ-loop : tie.MeasureT-loop
 μ-loop deal deal-size slots offsets₀ areas₀ i₀ offsets areas i = slots - i
@@ -23,7 +23,10 @@ entry-count-requires : tie.Need-entry-count-requires Inv-loop μ-loop
 entry-count-requires c κs = search needs
 
 loop-holds : tie.Need-loop-holds Inv-loop μ-loop
-loop-holds c = (search needs, search needs, search needs, record { offset-at = λ i h. absurd (omega arith); area-at = λ i h. absurd (omega arith) })
+loop-holds c =
+    let s = c .before .before in
+    let high = slots-high (length (now (s .args .deal))) (s .pre) in
+    (search needs, omega (arith, c .entry-count .ensures), search needs, search needs, record { offset-at = λ i h. absurd (omega arith); area-at = λ i h. absurd (omega arith) })
 
 slot-place-requires : tie.Need-slot-place-requires Inv-loop μ-loop
 slot-place-requires c κs =
@@ -40,31 +43,19 @@ standing-at-requires c κs =
     (s .pre, omega (arith, slot-within d (l .loop .i) (lent-size d (s .pre) .deal) (omega (arith, n .entry-count .ensures)), c .slot-place .ensures))
 
 mul-offsets : tie.Need-mul-offsets Inv-loop μ-loop
-mul-offsets c =
-    let n = c .before .before .before .before in
-    let d = length (now (n .before .before .args .deal)) in
-    omega (arith, n .entry-count .ensures, slots-high d (n .before .before .pre))
+mul-offsets c = search needs
 
 array-write-offsets : tie.Need-array-write-offsets Inv-loop μ-loop
-array-write-offsets c =
-    let n = c .before .before .before .before in
-    let d = length (now (n .before .before .args .deal)) in
-    omega (arith, n .entry-count .ensures, slots-high d (n .before .before .pre))
+array-write-offsets c = search needs
 
 area-of-requires : tie.Need-area-of-requires Inv-loop μ-loop
 area-of-requires c κs = search needs
 
 mul-areas : tie.Need-mul-areas Inv-loop μ-loop
-mul-areas c =
-    let n = c .before .before .before .before .before in
-    let d = length (now (n .before .before .args .deal)) in
-    omega (arith, n .entry-count .ensures, slots-high d (n .before .before .pre))
+mul-areas c = search needs
 
 array-write-areas : tie.Need-array-write-areas Inv-loop μ-loop
-array-write-areas c =
-    let n = c .before .before .before .before .before in
-    let d = length (now (n .before .before .args .deal)) in
-    omega (arith, n .entry-count .ensures, slots-high d (n .before .before .pre))
+array-write-areas c = search needs
 
 add-i : tie.Need-add-i Inv-loop μ-loop
 add-i c = search needs
@@ -77,15 +68,13 @@ loop-again c =
     let a = c .before in
     let p = a .before in
     let l = p .before .before in
-    let n = l .before in
-    let s = n .before .before in
-    let deal = now (s .args .deal) in
-    let high = slots-high (length deal) (s .pre) in (
+    let s = l .before .before .before in (
       search needs,
-      simp length-set (l .loop .inv .1),
+      search needs,
       simp length-set (l .loop .inv .2),
-      gathered-next deal (l .loop .offsets) (l .loop .areas) (l .loop .i) (p .slot-place .result) (a .standing-at .result) (l .loop .inv .3)
-          (omega (arith, n .entry-count .ensures)) (omega (arith, n .entry-count .ensures)) (p .slot-place .ensures) (a .standing-at .ensures) (c .area-of .result) (c .area-of .ensures),
+      simp length-set (l .loop .inv .3),
+      gathered-next (now (s .args .deal)) (l .loop .offsets) (l .loop .areas) (l .loop .i) (p .slot-place .result) (a .standing-at .result) (l .loop .inv .4)
+          (omega arith) (omega arith) (p .slot-place .ensures) (a .standing-at .ensures) (c .area-of .result) (c .area-of .ensures),
     )
 
 returns : tie.Need-returns Inv-loop μ-loop
@@ -94,7 +83,7 @@ returns c =
     let n = l .before in
     let deal = now (n .before .before .args .deal) in
     let all : l .loop .i ≡ entryCount (length deal) = omega (arith, n .entry-count .ensures) in
-    subst (λ (m : ℕ). Gathered (rowAt deal) m (l .loop .offsets) (l .loop .areas)) all (l .loop .inv .3)
+    subst (λ (m : ℕ). Gathered (rowAt deal) m (l .loop .offsets) (l .loop .areas)) all (l .loop .inv .4)
 
 pub gather-spec : {M : Type 1} → statement M
 gather-spec =

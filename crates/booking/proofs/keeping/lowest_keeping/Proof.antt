@@ -1,16 +1,13 @@
 use mathlib.Core.Path.{_≡_, sym, ap, _∙_}
-use Prim.Native.Nat.{ℕ, _-_, _≤_, _<_}
+use Prim.Native.Nat.{ℕ, _-_, _≤_}
 use native.Mathlib.Omega.{arith}
-use lib.ListN.{length}
 use denote.Ref.{now}
+use borrow.Author.Needs.{needs}
 use Rattle.octets.specs.Search.{lowest}
 use Rattle.octets.specs.SearchLaws.{lowest-start}
-use Rattle.entries.specs.Sizes.{entryCount}
 use Rattle.booking.specs.Booking.{keepsSegment}
 use Rattle.booking.specs.Gather.{asLowest}
-use Rattle.booking.specs.GatherLaws.{slots-high}
-use Rattle.booking.proofs.Found.{found-here, found-later, found-nowhere}
-use borrow.Author.Needs.{needs}
+use Rattle.booking.proofs.Searching.{found-here, found-later, found-nowhere}
 use Rattle.booking.proofs.keeping.lowest_keeping.Statement.{statement}
 use Rattle.booking.proofs.keeping.lowest_keeping.Tie as tie
 
@@ -28,43 +25,16 @@ loop-holds c =
     let s = c .before .before .before in
     (search needs, lowest-start (keepsSegment (now (s .args .deal)) (now (s .args .segment))) (c .entry-count .result))
 
-mul-slot-keeps : tie.Need-mul-slot-keeps Inv-loop μ-loop
-mul-slot-keeps c =
-    let n = c .before .before in
-    let s = n .before .before .before in
-    omega (arith, n .entry-count .ensures, slots-high (length (now (s .args .deal))) (s .pre .0))
-
-element-copy-out-slot-keeps : tie.Need-element-copy-out-slot-keeps Inv-loop μ-loop
-element-copy-out-slot-keeps c =
-    let n = c .before .before in
-    let s = n .before .before .before in
-    omega (arith, n .entry-count .ensures, slots-high (length (now (s .args .deal))) (s .pre .0))
-
-mul-slot-keeps-2 : tie.Need-mul-slot-keeps-2 Inv-loop μ-loop
-mul-slot-keeps-2 c =
-    let n = c .before .before .before in
-    let s = n .before .before .before in
-    omega (arith, n .entry-count .ensures, slots-high (length (now (s .args .deal))) (s .pre .0))
-
-element-copy-out-slot-keeps-2 : tie.Need-element-copy-out-slot-keeps-2 Inv-loop μ-loop
-element-copy-out-slot-keeps-2 c =
-    let n = c .before .before .before in
-    let s = n .before .before .before in
-    omega (arith, n .entry-count .ensures, slots-high (length (now (s .args .deal))) (s .pre .0))
-
 slot-keeps-requires : tie.Need-slot-keeps-requires Inv-loop μ-loop
 slot-keeps-requires c κs =
-    let l = c .before .before .before in
-    let n = l .before in
+    let n = c .before .before in
     let s = n .before .before .before in
-    let below : l .loop .i < entryCount (length (now (s .args .deal))) = omega (arith, n .entry-count .ensures) in
-    let g = s .pre .1 .1 .1 in
-    (s .pre .0, (s .pre .1 .0, (s .pre .1 .1 .0, (below, g .offset-at (l .loop .i) below, g .area-at (l .loop .i) below))))
+    (s .pre .0, (s .pre .1 .0, (s .pre .1 .1 .0, (s .pre .1 .1 .1, omega (arith, n .entry-count .ensures)))))
 
 returns : tie.Need-returns Inv-loop μ-loop
 returns c =
     let k = c .before in
-    let l = k .before .before .before .before in
+    let l = k .before .before in
     let n = l .before in
     let s = n .before .before .before in
     let keeps = keepsSegment (now (s .args .deal)) (now (s .args .segment)) in
@@ -80,7 +50,7 @@ loop-less c = search needs
 loop-again : tie.Need-loop-again Inv-loop μ-loop
 loop-again c =
     let k = c .before in
-    let l = k .before .before .before .before in
+    let l = k .before .before in
     let n = l .before in
     let s = n .before .before .before in
     let keeps = keepsSegment (now (s .args .deal)) (now (s .args .segment)) in
@@ -102,10 +72,6 @@ lowest-keeping-spec =
     μ-loop
     entry-count-requires
     loop-holds
-    mul-slot-keeps
-    element-copy-out-slot-keeps
-    mul-slot-keeps-2
-    element-copy-out-slot-keeps-2
     slot-keeps-requires
     returns
     add-i

@@ -1,23 +1,31 @@
 use mathlib.Core.Path.{_≡_, sym, ap, ap₂, _∙_}
-use mathlib.Core.List.{List}
 use Prim.Native.Nat.{ℕ, _+_, _≤_, _<_}
 use native.Mathlib.Omega.{arith}
-use lib.ListN.{length}
-use borrow.Author.Tests.{not-true, not-false}
+use lib.ListN.{length, getD}
 use denote.Ref.{now}
+use borrow.Author.Tests.{not-true, not-false}
+use borrow.Author.Needs.{needs}
 use Rattle.octets.specs.Equality.{sameBytes}
 use Rattle.octets.specs.Splice.{part}
-use Rattle.entries.specs.SizesLaws.{lent-size, segment-size, index-start-le, area-own}
+use Rattle.entries.specs.Entry.{commitmentIn, sizeIn}
 use Rattle.entries.specs.Sizes.{area}
-use Rattle.entries.specs.Entry.{commitmentIn, offsetIn, sizeIn}
+use Rattle.entries.specs.SizesLaws.{lent-size, segment-size, index-start-le, area-own}
 use Rattle.index.specs.Slots.{slotAt, rowAt}
 use Rattle.booking.specs.Booking.{segmentCommitment}
 use Rattle.booking.specs.Gather.{rowArea}
-use Rattle.booking.specs.GatherLaws.{row-ends, slot-within}
+use Rattle.booking.specs.GatherLaws.{row-ends, slots-high, slot-within}
 use Rattle.booking.proofs.KeepingSlot.{other-area, other-size, other-commitment, offset-there, bytes-decide, size-there, commitment-there}
-use borrow.Author.Needs.{needs}
 use Rattle.booking.proofs.keeping.slot_keeps.Statement.{statement}
 use Rattle.booking.proofs.keeping.slot_keeps.Tie as tie
+
+slot-high : (c : tie.Start) → c .args .i < 128
+slot-high c = omega (arith, slots-high (length (now (c .args .deal))) (c .pre .0), c .pre .1 .1 .1 .1)
+
+mul-if1 : tie.Need-mul-if1
+mul-if1 c = let h = slot-high (c .before .before) in omega arith
+
+element-copy-out-if1 : tie.Need-element-copy-out-if1
+element-copy-out-if1 c = slot-high (c .before .before)
 
 area-requires : tie.Need-area-requires
 area-requires c κs = search needs
@@ -25,20 +33,28 @@ area-requires c κs = search needs
 returns : tie.Need-returns
 returns c =
     let a = c .before in
-    let s = a .before .before .before in
-    sym (other-area (now (s .args .deal)) (now (s .args .segment)) (s .args .i) (λ e. c .if1 .taken (s .pre .1 .1 .1 .2 ∙ e ∙ sym (a .area .ensures))))
+    let s = a .before .before .before .before in
+    sym (other-area (now (s .args .deal)) (now (s .args .segment)) (s .args .i) (λ e. c .if1 .taken (s .pre .1 .1 .1 .0 .area-at (s .args .i) (s .pre .1 .1 .1 .1) ∙ e ∙ sym (a .area .ensures))))
+
+-- the slot has the segment's area, and so a standing entry
+area-is : (c : tie.Else1)
+    → let s = c .before .before .before .before .before in
+    rowArea (rowAt (now (s .args .deal)) (s .args .i)) ≡ area (length (now (s .args .segment)))
+area-is c =
+    let s = c .before .before .before .before .before in
+    sym (s .pre .1 .1 .1 .0 .area-at (s .args .i) (s .pre .1 .1 .1 .1)) ∙ c .if1 .left ∙ c .before .area .ensures
 
 slot-place-requires : tie.Need-slot-place-requires
 slot-place-requires c κs =
-    let s = c .before .before .before .before in
-    (lent-size (length (now (s .args .deal))) (s .pre .0) .allowed, s .pre .1 .1 .1 .0)
+    let s = c .before .before .before .before .before in
+    (lent-size (length (now (s .args .deal))) (s .pre .0) .allowed, s .pre .1 .1 .1 .1)
 
 -- the entry lies in the deal
-within : (c : tie.After-slot-place) → c .slot-place .result + 64 ≤ length (now (c .before .before .before .before .before .args .deal))
+within : (c : tie.After-slot-place) → c .slot-place .result + 64 ≤ length (now (c .before .before .before .before .before .before .args .deal))
 within c =
-    let s = c .before .before .before .before .before in
+    let s = c .before .before .before .before .before .before in
     let d = length (now (s .args .deal)) in
-    omega (arith, c .slot-place .ensures, slot-within d (s .args .i) (lent-size d (s .pre .0) .deal) (s .pre .1 .1 .1 .0))
+    omega (arith, c .slot-place .ensures, slot-within d (s .args .i) (lent-size d (s .pre .0) .deal) (s .pre .1 .1 .1 .1))
 
 add-read-u64 : tie.Need-add-read-u64
 add-read-u64 c = let h = within c in omega arith
@@ -47,17 +63,17 @@ read-u64-requires : tie.Need-read-u64-requires
 read-u64-requires c κs = let h = within c in omega arith
 
 size-read : (c : tie.After-read-u64)
-    → let s = c .before .before .before .before .before .before in
+    → let s = c .before .before .before .before .before .before .before in
     c .read-u64 .result ≡ sizeIn (slotAt (now (s .args .deal)) (s .args .i))
 size-read c =
     let p = c .before in
-    let s = p .before .before .before .before .before in
+    let s = p .before .before .before .before .before .before in
     c .read-u64 .ensures ∙ size-there (now (s .args .deal)) (s .args .i) (p .slot-place .result) (p .slot-place .ensures) (within p)
 
 returns-2 : tie.Need-returns-2
 returns-2 c =
     let r = c .before in
-    let s = r .before .before .before .before .before .before in
+    let s = r .before .before .before .before .before .before .before in
     sym (other-size (now (s .args .deal)) (now (s .args .segment)) (s .args .i) (λ e. c .if2 .taken (size-read r ∙ e)))
 
 slice-aggregate-same-at : tie.Need-slice-aggregate-same-at
@@ -66,15 +82,15 @@ slice-aggregate-same-at c = search needs
 same-at-requires : tie.Need-same-at-requires
 same-at-requires c κs =
     let p = c .before .before .before in
-    let s = p .before .before .before .before .before in
+    let s = p .before .before .before .before .before .before in
     omega (arith, within p, s .good .1 .1 .0 .1 .0 .1)
 
 commitment-read : (c : tie.After-same-at)
-    → let s = c .before .before .before .before .before .before .before .before .before in
+    → let s = c .before .before .before .before .before .before .before .before .before .before in
     c .same-at .result ≡ sameBytes (commitmentIn (slotAt (now (s .args .deal)) (s .args .i))) (segmentCommitment (now (s .args .segment)))
 commitment-read c =
     let p = c .before .before .before .before in
-    let s = p .before .before .before .before .before in
+    let s = p .before .before .before .before .before .before in
     let deal = now (s .args .deal) in
     c .same-at .ensures
     ∙ ap (λ (n : ℕ). sameBytes (part deal (p .slot-place .result) n) (s .args .t3)) (s .good .1 .1 .0 .1 .0 .1)
@@ -83,35 +99,40 @@ commitment-read c =
 returns-3 : tie.Need-returns-3
 returns-3 c =
     let m = c .before in
-    let s = m .before .before .before .before .before .before .before .before .before in
+    let s = m .before .before .before .before .before .before .before .before .before .before in
     sym (other-commitment (now (s .args .deal)) (now (s .args .segment)) (s .args .i) (lent-size _ (s .pre .0) .deal) (sym (commitment-read m) ∙ not-true _ (c .if3 .taken)))
+
+mul-same-at : tie.Need-mul-same-at
+mul-same-at c = let h = slot-high (c .before .before .before .before .before .before .before .before .before .before .before) in omega arith
+
+element-copy-out-same-at : tie.Need-element-copy-out-same-at
+element-copy-out-same-at c = slot-high (c .before .before .before .before .before .before .before .before .before .before .before)
 
 same-at-requires-2 : tie.Need-same-at-requires-2
 same-at-requires-2 c κs =
-    let m = c .before in
-    let a = m .before .before .before .before .before in
-    let s = a .before .before .before .before in
+    let a = c .before .before .before .before .before .before .before in
+    let s = a .before .before .before .before .before in
     let deal = now (s .args .deal) in
     let t = lent-size (length deal) (s .pre .0) .deal in
     let z = segment-size (length deal) (length (now (s .args .segment))) t (s .pre .1 .0) in
-    let fits : s .args .offset + length (now (s .args .segment)) ≤ length deal = omega (arith, row-ends (length deal) (slotAt deal (s .args .i)) t, index-start-le (length deal), z .size-area, s .pre .1 .1 .1 .1, s .pre .1 .1 .1 .2, a .if1 .left, a .before .area .ensures) in
+    let g = s .pre .1 .1 .1 .0 in
+    let fits : getD (s .args .t4 .offsets) (s .args .i) 0 + length (now (s .args .segment)) ≤ length deal =
+    omega (arith, row-ends (length deal) (slotAt deal (s .args .i)) t, index-start-le (length deal), z .size-area, g .offset-at (s .args .i) (s .pre .1 .1 .1 .1), area-is a) in
     fits
 
 returns-4 : tie.Need-returns-4
 returns-4 c =
-    let m = c .before .before in
+    let m = c .before .before .before in
     let r = m .before .before .before in
     let a = r .before .before in
-    let s = a .before .before .before .before in
+    let s = a .before .before .before .before .before in
     let deal = now (s .args .deal) in
     let segment = now (s .args .segment) in
     let t = lent-size (length deal) (s .pre .0) .deal in
-    let z = segment-size (length deal) (length segment) t (s .pre .1 .0) in
-    let area-is : rowArea (rowAt deal (s .args .i)) ≡ area (length segment) = sym (s .pre .1 .1 .1 .2) ∙ a .if1 .left ∙ a .before .area .ensures in
-    let some : 0 < rowArea (rowAt deal (s .args .i)) = omega (arith, z .area-low) in
+    let some : 0 < rowArea (rowAt deal (s .args .i)) = omega (arith, area-is a, segment-size (length deal) (length segment) t (s .pre .1 .0) .area-low) in
     let size-is : sizeIn (slotAt deal (s .args .i)) ≡ length segment = sym (size-read r) ∙ m .before .before .if2 .left in
-    let named = sym (commitment-read m) ∙ not-false _ (c .before .if3 .left) in
-    let offset-is : s .args .offset ≡ offsetIn (slotAt deal (s .args .i)) = s .pre .1 .1 .1 .1 ∙ offset-there deal segment (s .args .i) t some size-is named in
+    let named = sym (commitment-read m) ∙ not-false _ (c .before .before .if3 .left) in
+    let offset-is = s .pre .1 .1 .1 .0 .offset-at (s .args .i) (s .pre .1 .1 .1 .1) ∙ offset-there deal segment (s .args .i) t some size-is named in
     c .same-at2 .ensures
     ∙ ap₂ (λ (at n : ℕ). sameBytes (part deal at n) segment) offset-is (sym (area-own (length segment)))
     ∙ bytes-decide deal segment (s .args .i) t some size-is named
@@ -120,6 +141,8 @@ pub slot-keeps-spec : {M : Type 1} → statement M
 slot-keeps-spec =
     tie.close
     (tie.spec
+    mul-if1
+    element-copy-out-if1
     area-requires
     returns
     slot-place-requires
@@ -129,5 +152,7 @@ slot-keeps-spec =
     slice-aggregate-same-at
     same-at-requires
     returns-3
+    mul-same-at
+    element-copy-out-same-at
     same-at-requires-2
     returns-4)

@@ -1,15 +1,12 @@
 use mathlib.Core.Path.{_≡_}
-use Rattle.octets.specs.SearchLaws.{lowest-start}
-use Rattle.booking.specs.Gather.{emptyAt}
-use Rattle.booking.proofs.Found.{found-here, found-later, found-nowhere}
-use mathlib.Core.Path.{_≡_, sym, ap, _∙_}
 use Prim.Native.Nat.{_-_, _≤_}
 use native.Mathlib.Omega.{arith}
 use borrow.Author.Tests.{eq-eqb, ne-eqb}
-use Rattle.octets.specs.Search.{lowest}
-use Rattle.octets.specs.SearchLaws.{lowest-start, lowest-here, lowest-next, lowest-over}
-use Rattle.booking.specs.Gather.{emptyAt, asLowest}
 use borrow.Author.Needs.{needs}
+use Rattle.octets.specs.Search.{lowest}
+use Rattle.octets.specs.SearchLaws.{lowest-start}
+use Rattle.booking.specs.Gather.{emptyAt}
+use Rattle.booking.proofs.Searching.{found-here, found-later, found-nowhere}
 use Rattle.booking.proofs.room.lowest_free_slot.Statement.{statement}
 use Rattle.booking.proofs.room.lowest_free_slot.Tie as tie
 

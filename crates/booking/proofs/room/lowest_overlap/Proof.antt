@@ -1,14 +1,11 @@
 use mathlib.Core.Path.{_≡_, sym, _∙_}
-use Rattle.octets.specs.SearchLaws.{lowest-start}
-use Rattle.booking.specs.Gather.{overlapsAt}
-use Rattle.booking.proofs.Found.{found-here, found-later, found-nowhere}
-use mathlib.Core.Path.{_≡_, sym, ap, _∙_}
 use Prim.Native.Nat.{_-_, _≤_}
 use native.Mathlib.Omega.{arith}
-use Rattle.octets.specs.Search.{lowest}
-use Rattle.octets.specs.SearchLaws.{lowest-start, lowest-here, lowest-next, lowest-over}
-use Rattle.booking.specs.Gather.{overlapsAt, asLowest}
 use borrow.Author.Needs.{needs}
+use Rattle.octets.specs.Search.{lowest}
+use Rattle.octets.specs.SearchLaws.{lowest-start}
+use Rattle.booking.specs.Gather.{overlapsAt}
+use Rattle.booking.proofs.Searching.{found-here, found-later, found-nowhere}
 use Rattle.booking.proofs.room.lowest_overlap.Statement.{statement}
 use Rattle.booking.proofs.room.lowest_overlap.Tie as tie
 

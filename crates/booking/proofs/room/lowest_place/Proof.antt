@@ -1,16 +1,14 @@
 use mathlib.Core.Path.{_≡_, ap, _∙_}
-use Rattle.octets.specs.Search.{found, lowest}
-use mathlib.Core.Path.{_≡_, sym, ap, _∙_}
 use Prim.Native.Nat.{_-_, _*_, _/_, _<_}
 use native.Mathlib.Omega.{arith}
-use Rattle.octets.specs.Search.{lowest}
+use borrow.Author.Needs.{needs}
+use Rattle.octets.specs.Search.{found, lowest}
 use Rattle.octets.specs.SearchLaws.{lowest-start}
+use Rattle.booking.specs.Gather.{overlapsAt, roomAt}
 use Rattle.booking.specs.Room.{isMissing}
 use Rattle.booking.specs.RoomLaws.{place-ends}
-use Rattle.booking.specs.Gather.{overlapsAt, roomAt}
-use Rattle.booking.proofs.Found.{found-here, found-nowhere, is-found, is-missing}
+use Rattle.booking.proofs.Searching.{found-here, found-nowhere, is-found, is-missing}
 use Rattle.booking.proofs.Jump.{slot-below, jump-on, jump}
-use borrow.Author.Needs.{needs}
 use Rattle.booking.proofs.room.lowest_place.Statement.{statement}
 use Rattle.booking.proofs.room.lowest_place.Tie as tie
 

@@ -1,6 +1,6 @@
 use borrow.Author.Tests.{lt-ltb, le-ltb}
-use Rattle.booking.specs.Room as R
 use borrow.Author.Needs.{needs}
+use Rattle.booking.specs.Room as R
 use Rattle.booking.proofs.room.overlap.Statement.{statement}
 use Rattle.booking.proofs.room.overlap.Tie as tie
 

@@ -1,3 +1,4 @@
+-- `compress4`: in each lane, rounds over the schedule, and the sums.
 use mathlib.Core.Path.{ap, _∙_}
 use Prim.Native.Nat.{ℕ}
 use mathlib.Core.List.{List}

@@ -1,4 +1,5 @@
-use Prim.Native.Nat.{_+_, _-_, _*_, _≤_}
+-- `eight_of_each`: after j turns the first j words stand.
+use Prim.Native.Nat.{_+_, _-_, _≤_}
 use mathlib.Core.Path.{_≡_, refl}
 use native.Mathlib.Omega.{arith}
 use lib.ListN.{length, getD, take, length-set}

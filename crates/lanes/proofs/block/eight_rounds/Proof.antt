@@ -1,3 +1,4 @@
+-- `eight_rounds`: one round after the other.
 use Rattle.sha256.specs.Fips.{rounds}
 use borrow.Author.Needs.{needs}
 use Rattle.lanes.proofs.block.eight_rounds.Statement.{statement}

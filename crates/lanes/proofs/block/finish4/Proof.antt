@@ -1,3 +1,4 @@
+-- `finish4`: in each lane, the padding block's rounds, and the sums.
 use mathlib.Core.Path.{ap, _∙_}
 use lib.ListN.{replicate}
 use Rattle.sha256.specs.Fips.{sums, compress}

@@ -1,4 +1,5 @@
-use Prim.Native.Nat.{_+_, _-_, _*_, _≤_}
+-- `sums4`: after i turns the first i sums stand.
+use Prim.Native.Nat.{_-_, _≤_}
 use mathlib.Core.Path.{_≡_, refl}
 use native.Mathlib.Omega.{arith}
 use lib.ListN.{length, getD, take, length-set}
@@ -22,7 +23,7 @@ loop-holds c = (omega arith, refl, refl)
 loop-again : tie.Need-loop-again Inv-loop μ-loop
 loop-again c =
     let l = c .before .before .loop in
-    (omega arith, simp length-set (l .inv .1), table-more _ (l .total) (l .i) _ (c .add .result) (omega arith) (omega arith) (l .inv .2) (c .add .ensures))
+    (omega arith, simp length-set (l .inv .1), table-more _ (l .total) (l .i) _ _ (omega arith) (omega arith) (l .inv .2) (c .add .ensures))
 
 returns : tie.Need-returns Inv-loop μ-loop
 returns c = table-done _ (c .before .loop .total) (c .before .loop .i) 32 (omega arith) (c .before .loop .inv .1) (c .before .loop .inv .2)

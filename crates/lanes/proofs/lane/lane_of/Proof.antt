@@ -1,3 +1,4 @@
+-- `lane_of`: after t turns the first t words stand.
 use Prim.Native.Nat.{_+_, _-_, _*_, _≤_}
 use mathlib.Core.Path.{_≡_, refl}
 use native.Mathlib.Omega.{arith}

@@ -1,3 +1,4 @@
+-- `put_lane`: after t turns the first t words of the lane are written, and nothing else.
 use Prim.Native.Nat.{_-_, _≤_}
 use mathlib.Core.Path.{_≡_}
 use native.Mathlib.Omega.{arith}

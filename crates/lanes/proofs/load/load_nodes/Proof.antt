@@ -1,9 +1,10 @@
-use Prim.Native.Nat.{_+_, _-_, _*_, _≤_}
+-- `load_nodes`: after t turns the first t words of each lane stand.
+use Prim.Native.Nat.{_-_, _*_, _≤_}
 use mathlib.Core.Path.{_≡_, refl}
 use native.Mathlib.Omega.{arith}
 use lib.ListN.{length, take, length-set}
 use Rattle.sha256.specs.Table.{table}
-use Rattle.sha256.specs.TableLaws.{table-more, table-done}
+use Rattle.sha256.specs.TableLaws.{table-done}
 use Rattle.lanes.proofs.LoadLaws.{laneWord, load-more, load-lane}
 use borrow.Author.Needs.{needs}
 use Rattle.lanes.proofs.load.load_nodes.Statement.{statement}

@@ -1,3 +1,4 @@
+-- `finish`: after t turns the working variables are those after t rounds with the sums as constants and no schedule.
 use mathlib.Core.Path.{_≡_, refl, ap, _∙_}
 use Prim.Native.Nat.{_-_, _≤_}
 use mathlib.Core.List.{[]}

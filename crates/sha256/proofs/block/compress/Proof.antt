@@ -1,3 +1,4 @@
+-- `compress`: rounds over the schedule, and the sums.
 use Rattle.sha256.specs.Fips.{compress, constants}
 use borrow.Author.Needs.{needs}
 use Rattle.sha256.proofs.block.compress.Statement.{statement}

@@ -1,3 +1,4 @@
+-- `first_words`: after i turns the first i words are the block's.
 use Prim.Native.Nat.{_-_, _≤_}
 use mathlib.Core.Path.{_≡_, refl, sym, _∙_}
 use native.Mathlib.Omega.{arith}

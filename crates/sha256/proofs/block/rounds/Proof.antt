@@ -1,3 +1,4 @@
+-- `rounds`: after t turns the working variables are those after t rounds.
 use Prim.Native.Nat.{_-_, _≤_}
 use mathlib.Core.Path.{_≡_, refl}
 use native.Mathlib.Omega.{arith}

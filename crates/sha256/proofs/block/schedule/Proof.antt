@@ -1,3 +1,4 @@
+-- `schedule`: after the turn t the first t words are the schedule's.
 use Prim.Native.Nat.{_-_, _≤_}
 use mathlib.Core.Path.{_≡_, refl, sym, ap, _∙_}
 use mathlib.Core.List.{List}

@@ -1,3 +1,4 @@
+-- `ch` is its definition.
 use mathlib.Core.Path.{refl}
 use Rattle.sha256.specs.Fips.{ch}
 use Rattle.sha256.proofs.words.ch.Statement.{statement}

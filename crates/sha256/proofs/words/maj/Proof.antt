@@ -1,3 +1,4 @@
+-- `maj` is its definition.
 use mathlib.Core.Path.{refl}
 use Rattle.sha256.specs.Fips.{maj}
 use Rattle.sha256.proofs.words.maj.Statement.{statement}

@@ -1,6 +1,7 @@
+-- `over_lanes`: what each call gives, put together.
 use borrow.Author.Needs.{needs}
-use Rattle.merkle.proofs.tree.over_four.Statement.{statement}
-use Rattle.merkle.proofs.tree.over_four.Tie as tie
+use Rattle.merkle.proofs.tree.over_lanes.Statement.{statement}
+use Rattle.merkle.proofs.tree.over_lanes.Tie as tie
 
 returns : tie.Need-returns
 returns c =
@@ -17,8 +18,8 @@ returns c =
       c .before .before .before .before .before .before .before .before .before .node-of-lane .ensures,
     )
 
-pub over-four-spec : {M : Type 1} → statement M
-over-four-spec =
+pub over-lanes-spec : {M : Type 1} → statement M
+over-lanes-spec =
     tie.close
     (tie.spec
     (λ c κs. search needs) (λ c κs. search needs) (λ c κs. search needs) (λ c κs. search needs) (λ c κs. search needs)

@@ -1,0 +1,48 @@
+-- The fields that the reader hands out (document 01, "The record": "Fields are read in turn, each answer being the field with the next place, or else
+-- the refusal", and "a reader that holds the lent record hands out the same fields").
+use Prim.Native.Nat.{ℕ, zero, suc}
+use mathlib.Core.List.{List, [], _∷_}
+use denote.Ref.{RefT}
+use lib.Dec.{eqb}
+use lib.ListN.{length, drop}
+use Rattle.octets.specs.Choice.{choose}
+use Rattle.octets.specs.Splice.{part}
+use Rattle.record.specs.Form.{FieldRule, layout, Contents, contents, malformed, addContent, Parsed, fieldsIn}
+use Rattle.record.specs.FieldAt.{fieldAt, asked}
+use Rattle.record.specs.declared.Field.{Field}
+use Rattle.record.specs.declared.Field.the-variants.{Content, Refused}
+use Rattle.reader.specs.declared.RecordReader.{RecordReader}
+
+-- the reader of a lent record, at a place
+abbrev pub readerAt : RefT (List ℕ) → ℕ → RecordReader
+readerAt bytes place = record { bytes = bytes; place = place }
+
+-- the place after the field at a place; a place that is no field's stays
+abbrev pub nextPlace : Field → ℕ → ℕ
+nextPlace (Content tag start n next) at = next
+nextPlace Refused at = at
+
+-- the place after n fields in turn
+unfoldable pub placeAfter : ℕ → List ℕ → ℕ → ℕ
+placeAfter zero r at = at
+placeAfter (suc n) r at = placeAfter n r (nextPlace (fieldAt r at) at)
+
+-- n fields in turn, from a place on
+unfoldable pub fieldsFrom : ℕ → List ℕ → ℕ → List Field
+fieldsFrom zero r at = []
+fieldsFrom (suc n) r at = fieldAt r at ∷ fieldsFrom n r (nextPlace (fieldAt r at) at)
+
+-- the content that a field names in a record, before what comes from the next place on
+abbrev pub addField : List ℕ → Field → (ℕ → Contents) → Contents
+addField r (Content tag start n next) later = addContent (part r start n) (later next)
+addField r Refused later = malformed
+
+-- the contents that fields name in a record, each field asked for by its row of the table, with nothing after the last
+unfoldable pub contentsNamed : List FieldRule → List ℕ → ℕ → List Field → Contents
+contentsNamed [] r at xs = choose (eqb (length (drop at r)) 0) (contents []) malformed
+contentsNamed (f ∷ fs) r at [] = malformed
+contentsNamed (f ∷ fs) r at (x ∷ xs) = addField r (asked f x) (λ next. contentsNamed fs r next xs)
+
+-- what fields say of a record
+abbrev pub parsedBy : List ℕ → List Field → Parsed
+parsedBy r xs = fieldsIn (contentsNamed layout r 0 xs)

@@ -1,0 +1,59 @@
+-- Reading all fields through the reader is the plain parse; and each field by its number.
+use mathlib.Core.Path.{_≡_, refl, sym, ap, _∙_}
+use mathlib.Core.Bool.{Bool, true, false, _&&_}
+use Prim.Native.Nat.{ℕ, zero, suc, _+_, _<_, _≤_}
+use native.Mathlib.Omega.{arith}
+use mathlib.Core.List.{List, [], _∷_}
+use lib.Dec.{eqb}
+use lib.ListN.{length, drop, getD}
+use borrow.Author.Tests.{eq-eqb}
+use Rattle.octets.specs.Choice.{choose}
+use Rattle.octets.specs.Splice.{part}
+use Rattle.record.specs.Form.{FieldRule, fieldRule, layout, Taken, taken, refused, takeField, Contents, addContent, onTaken, readContents, fieldsIn, parse}
+use Rattle.record.specs.FieldAt.{fieldAt, asked, fieldFor}
+use Rattle.record.specs.FieldAtLaws.{field-at, is-field}
+use Rattle.record.specs.declared.Field.{Field}
+use Rattle.record.specs.declared.Field.the-variants.{Content, Refused}
+use Rattle.reader.specs.Reader.{nextPlace, placeAfter, fieldsFrom, addField, contentsNamed, parsedBy}
+
+-- one field of both readings, where they agree from the next place on
+module _ (f : FieldRule) (r : List ℕ) (at : ℕ) (later : ℕ → Contents) (rest : List ℕ → Contents)
+    (agree : (tag start n next : ℕ) → fieldAt r at ≡ Content tag start n next → later next ≡ rest (drop next r)) where
+  content-from : (tag start n next : ℕ) (b : Bool) → fieldAt r at ≡ Content tag start n next → (eqb tag (f .tag) && f .allowed n) ≡ b
+      → addField r (choose b (Content tag start n next) Refused) later ≡ onTaken (takeField f (drop at r)) rest
+  unfolding fieldFor
+  content-from tag start n next true e q =
+      let t : takeField f (drop at r) ≡ taken (part r start n) (drop next r) = rw (e, q) at (field-at f r at) in
+      rw t (ap (addContent (part r start n)) (agree tag start n next e))
+  content-from tag start n next false e q = let t : takeField f (drop at r) ≡ refused = rw (e, q) at (field-at f r at) in rw t
+
+  field-from : (x : Field) → fieldAt r at ≡ x → addField r (asked f x) later ≡ onTaken (takeField f (drop at r)) rest
+  unfolding fieldFor
+  field-from (Content tag start n next) e = content-from tag start n next (eqb tag (f .tag) && f .allowed n) e refl
+  field-from Refused e = let t : takeField f (drop at r) ≡ refused = rw e at (field-at f r at) in rw t
+
+-- the contents that the fields in turn name are those of the reading in turn, for any table, from any place on
+contents-from : (fs : List FieldRule) (r : List ℕ) (at : ℕ) → contentsNamed fs r at (fieldsFrom (length fs) r at) ≡ readContents fs (drop at r)
+unfolding contentsNamed fieldsFrom readContents
+contents-from [] r at = refl
+contents-from (f ∷ fs) r at = field-from f r at _ (readContents fs) (λ tag start n next e. rw e (contents-from fs r next)) (fieldAt r at) refl
+
+-- reading all fields through the reader is the plain parse
+pub parse-fields : (r : List ℕ) → parse r ≡ parsedBy r (fieldsFrom 6 r 0)
+unfolding parse
+parse-fields r = sym (ap fieldsIn (contents-from layout r 0))
+
+-- the field of a number, among those that are read in turn
+pub field-numbered : (n k : ℕ) (r : List ℕ) (at : ℕ) → k < n → getD (fieldsFrom n r at) k Refused ≡ fieldAt r (placeAfter k r at)
+unfolding fieldsFrom placeAfter
+field-numbered zero k r at h = absurd (omega arith)
+field-numbered (suc n) zero r at h = refl
+field-numbered (suc n) (suc k) r at h = field-numbered n k r (nextPlace (fieldAt r at) at) (omega arith)
+
+-- a field lies within the record, at any place
+pub field-within : (r : List ℕ) (at tag start n next : ℕ) → fieldAt r at ≡ Content tag start n next → start + n ≤ length r
+unfolding fieldFor
+field-within r at tag start n next e =
+    let f : FieldRule = fieldRule tag (λ _. true) in
+    let i = is-field f r at tag start n next (ap (asked f) e ∙ rw (eq-eqb tag tag refl)) in
+    omega (arith, i .next-is, i .within)

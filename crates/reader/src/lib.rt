@@ -1,0 +1,61 @@
+// A reader that holds a lent record and a place in it, and hands out the record's fields in turn.
+use record::Field;
+ghost use mathlib.Core.Path.{_≡_};
+ghost use Rattle.record.specs.FieldAt.{fieldAt};
+ghost use Rattle.reader.specs.Reader.{readerAt, nextPlace, placeAfter};
+
+// A lent record, and the place where its next field is read.
+pub struct RecordReader<'a> {
+    pub bytes: &'a [u8],
+    pub place: usize,
+}
+
+// The place after the field that was read at a place; after the refusal it is the same place.
+fn next_place(field: Field, place: usize) -> usize
+    ensures { λ r. ⌜ r ≡ nextPlace field place ⌝ }
+{
+    match field {
+        Field::Content { next, .. } => next,
+        Field::Refused => place,
+    }
+}
+
+impl<'a> RecordReader<'a> {
+    // The reader of a record, before its first field.
+    pub fn new(bytes: &'a [u8]) -> RecordReader<'a>
+        ensures { λ r. ⌜ r ≡ readerAt (bytes .entry) 0 ⌝ }
+    {
+        RecordReader { bytes, place: 0 }
+    }
+
+    // The place where the next field is read.
+    pub fn place(&self) -> usize
+        ensures { λ r. ⌜ r ≡ now (self .entry) .place ⌝ }
+    {
+        self.place
+    }
+
+    // The field at the reader's place, and the reader moved on to the next; at the refusal it stays where it is.
+    pub fn next_field(&mut self) -> Field
+        ensures { λ r. ⌜ (r ≡ fieldAt (now (now (self .entry) .bytes)) (now (self .entry) .place)) × (now (self .exit) ≡ readerAt (now (self .entry) .bytes) (nextPlace r (now (self .entry) .place))) ⌝ }
+    {
+        let field = record::read_field(self.bytes, self.place);
+        self.place = next_place(field, self.place);
+        field
+    }
+}
+
+// The field of this number, from 0, of a record. Its parameters are plain: a caller's proof has no reader in it.
+pub fn field(bytes: &[u8], number: usize) -> Field
+    ensures { λ r. ⌜ r ≡ fieldAt (now (bytes .entry)) (placeAfter number (now (bytes .entry)) 0) ⌝ }
+{
+    let mut reader = RecordReader::new(bytes);
+    let mut left = number;
+    loop {
+        let field = reader.next_field();
+        if left == 0 {
+            return field;
+        }
+        left -= 1;
+    }
+}

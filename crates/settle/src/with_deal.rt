@@ -1,0 +1,94 @@
+// Settling a record with a deal.
+use crate::Settled;
+use crate::fields::commitment_in;
+use crate::fields::entry_in;
+use crate::fields::entry_path_in;
+use crate::fields::offset_in;
+use crate::fields::place_in;
+use crate::fields::segment_path_in;
+use crate::fields::size_in;
+use crate::strings::compare_entries;
+use crate::strings::compare_segments;
+use crate::strings::not_settled;
+use crate::strings::settled_from;
+use paths::Compared;
+ghost use mathlib.Core.Path.{_≡_};
+ghost use mathlib.Core.Bool.{true};
+ghost use lib.ListN.{length};
+ghost use Rattle.entries.specs.Sizes.{lentSizeAllowed};
+ghost use Rattle.record.specs.Check.{checkOf};
+ghost use Rattle.build.specs.Build.{lentDeal, termsOf};
+ghost use Rattle.settle.specs.Settle.{settleWithDeal};
+ghost use Rattle.settle.specs.FieldsOf.{fieldsOf};
+ghost use Rattle.settle.specs.Comparing.{entryWithDeal, segmentWithDeal};
+
+// A lent deal has at most 2^19 nodes of 32 bytes, and its longest path is that of an entry, from level 1 up.
+const LONGEST_PATH: usize = 32 * 18;
+
+// Compares the entry strings of an accepted record with those of the deal: the 64 bytes at the entry place, and the pairs of nodes above.
+fn compare_deal_entry(deal: &[u8], record: &[u8]) -> Compared
+    requires { ⌜ (lentSizeAllowed (length (now deal)) ≡ true) × (checkOf (termsOf (lentDeal (now deal))) (now «record») ≡ 0) ⌝ }
+    ensures { λ r. ⌜ r ≡ entryWithDeal (lentDeal (now (deal .entry))) (fieldsOf (now («record» .entry))) ⌝ }
+{
+    let place = place_in(record);
+    let levels = entries::deal_level(deal.len() as u64) - 1;
+    let mut path = [0u8; LONGEST_PATH];
+    paths::write_path(deal, levels, 1, (place / 64) as usize, &mut path, 0);
+    let end = 32 * levels;
+    let own_path = &path[..end];
+    let own_entry = octets::pair_at(deal, place as usize);
+    compare_entries(
+        place / 64,
+        entry_in(record),
+        entry_path_in(record),
+        own_entry,
+        own_path,
+    )
+}
+
+// Compares the segment strings of an accepted record with those of the deal: the pairs of nodes above the segment.
+fn compare_deal_segment(deal: &[u8], record: &[u8]) -> Compared
+    requires { ⌜ (lentSizeAllowed (length (now deal)) ≡ true) × (checkOf (termsOf (lentDeal (now deal))) (now «record») ≡ 0) ⌝ }
+    ensures { λ r. ⌜ r ≡ segmentWithDeal (lentDeal (now (deal .entry))) (fieldsOf (now («record» .entry))) ⌝ }
+{
+    let size = size_in(record);
+    let level = entries::segment_level(size);
+    let levels = entries::deal_level(deal.len() as u64) - level;
+    let position = entries::segment_position(offset_in(record), size);
+    let mut path = [0u8; LONGEST_PATH];
+    paths::write_path(deal, levels, level, position as usize, &mut path, 0);
+    let end = 32 * levels;
+    let own_path = &path[..end];
+    let own_node = merkle::node_at(deal, level, position as usize);
+    compare_segments(
+        position,
+        commitment_in(record),
+        segment_path_in(record),
+        own_node,
+        own_path,
+    )
+}
+
+// Settles a record with a deal: 2 for a deal size that is not allowed, 11 for a deal with stray bits, the refusal of the check against
+// the deal's own commitment and length, then 0 where no string differs, else 17 and the two strings at the first difference.
+pub fn settle_with_deal(deal: &[u8], record: &[u8]) -> Settled
+    ensures { λ r. ⌜ r ≡ settleWithDeal (lentDeal (now (deal .entry))) (now («record» .entry)) ⌝ }
+{
+    if !entries::lent_size_allowed(deal.len()) {
+        return not_settled(2);
+    }
+    if !merkle::no_stray_bits(deal) {
+        return not_settled(11);
+    }
+    let size = deal.len() as u64;
+    let commitment = merkle::root(deal, entries::deal_level(size));
+    let refusal = record::check(&commitment, size, record);
+    if refusal != 0 {
+        return not_settled(refusal);
+    }
+    let found = compare_deal_entry(deal, record);
+    if found.differs {
+        return settled_from(found);
+    }
+    settled_from(compare_deal_segment(deal, record))
+}

@@ -1,0 +1,57 @@
+-- What the functions of include/vizhuthamen.h answer, and what they write to lent outputs.
+use mathlib.Core.Bool.{_||_}
+use Prim.Native.Nat.{ℕ}
+use mathlib.Core.List.{List}
+use lib.ListN.{length}
+use lib.Dec.{eqb}
+use Rattle.octets.specs.Choice.{choose}
+use Rattle.entries.specs.declared.EntryKind.{EntryKind}
+use Rattle.entries.specs.declared.EntryKind.the-variants.{Valid, NotValid}
+use Rattle.index.specs.declared.SlotState.{SlotState}
+use Rattle.index.specs.declared.SlotState.the-variants.{Free, Standing, Kept}
+use Rattle.record.specs.declared.Field.{Field}
+use Rattle.record.specs.declared.Field.the-variants.{Content, Refused}
+
+-- the code: 12, before all else, where an output has not its one length
+abbrev pub lentCode : ℕ → List ℕ → ℕ → ℕ
+lentCode n output code = choose (eqb (length output) n) code 12
+
+-- an output afterwards, bytes or a number: written with code 0, left as it was with every other
+abbrev pub lentOutput : {A : Type 0} → ℕ → A → A → A
+lentOutput code value before = choose (eqb code 0) value before
+
+-- the same where it is written with one other code too: 15 in vz_book, 17 in the two settlings
+abbrev pub lentOutputOr : {A : Type 0} → ℕ → ℕ → A → A → A
+lentOutputOr other code value before = choose (eqb code 0 || eqb code other) value before
+
+-- the numbers of an entry's kinds
+abbrev pub kindNumber : EntryKind → ℕ
+kindNumber NotValid = 0
+kindNumber Valid = 1
+
+-- the numbers of a slot's states
+abbrev pub stateNumber : SlotState → ℕ
+stateNumber Free = 0
+stateNumber Standing = 1
+stateNumber Kept = 2
+
+-- the code of a field: 3 where no field lies at the place; and its four numbers
+abbrev pub fieldCode : Field → ℕ
+fieldCode (Content tag start n next) = 0
+fieldCode Refused = 3
+
+abbrev pub fieldTag : Field → ℕ
+fieldTag (Content tag start n next) = tag
+fieldTag Refused = 0
+
+abbrev pub fieldStart : Field → ℕ
+fieldStart (Content tag start n next) = start
+fieldStart Refused = 0
+
+abbrev pub fieldLength : Field → ℕ
+fieldLength (Content tag start n next) = n
+fieldLength Refused = 0
+
+abbrev pub fieldNext : Field → ℕ
+fieldNext (Content tag start n next) = next
+fieldNext Refused = 0

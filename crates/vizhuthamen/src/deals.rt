@@ -1,0 +1,90 @@
+// Lent deals.
+use crate::output::WRONG_LENGTH;
+use crate::output::write_32_bytes;
+use crate::output::write_u32;
+use crate::output::write_u64;
+use crate::output::written_with;
+use index::SlotState;
+ghost use mathlib.Core.Path.{_≡_};
+ghost use Rattle.index.specs.Inspect.{inspected};
+ghost use Rattle.index.specs.Find.{findNumbers};
+ghost use Rattle.booking.specs.Booking.{bookAnswer, bookedDeal};
+ghost use Rattle.vizhuthamen.specs.Export.{lentCode, lentOutput, lentOutputOr, stateNumber};
+
+// The number of a slot's state.
+fn state_number(state: SlotState) -> u32
+    ensures { λ r. ⌜ r ≡ stateNumber state ⌝ }
+{
+    match state {
+        SlotState::Free => 0,
+        SlotState::Standing => 1,
+        SlotState::Kept => 2,
+    }
+}
+
+// What stands at an entry place of a deal.
+#[no_mangle]
+pub extern "C" fn vz_inspect(
+    deal: &[u8],
+    place: u64,
+    state: &mut u32,
+    commitment: &mut [u8],
+    offset: &mut u64,
+    size: &mut u64,
+) -> u32
+    ensures { λ r. ⌜ r ≡ lentCode 32 (now (commitment .entry)) (inspected (now (deal .entry)) place .code) ⌝ }
+    ensures { λ r. ⌜ now (state .exit) ≡ lentOutput r (stateNumber (inspected (now (deal .entry)) place .state)) (now (state .entry)) ⌝ }
+    ensures { λ r. ⌜ now (commitment .exit) ≡ lentOutput r (inspected (now (deal .entry)) place .commitment) (now (commitment .entry)) ⌝ }
+    ensures { λ r. ⌜ now (offset .exit) ≡ lentOutput r (inspected (now (deal .entry)) place .offset) (now (offset .entry)) ⌝ }
+    ensures { λ r. ⌜ now (size .exit) ≡ lentOutput r (inspected (now (deal .entry)) place .size) (now (size .entry)) ⌝ }
+{
+    if commitment.len() != 32 {
+        return WRONG_LENGTH;
+    }
+    let answer = index::inspect(deal, place);
+    let written = answer.code == 0;
+    let slot = answer.state;
+    let bytes = answer.commitment;
+    write_u32(written, state_number(slot), state);
+    write_32_bytes(written, bytes, commitment);
+    write_u64(written, answer.offset, offset);
+    write_u64(written, answer.size, size);
+    answer.code as u32
+}
+
+// Where a segment with this commitment is kept in a deal.
+#[no_mangle]
+pub extern "C" fn vz_find(
+    deal: &[u8],
+    commitment: &[u8],
+    offset: &mut u64,
+    size: &mut u64,
+    place: &mut u64,
+) -> u32
+    ensures { λ r. ⌜ r ≡ findNumbers (now (deal .entry)) (now (commitment .entry)) .code ⌝ }
+    ensures { λ r. ⌜ now (offset .exit) ≡ lentOutput r (findNumbers (now (deal .entry)) (now (commitment .entry)) .offset) (now (offset .entry)) ⌝ }
+    ensures { λ r. ⌜ now (size .exit) ≡ lentOutput r (findNumbers (now (deal .entry)) (now (commitment .entry)) .size) (now (size .entry)) ⌝ }
+    ensures { λ r. ⌜ now (place .exit) ≡ lentOutput r (findNumbers (now (deal .entry)) (now (commitment .entry)) .place) (now (place .entry)) ⌝ }
+{
+    let answer = index::find_numbers(deal, commitment);
+    let written = answer.code == 0;
+    write_u64(written, answer.offset, offset);
+    write_u64(written, answer.size, size);
+    write_u64(written, answer.place, place);
+    answer.code as u32
+}
+
+// Books a segment in a deal.
+#[no_mangle]
+pub extern "C" fn vz_book(deal: &mut [u8], segment: &[u8], offset: &mut u64, place: &mut u64) -> u32
+    ensures { λ r. ⌜ r ≡ bookAnswer (now (deal .entry)) (now (segment .entry)) .code ⌝ }
+    ensures { λ r. ⌜ now (deal .exit) ≡ bookedDeal (now (deal .entry)) (now (segment .entry)) ⌝ }
+    ensures { λ r. ⌜ now (offset .exit) ≡ lentOutputOr 15 r (bookAnswer (now (deal .entry)) (now (segment .entry)) .offset) (now (offset .entry)) ⌝ }
+    ensures { λ r. ⌜ now (place .exit) ≡ lentOutputOr 15 r (bookAnswer (now (deal .entry)) (now (segment .entry)) .place) (now (place .entry)) ⌝ }
+{
+    let answer = booking::book(deal, segment);
+    let written = written_with(answer.code, 15);
+    write_u64(written, answer.offset, offset);
+    write_u64(written, answer.place, place);
+    answer.code as u32
+}

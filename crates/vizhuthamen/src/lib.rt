@@ -1,0 +1,8 @@
+// The library for programs in other languages: the functions of include/vizhuthamen.h, which says what each of them does. They only
+// lend what they are lent to the crates that do the work, and write the answers to the lent outputs.
+pub mod deals; // deals.rt: inspecting a deal, finding and booking a segment
+pub mod hashing; // hashing.rt: SHA-256 and commitments
+pub mod index_entries; // index_entries.rt: index numbers and entries
+mod output; // output.rt: what is written to lent outputs
+pub mod records; // records.rt: building and checking a record, and reading its fields
+pub mod settling; // settling.rt: settling two records, or a record with a deal

@@ -1,0 +1,60 @@
+// Inclusion records.
+use crate::output::write_u64;
+use record::Field;
+ghost use mathlib.Core.Path.{_≡_};
+ghost use Rattle.record.specs.Check.{dealTerms, checkOf};
+ghost use Rattle.record.specs.FieldAt.{fieldAt};
+ghost use Rattle.build.specs.Build.{lentDeal, buildAnswer, buildOutput};
+ghost use Rattle.vizhuthamen.specs.Export.{lentOutput, fieldCode, fieldTag, fieldStart, fieldLength, fieldNext};
+
+// Builds the record of the kept entry at a place of a deal.
+#[no_mangle]
+pub extern "C" fn vz_build(deal: &[u8], place: u64, record: &mut [u8], length: &mut u64) -> u32
+    ensures { λ r. ⌜ r ≡ buildAnswer (lentDeal (now (deal .entry))) place (now («record» .entry)) .code ⌝ }
+    ensures { λ r. ⌜ now («record» .exit) ≡ buildOutput (lentDeal (now (deal .entry))) place (now («record» .entry)) ⌝ }
+    ensures { λ r. ⌜ now (length .exit) ≡ lentOutput r (buildAnswer (lentDeal (now (deal .entry))) place (now («record» .entry)) .length) (now (length .entry)) ⌝ }
+{
+    let answer = build::build(deal, place, record);
+    write_u64(answer.code == 0, answer.length as u64, length);
+    answer.code as u32
+}
+
+// The code of the check of a record against a deal's commitment and size.
+#[no_mangle]
+pub extern "C" fn vz_check(commitment: &[u8], size: u64, record: &[u8]) -> u32
+    ensures { λ r. ⌜ r ≡ checkOf (dealTerms (now (commitment .entry)) size) (now («record» .entry)) ⌝ }
+{
+    record::check(commitment, size, record) as u32
+}
+
+// The field at a place of a record.
+#[no_mangle]
+pub extern "C" fn vz_read_field(
+    record: &[u8],
+    place: u64,
+    tag: &mut u32,
+    start: &mut u64,
+    length: &mut u64,
+    next: &mut u64,
+) -> u32
+    ensures { λ r. ⌜ r ≡ fieldCode (fieldAt (now («record» .entry)) place) ⌝ }
+    ensures { λ r. ⌜ now (tag .exit) ≡ lentOutput r (fieldTag (fieldAt (now («record» .entry)) place)) (now (tag .entry)) ⌝ }
+    ensures { λ r. ⌜ now (start .exit) ≡ lentOutput r (fieldStart (fieldAt (now («record» .entry)) place)) (now (start .entry)) ⌝ }
+    ensures { λ r. ⌜ now (length .exit) ≡ lentOutput r (fieldLength (fieldAt (now («record» .entry)) place)) (now (length .entry)) ⌝ }
+    ensures { λ r. ⌜ now (next .exit) ≡ lentOutput r (fieldNext (fieldAt (now («record» .entry)) place)) (now (next .entry)) ⌝ }
+{
+    let Field::Content {
+        tag: field_tag,
+        start: field_start,
+        length: field_length,
+        next: field_next,
+    } = record::read_field(record, place as usize)
+    else {
+        return 3;
+    };
+    *tag = field_tag as u32;
+    *start = field_start as u64;
+    *length = field_length as u64;
+    *next = field_next as u64;
+    0
+}

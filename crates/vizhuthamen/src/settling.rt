@@ -1,0 +1,72 @@
+// Settling two records, or a record with a deal.
+use crate::output::WRONG_LENGTH;
+use crate::output::write_64_bytes;
+use crate::output::written_with;
+use settle::Settled;
+ghost use mathlib.Core.Path.{_≡_};
+ghost use lib.ListN.{length};
+ghost use Rattle.record.specs.Check.{dealTerms};
+ghost use Rattle.build.specs.Build.{lentDeal};
+ghost use Rattle.settle.specs.Settle.{settleRecords, settleWithDeal};
+ghost use Rattle.vizhuthamen.specs.Export.{lentCode, lentOutputOr};
+
+// Writes the two strings of an answer, and gives its code.
+fn write_settled(answer: Settled, left: &mut [u8], right: &mut [u8]) -> u32
+    requires { ⌜ (length (now left) ≡ 64) × (length (now right) ≡ 64) ⌝ }
+    ensures { λ r. ⌜ r ≡ answer .code ⌝ }
+    ensures { λ r. ⌜ now (left .exit) ≡ lentOutputOr 17 r (answer .left) (now (left .entry)) ⌝ }
+    ensures { λ r. ⌜ now (right .exit) ≡ lentOutputOr 17 r (answer .right) (now (right .entry)) ⌝ }
+{
+    let written = written_with(answer.code, 17);
+    let left_string = answer.left;
+    let right_string = answer.right;
+    write_64_bytes(written, left_string, left);
+    write_64_bytes(written, right_string, right);
+    answer.code as u32
+}
+
+// Settles two records for one deal commitment and size.
+#[no_mangle]
+pub extern "C" fn vz_settle_records(
+    commitment: &[u8],
+    size: u64,
+    first: &[u8],
+    second: &[u8],
+    left: &mut [u8],
+    right: &mut [u8],
+) -> u32
+    ensures { λ r. ⌜ r ≡ lentCode 64 (now (left .entry)) (lentCode 64 (now (right .entry)) (settleRecords (dealTerms (now (commitment .entry)) size) (now (first .entry)) (now (second .entry)) .code)) ⌝ }
+    ensures { λ r. ⌜ now (left .exit) ≡ lentOutputOr 17 r (settleRecords (dealTerms (now (commitment .entry)) size) (now (first .entry)) (now (second .entry)) .left) (now (left .entry)) ⌝ }
+    ensures { λ r. ⌜ now (right .exit) ≡ lentOutputOr 17 r (settleRecords (dealTerms (now (commitment .entry)) size) (now (first .entry)) (now (second .entry)) .right) (now (right .entry)) ⌝ }
+{
+    if left.len() != 64 {
+        return WRONG_LENGTH;
+    }
+    if right.len() != 64 {
+        return WRONG_LENGTH;
+    }
+    let answer = settle::settle_records(commitment, size, first, second);
+    write_settled(answer, left, right)
+}
+
+// Settles a record with a deal.
+#[no_mangle]
+pub extern "C" fn vz_settle_with_deal(
+    deal: &[u8],
+    record: &[u8],
+    left: &mut [u8],
+    right: &mut [u8],
+) -> u32
+    ensures { λ r. ⌜ r ≡ lentCode 64 (now (left .entry)) (lentCode 64 (now (right .entry)) (settleWithDeal (lentDeal (now (deal .entry))) (now («record» .entry)) .code)) ⌝ }
+    ensures { λ r. ⌜ now (left .exit) ≡ lentOutputOr 17 r (settleWithDeal (lentDeal (now (deal .entry))) (now («record» .entry)) .left) (now (left .entry)) ⌝ }
+    ensures { λ r. ⌜ now (right .exit) ≡ lentOutputOr 17 r (settleWithDeal (lentDeal (now (deal .entry))) (now («record» .entry)) .right) (now (right .entry)) ⌝ }
+{
+    if left.len() != 64 {
+        return WRONG_LENGTH;
+    }
+    if right.len() != 64 {
+        return WRONG_LENGTH;
+    }
+    let answer = settle::settle_with_deal(deal, record);
+    write_settled(answer, left, right)
+}

@@ -1,0 +1,107 @@
+/*
+ * Every function of include/vizhuthamen.h once, from C: two segments in an all-zero deal of 512 bytes (document 01, "Run and
+ * compared"), the first one's record built, checked and settled. Prints each code, and fails where an answer is another one.
+ *
+ *   rt staticlib vizhuthamen && gcc -Iinclude tests/c/smoke.c target/staticlib/libvizhuthamen.a -o target/smoke && target/smoke
+ */
+#include <stdio.h>
+#include <string.h>
+
+#include "vizhuthamen.h"
+
+static int failures;
+
+/* An answer, and what it has to be. */
+static void answer(const char *what, uint64_t got, uint64_t expected) {
+  printf("%s: %llu\n", what, (unsigned long long)got);
+  if (got != expected) {
+    printf("  expected: %llu\n", (unsigned long long)expected);
+    failures++;
+  }
+}
+
+static uint8_t deal[512], first_segment[128], second_segment[128], third_segment[128];
+static uint8_t commitment[32], deal_commitment[32], entry[64], record[1962], left[64], right[64];
+static uint64_t offset, place, size, length, start, next, entries;
+static uint32_t valid, state, tag;
+
+static void hashing(void) {
+  static const uint8_t digest_of_abc[32] = {0xba, 0x78, 0x16, 0xbf, 0x8f, 0x01, 0xcf, 0xea, 0x41, 0x41, 0x40, 0xde, 0x5d, 0xae, 0x22, 0x23,
+                                            0xb0, 0x03, 0x61, 0xa3, 0x96, 0x17, 0x7a, 0x9c, 0xb4, 0x10, 0xff, 0x61, 0xf2, 0x00, 0x15, 0xad};
+  uint8_t digest[32];
+  answer("sha256", vz_sha256((const uint8_t *)"abc", 3, digest, 32), VZ_OK);
+  answer("sha256, FIPS vector", memcmp(digest, digest_of_abc, 32) == 0, 1);
+  answer("sha256, output of 31 bytes", vz_sha256((const uint8_t *)"abc", 3, digest, 31), VZ_OUTPUT);
+  answer("commitment", vz_commitment(first_segment, 128, commitment, 32), VZ_OK);
+  answer("commitment of 96 bytes", vz_commitment(first_segment, 96, deal_commitment, 32), VZ_SIZE);
+}
+
+static void index_entries(void) {
+  uint8_t read[32];
+  answer("index numbers", vz_index_numbers(512, &entries, &start), VZ_OK);
+  answer("index numbers, entries", entries, 4);
+  answer("index numbers, start", start, 256);
+  answer("make entry", vz_make_entry(commitment, 32, 0, 128, entry, 64), VZ_OK);
+  answer("read entry", vz_read_entry(entry, 64, &valid, read, 32, &offset, &size), VZ_OK);
+  answer("read entry, valid", valid, 1);
+  answer("read entry, commitment", memcmp(read, commitment, 32) == 0, 1);
+  answer("read entry, size", size, 128);
+}
+
+static void booking(void) {
+  answer("book", vz_book(deal, 512, first_segment, 128, &offset, &place), VZ_OK);
+  answer("book, offset", offset, 0);
+  answer("book, place", place, 256);
+  answer("book again", vz_book(deal, 512, first_segment, 128, &offset, &place), VZ_ALREADY_KEPT);
+  answer("book again, place", place, 256);
+  answer("book another", vz_book(deal, 512, second_segment, 128, &offset, &place), VZ_OK);
+  answer("book another, offset", offset, 128);
+  answer("book another, place", place, 320);
+  answer("book a third", vz_book(deal, 512, third_segment, 128, &offset, &place), VZ_NO_PLACE);
+  answer("book a third, place left as it was", place, 320);
+}
+
+static void looking(void) {
+  uint8_t read[32];
+  answer("inspect", vz_inspect(deal, 512, 256, &state, read, 32, &offset, &size), VZ_OK);
+  answer("inspect, state", state, 2);
+  answer("inspect a free slot", vz_inspect(deal, 512, 448, &state, read, 32, &offset, &size), VZ_OK);
+  answer("inspect a free slot, state", state, 0);
+  answer("inspect no place", vz_inspect(deal, 512, 300, &state, read, 32, &offset, &size), VZ_PLACE);
+  answer("find", vz_find(deal, 512, commitment, 32, &offset, &size, &place), VZ_OK);
+  answer("find, place", place, 256);
+}
+
+static void records(void) {
+  answer("build", vz_build(deal, 512, 256, record, sizeof record, &length), VZ_OK);
+  answer("build, length", length, 234);
+  answer("build in 233 bytes", vz_build(deal, 512, 256, record, 233, &length), VZ_OUTPUT);
+  answer("commitment of the deal", vz_commitment(deal, 512, deal_commitment, 32), VZ_OK);
+  answer("check", vz_check(deal_commitment, 32, 512, record, length), VZ_OK);
+  answer("read field", vz_read_field(record, length, 0, &tag, &start, &size, &next), VZ_OK);
+  answer("read field, tag", tag, 1);
+  answer("read field, length", size, 32);
+  answer("read field, next", next, 35);
+  answer("read field past the end", vz_read_field(record, length, length, &tag, &start, &size, &next), VZ_FORM);
+}
+
+static void settling(void) {
+  answer("settle records", vz_settle_records(deal_commitment, 32, 512, record, length, record, length, left, 64, right, 64), VZ_OK);
+  answer("settle with the deal", vz_settle_with_deal(deal, 512, record, length, left, 64, right, 64), VZ_OK);
+  record[40] ^= 1;
+  answer("check of another record", vz_check(deal_commitment, 32, 512, record, length), VZ_OFFSET);
+  answer("settle with another record", vz_settle_with_deal(deal, 512, record, length, left, 64, right, 64), VZ_OFFSET);
+}
+
+int main(void) {
+  memset(first_segment, 1, 128);
+  memset(second_segment, 2, 128);
+  memset(third_segment, 3, 128);
+  hashing();
+  index_entries();
+  booking();
+  looking();
+  records();
+  settling();
+  return failures != 0;
+}
