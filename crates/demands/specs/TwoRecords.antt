@@ -1,55 +1,36 @@
 -- Two accepted records of one entry place: the same bytes, or a collision.
-use mathlib.Core.Path.{_≡_, refl, sym, ap, ap₂, _∙_, subst}
-use mathlib.Core.Logic.{_⊎_, inl, inr}
-use mathlib.Core.Bool.{Bool, true, false}
-use Prim.Native.Nat.{ℕ, zero, suc, _+_, _*_, _/_, _%_, _^_, _≤_, _<_}
-use native.Mathlib.Omega.{arith}
-use mathlib.Core.List.{List, [], _∷_, _++_}
-use lib.ListN.{length, take, drop}
-use lib.Dec.{eqb}
+use mathlib.Core.Path.{_≡_, sym, ap, _∙_, subst}
+use mathlib.Core.Bool.{Bool, true}
+use Prim.Native.Nat.{ℕ, _*_, _/_}
+use mathlib.Core.List.{List, [], _∷_}
 use borrow.Author.Tests.{eq-eqb}
 use Rattle.octets.specs.Bytes.{Bytes}
-use Rattle.node.specs.Node.{nodeHash, node-hash-length}
-use Rattle.paths.specs.Path.{pathRoot}
 use Rattle.paths.specs.Strings.{pathStrings}
-use Rattle.paths.specs.Difference.{Difference, same, differ, firstDifference}
-use Rattle.paths.specs.Collision.{Collision}
+use Rattle.paths.specs.Difference.{firstDifference}
 use Rattle.paths.specs.Chain.{sides, Chain}
-use Rattle.paths.specs.DifferenceLaws.{Shows, chain-length, two-chains, two-parts, no-difference}
-use Rattle.paths.specs.PathLaws.{strings-chain, strings-injective, strings-start}
+use Rattle.paths.specs.DifferenceLaws.{Shows, two-chains, two-parts}
+use Rattle.paths.specs.PathLaws.{strings-injective}
 use Rattle.entries.specs.Sizes.{segmentPathLevels, entryPathLevels, segmentPosition, entryPosition}
-use Rattle.entries.specs.Entry.{entryOf, commitmentIn, offsetIn, sizeIn}
-use Rattle.entries.specs.EntryLaws.{entry-length, commitment-back, offset-back, size-back}
-use Rattle.record.specs.Form.{Fields, Parsed, parsed, broken, parse, encode}
+use Rattle.record.specs.Form.{Fields, parsed, parse, encode}
 use Rattle.record.specs.FormLaws.{Sized, parse-canonical}
-use Rattle.record.specs.Check.{DealTerms, entryFor, checkOf}
+use Rattle.record.specs.Check.{DealTerms, checkOf}
 use Rattle.record.specs.CheckLaws.{Accepted, check-means}
-use Rattle.settle.specs.Settle.{notSettled, settledBy, entryStrings, segmentStrings, stringsOf, stringsIn, placeIn, settleRecords}
+use Rattle.settle.specs.Settle.{entryStrings, segmentStrings, stringsOf, stringsIn, placeIn, settleRecords}
 use Rattle.settle.specs.SettleLaws.{same-fields}
-use Rattle.settle.specs.declared.Settled.{Settled}
+use Rattle.settle.specs.EntryStringsLaws.{entry-strings-length, same-entry}
 use Rattle.demands.specs.Settles.{Settles}
 use Rattle.demands.specs.Chains.{settles, entry-chain, segment-chain, halves}
 
 module _ (terms : DealTerms) (x y : Fields) (hx : Sized x) (hy : Sized y) (ax : Accepted terms x) (ay : Accepted terms y) (at : x .place ≡ y .place) where
-  -- equal strings of the entry path: the same entry and the same siblings
-  same-entry : entryStrings (terms .size) x ≡ entryStrings (terms .size) y → (x .entryPath ≡ y .entryPath) × (entryFor x ≡ entryFor y)
-  unfolding entryStrings
-  same-entry e =
-      let r = strings-injective (entryPathLevels (terms .size)) (entryPosition (x .place)) (nodeHash (entryFor x)) (nodeHash (entryFor y)) (x .entryPath) (y .entryPath) (entryFor x ∷ []) (entryFor y ∷ [])
-      (node-hash-length (entryFor x)) (node-hash-length (entryFor y)) (ax .entry-path-length) (ay .entry-path-length)
-      (e ∙ ap (λ (p : ℕ). pathStrings (entryPathLevels (terms .size)) (nodeHash (entryFor y)) (p / 64) (y .entryPath) (entryFor y ∷ [])) (sym at)) in
-      let q : entryFor x ∷ [] ≡ entryFor y ∷ [] = r .1 in
-      (r .0, cc)
-
   same-sides : entryStrings (terms .size) x ≡ entryStrings (terms .size) y → sides (segmentPathLevels (terms .size) (y .size)) (segmentPosition (y .offset) (y .size)) [] ≡ sides (segmentPathLevels (terms .size) (x .size)) (segmentPosition (x .offset) (x .size)) []
   same-sides e =
-      let f = same-fields x y hx hy (same-entry e .1) in
+      let f = same-fields x y hx hy (same-entry terms x y ax ay at e .1) in
       λ i. sides (segmentPathLevels (terms .size) (sym (f .2) i)) (segmentPosition (sym (f .1) i) (sym (f .2) i)) []
 
   same-segment : entryStrings (terms .size) x ≡ entryStrings (terms .size) y → segmentStrings (terms .size) x ≡ segmentStrings (terms .size) y → x .segmentPath ≡ y .segmentPath
   unfolding segmentStrings
   same-segment e g =
-      let f = same-fields x y hx hy (same-entry e .1) in
+      let f = same-fields x y hx hy (same-entry terms x y ax ay at e .1) in
       strings-injective (segmentPathLevels (terms .size) (x .size)) (segmentPosition (x .offset) (x .size)) (x .commitment) (y .commitment) (x .segmentPath) (y .segmentPath) [] [] (hx .commitment-32) (hy .commitment-32)
       (ax .segment-path-length) (ay .segment-path-length ∙ ap (λ (z : ℕ). 32 * segmentPathLevels (terms .size) z) (sym (f .2)))
       (g ∙ (λ i. pathStrings (segmentPathLevels (terms .size) (sym (f .2) i)) (y .commitment) (segmentPosition (sym (f .1) i) (sym (f .2) i)) (y .segmentPath) [])) .0
@@ -58,22 +39,17 @@ module _ (terms : DealTerms) (x y : Fields) (hx : Sized x) (hy : Sized y) (ax : 
   other-chain : Chain (terms .commitment) (sides (entryPathLevels (terms .size)) (entryPosition (x .place)) (true ∷ [])) (entryStrings (terms .size) y)
   other-chain = subst (λ (p : ℕ). Chain (terms .commitment) (sides (entryPathLevels (terms .size)) (p / 64) (true ∷ [])) (entryStrings (terms .size) y)) (sym at) (entry-chain terms y (hy .commitment-32) ay)
 
-  one-length : length (entryStrings (terms .size) x) ≡ length (entryStrings (terms .size) y)
-  one-length =
-      let b = sides (entryPathLevels (terms .size)) (entryPosition (x .place)) (true ∷ []) in
-      chain-length (terms .commitment) b (entryStrings (terms .size) x) (entry-chain terms x (hx .commitment-32) ax) ∙ sym (chain-length (terms .commitment) b (entryStrings (terms .size) y) other-chain)
-
   same-record : stringsOf (terms .size) x ≡ stringsOf (terms .size) y → x ≡ y
   same-record e =
-      let h = halves (entryStrings (terms .size) x) (entryStrings (terms .size) y) (segmentStrings (terms .size) x) (segmentStrings (terms .size) y) one-length e in
-      let f = same-fields x y hx hy (same-entry (h .0) .1) in
+      let h = halves (entryStrings (terms .size) x) (entryStrings (terms .size) y) (segmentStrings (terms .size) x) (segmentStrings (terms .size) y) (entry-strings-length (terms .size) x y) e in
+      let f = same-fields x y hx hy (same-entry terms x y ax ay at (h .0) .1) in
       let s = same-segment (h .0) (h .1) in
-      let t = same-entry (h .0) .0 in
+      let t = same-entry terms x y ax ay at (h .0) .0 in
       λ i. record { commitment = f .0 i; offset = f .1 i; size = f .2 i; place = at i; segmentPath = s i; entryPath = t i }
 
   found : Shows (stringsOf (terms .size) x) (stringsOf (terms .size) y) (firstDifference (stringsOf (terms .size) x) (stringsOf (terms .size) y))
   found =
-      two-parts (entryStrings (terms .size) x) (segmentStrings (terms .size) x) (entryStrings (terms .size) y) (segmentStrings (terms .size) y) one-length
+      two-parts (entryStrings (terms .size) x) (segmentStrings (terms .size) x) (entryStrings (terms .size) y) (segmentStrings (terms .size) y) (entry-strings-length (terms .size) x y)
       (two-chains (terms .commitment) (sides (entryPathLevels (terms .size)) (entryPosition (x .place)) (true ∷ [])) (entryStrings (terms .size) x) (entryStrings (terms .size) y) (entry-chain terms x (hx .commitment-32) ax) other-chain)
       (λ e. two-chains (terms .commitment) (sides (segmentPathLevels (terms .size) (x .size)) (segmentPosition (x .offset) (x .size)) []) (segmentStrings (terms .size) x) (segmentStrings (terms .size) y) (segment-chain terms x (hx .commitment-32) ax)
       (subst (λ (b : List Bool). Chain (terms .commitment) b (segmentStrings (terms .size) y)) (same-sides e) (segment-chain terms y (hy .commitment-32) ay)))

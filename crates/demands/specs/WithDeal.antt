@@ -1,43 +1,36 @@
 -- A record accepted against a deal in hand: what building writes, or a collision.
-use mathlib.Core.Path.{_≡_, refl, sym, ap, ap₂, _∙_, subst}
-use mathlib.Core.Logic.{_⊎_, inl, inr}
-use mathlib.Core.Bool.{Bool, true, false}
-use Prim.Native.Nat.{ℕ, zero, suc, _+_, _*_, _/_, _%_, _^_, _≤_, _<_}
+use mathlib.Core.Path.{_≡_, sym, ap, ap₂, _∙_, subst}
+use mathlib.Core.Bool.{true}
+use Prim.Native.Nat.{ℕ, _<_}
 use native.Mathlib.Omega.{arith}
 use mathlib.Core.List.{List, [], _∷_, _++_}
-use lib.ListN.{length, take, drop}
-use lib.Dec.{eqb}
-use borrow.Author.Tests.{eq-eqb}
+use lib.ListN.{length}
 use Rattle.octets.specs.Bytes.{Bytes}
 use Rattle.node.specs.Node.{nodeHash, node-hash-length}
-use Rattle.paths.specs.Path.{pathRoot}
 use Rattle.paths.specs.Strings.{pathStrings}
-use Rattle.paths.specs.Difference.{Difference, same, differ, firstDifference}
-use Rattle.paths.specs.Collision.{Collision}
+use Rattle.paths.specs.Difference.{firstDifference}
 use Rattle.paths.specs.Chain.{sides, Chain}
-use Rattle.paths.specs.DifferenceLaws.{Shows, chain-length, two-chains, two-parts, no-difference}
+use Rattle.paths.specs.DifferenceLaws.{Shows, chain-length, two-chains, two-parts}
 use Rattle.paths.specs.PathLaws.{strings-chain, strings-injective, strings-start}
 use Rattle.entries.specs.Sizes.{lentSizeAllowed, dealLevel, segmentLevel, segmentPathLevels, entryPathLevels, segmentPosition, entryPosition}
-use Rattle.entries.specs.Entry.{entryOf, commitmentIn, offsetIn, sizeIn}
-use Rattle.entries.specs.EntryLaws.{entry-length, commitment-back, offset-back, size-back}
-use Rattle.record.specs.Form.{Fields, Parsed, parsed, broken, parse, encode}
+use Rattle.entries.specs.Entry.{offsetIn, sizeIn}
+use Rattle.entries.specs.EntryLaws.{commitment-back, offset-back, size-back}
+use Rattle.record.specs.Form.{Fields, parsed, parse, encode}
 use Rattle.record.specs.FormLaws.{Sized, parse-canonical}
-use Rattle.record.specs.Check.{DealTerms, entryFor, checkOf}
+use Rattle.record.specs.Check.{entryFor, checkOf}
 use Rattle.record.specs.CheckLaws.{Accepted, check-means}
-use Rattle.settle.specs.Settle.{notSettled, settledBy, entryStrings, segmentStrings, stringsOf, stringsIn, placeIn, settleRecords}
-use Rattle.settle.specs.declared.Settled.{Settled}
+use Rattle.settle.specs.Settle.{entryStrings, segmentStrings, stringsOf, placeIn}
 use Rattle.octets.specs.SpliceLaws.{part-length}
-use Rattle.merkle.specs.Tree.{commitmentOf, nodeAt}
-use Rattle.merkle.specs.TreeLaws.{top-node}
 use Rattle.merkle.specs.StrayBits.{noStrayBits}
 use Rattle.paths.specs.IsTree.{IsTree}
-use Rattle.paths.specs.NodeSourceLaws.{run-tree, own-strings}
+use Rattle.paths.specs.NodeSourceLaws.{run-tree}
 use Rattle.entries.specs.SizesLaws.{lent-size}
 use Rattle.index.specs.Slots.{entryAt, kept}
 use Rattle.index.specs.SlotsLaws.{made-kept}
 use Rattle.build.specs.Build.{LentDeal, lentDeal, dealSize, termsOf, segmentPathOf, entryPathOf, fieldsFor, built, recordAt}
 use Rattle.build.specs.BuildLaws.{Builds, build-means, means-build, InDeal, in-deal, segment-path-length, entry-path-length, segment-path-leads, entry-path-leads, place-node, built-in-deal, built-valid, built-parses}
-use Rattle.settle.specs.Settle.{dealStrings, dealStringsIn, settleWithDeal}
+use Rattle.settle.specs.Settle.{dealStrings, settleWithDeal}
+use Rattle.settle.specs.DealStringsLaws.{deal-entry-strings, deal-segment-strings}
 use Rattle.demands.specs.Settles.{Settles}
 use Rattle.demands.specs.Chains.{settles, entry-chain, segment-chain, halves}
 
@@ -57,7 +50,7 @@ module _ (deal : LentDeal) (t : IsTree (deal .nodes) (deal .bytes) (dealLevel (d
     w : InDeal (dealSize deal) (x .place) (x .offset) (x .size)
     w = in-deal (dealSize deal) (x .place) (x .offset) (x .size) lent (a .place-allowed) (a .size-allowed) (a .offset-allowed)
 
-    -- the (deal .bytes)'s stringsOf along the two in-deal of x
+    -- the deal's strings along the two paths of x, as those of its own paths
     dealEntry : List (List ℕ)
     dealEntry = pathStrings (entryPathLevels (dealSize deal)) ((deal .nodes) 1 (entryPosition (x .place))) (entryPosition (x .place)) (entryPathOf deal (x .place)) (entryAt (deal .bytes) (x .place) ∷ [])
 
@@ -66,10 +59,7 @@ module _ (deal : LentDeal) (t : IsTree (deal .nodes) (deal .bytes) (dealLevel (d
 
     deal-is : dealEntry ++ dealSegment ≡ dealStrings deal x
     unfolding dealEntry dealSegment
-    deal-is =
-        ap₂ _++_
-        (own-strings (deal .nodes) (deal .bytes) (dealLevel (dealSize deal)) t (entryPathLevels (dealSize deal)) 1 (entryPosition (x .place)) (entryAt (deal .bytes) (x .place) ∷ []) (w .entry-up) (w .place-is .position-in))
-        (own-strings (deal .nodes) (deal .bytes) (dealLevel (dealSize deal)) t (segmentPathLevels (dealSize deal) (x .size)) (segmentLevel (x .size)) (segmentPosition (x .offset) (x .size)) [] (w .segment-up) (w .segment-is .position-in))
+    deal-is = ap₂ _++_ (deal-entry-strings deal t x w) (deal-segment-strings deal t x w)
 
     one-32 : length ((deal .nodes) 1 (entryPosition (x .place))) ≡ 32
     one-32 = t .sized (entryPathLevels (dealSize deal)) 1 (entryPosition (x .place)) (w .entry-up) (w .place-is .position-in)
@@ -147,9 +137,9 @@ module _ (deal : LentDeal) (t : IsTree (deal .nodes) (deal .bytes) (dealLevel (d
       let z = sizeIn (entryAt (deal .bytes) p) in
       ap₂ _++_
       ((λ i. pathStrings (entryPathLevels (dealSize deal)) ((ap nodeHash (built-valid deal t bd p r b) ∙ place-node deal t p o z v) i) (entryPosition p) (entryPathOf deal p) (built-valid deal t bd p r b i ∷ []))
-      ∙ own-strings (deal .nodes) (deal .bytes) (dealLevel (dealSize deal)) t (entryPathLevels (dealSize deal)) 1 (entryPosition p) (entryAt (deal .bytes) p ∷ []) (v .entry-up) (v .place-is .position-in))
+      ∙ deal-entry-strings deal t (fieldsFor deal e p) v)
       (ap (λ (k : List ℕ). pathStrings (segmentPathLevels (dealSize deal) z) k (segmentPosition o z) (segmentPathOf deal o z) []) (sym (b .is-kept .node-is))
-      ∙ own-strings (deal .nodes) (deal .bytes) (dealLevel (dealSize deal)) t (segmentPathLevels (dealSize deal) z) (segmentLevel z) (segmentPosition o z) [] (v .segment-up) (v .segment-is .position-in))
+      ∙ deal-segment-strings deal t (fieldsFor deal e p) v)
 
   -- for any source that is a tree over the deal
   pub settles-deal : (r : List ℕ) → Bytes r → checkOf (termsOf deal) r ≡ 0 → Settles (recordAt deal (placeIn (parse r)) ≡ built r) (settleWithDeal deal r)

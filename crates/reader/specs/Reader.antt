@@ -2,7 +2,7 @@
 -- the refusal", and "a reader that holds the lent record hands out the same fields").
 use Prim.Native.Nat.{ℕ, zero, suc}
 use mathlib.Core.List.{List, [], _∷_}
-use denote.Ref.{RefT}
+use denote.Ref.{RefT, now}
 use lib.Dec.{eqb}
 use lib.ListN.{length, drop}
 use Rattle.octets.specs.Choice.{choose}
@@ -13,11 +13,7 @@ use Rattle.record.specs.declared.Field.{Field}
 use Rattle.record.specs.declared.Field.the-variants.{Content, Refused}
 use Rattle.reader.specs.declared.RecordReader.{RecordReader}
 
--- the reader of a lent record, at a place
-abbrev pub readerAt : RefT (List ℕ) → ℕ → RecordReader
-readerAt bytes place = record { bytes = bytes; place = place }
-
--- the place after the field at a place; a place that is no field's stays
+-- the place after the field that was read at a place; after the refusal it is the same place
 abbrev pub nextPlace : Field → ℕ → ℕ
 nextPlace (Content tag start n next) at = next
 nextPlace Refused at = at
@@ -27,22 +23,30 @@ unfoldable pub placeAfter : ℕ → List ℕ → ℕ → ℕ
 placeAfter zero r at = at
 placeAfter (suc n) r at = placeAfter n r (nextPlace (fieldAt r at) at)
 
--- n fields in turn, from a place on
-unfoldable pub fieldsFrom : ℕ → List ℕ → ℕ → List Field
-fieldsFrom zero r at = []
-fieldsFrom (suc n) r at = fieldAt r at ∷ fieldsFrom n r (nextPlace (fieldAt r at) at)
+-- the reader of a lent record, at a place
+abbrev pub readerAt : RefT (List ℕ) → ℕ → RecordReader
+readerAt bytes place = record { bytes = bytes; place = place }
+
+-- the reader after the field at its place: the same record, and the next place
+abbrev pub movedOn : RecordReader → RecordReader
+movedOn x = readerAt (x .bytes) (nextPlace (fieldAt (now (x .bytes)) (x .place)) (x .place))
+
+-- the next n fields that a reader hands out
+unfoldable pub handedOut : ℕ → RecordReader → List Field
+handedOut zero x = []
+handedOut (suc n) x = fieldAt (now (x .bytes)) (x .place) ∷ handedOut n (movedOn x)
 
 -- the content that a field names in a record, before what comes from the next place on
 abbrev pub addField : List ℕ → Field → (ℕ → Contents) → Contents
 addField r (Content tag start n next) later = addContent (part r start n) (later next)
 addField r Refused later = malformed
 
--- the contents that fields name in a record, each field asked for by its row of the table, with nothing after the last
+-- the contents that fields name in a record from a place on, each field asked for by its row of the table, with nothing after the last
 unfoldable pub contentsNamed : List FieldRule → List ℕ → ℕ → List Field → Contents
 contentsNamed [] r at xs = choose (eqb (length (drop at r)) 0) (contents []) malformed
 contentsNamed (f ∷ fs) r at [] = malformed
 contentsNamed (f ∷ fs) r at (x ∷ xs) = addField r (asked f x) (λ next. contentsNamed fs r next xs)
 
--- what fields say of a record
+-- what fields say of a record, in the order of the table
 abbrev pub parsedBy : List ℕ → List Field → Parsed
 parsedBy r xs = fieldsIn (contentsNamed layout r 0 xs)

@@ -1,20 +1,21 @@
--- Reading all fields through the reader is the plain parse; and each field by its number.
+-- Reading all fields through the reader is the plain parse; each field by its number; no field reaches past the record.
 use mathlib.Core.Path.{_≡_, refl, sym, ap, _∙_}
 use mathlib.Core.Bool.{Bool, true, false, _&&_}
 use Prim.Native.Nat.{ℕ, zero, suc, _+_, _<_, _≤_}
 use native.Mathlib.Omega.{arith}
 use mathlib.Core.List.{List, [], _∷_}
+use denote.Ref.{RefT, now}
 use lib.Dec.{eqb}
 use lib.ListN.{length, drop, getD}
 use borrow.Author.Tests.{eq-eqb}
 use Rattle.octets.specs.Choice.{choose}
 use Rattle.octets.specs.Splice.{part}
-use Rattle.record.specs.Form.{FieldRule, fieldRule, layout, Taken, taken, refused, takeField, Contents, addContent, onTaken, readContents, fieldsIn, parse}
+use Rattle.record.specs.Form.{FieldRule, fieldRule, layout, taken, refused, takeField, Contents, addContent, onTaken, readContents, fieldsIn, parse}
 use Rattle.record.specs.FieldAt.{fieldAt, asked, fieldFor}
 use Rattle.record.specs.FieldAtLaws.{field-at, is-field}
 use Rattle.record.specs.declared.Field.{Field}
 use Rattle.record.specs.declared.Field.the-variants.{Content, Refused}
-use Rattle.reader.specs.Reader.{nextPlace, placeAfter, fieldsFrom, addField, contentsNamed, parsedBy}
+use Rattle.reader.specs.Reader.{nextPlace, placeAfter, readerAt, handedOut, addField, contentsNamed, parsedBy}
 
 -- one field of both readings, where they agree from the next place on
 module _ (f : FieldRule) (r : List ℕ) (at : ℕ) (later : ℕ → Contents) (rest : List ℕ → Contents)
@@ -32,28 +33,29 @@ module _ (f : FieldRule) (r : List ℕ) (at : ℕ) (later : ℕ → Contents) (r
   field-from (Content tag start n next) e = content-from tag start n next (eqb tag (f .tag) && f .allowed n) e refl
   field-from Refused e = let t : takeField f (drop at r) ≡ refused = rw e at (field-at f r at) in rw t
 
--- the contents that the fields in turn name are those of the reading in turn, for any table, from any place on
-contents-from : (fs : List FieldRule) (r : List ℕ) (at : ℕ) → contentsNamed fs r at (fieldsFrom (length fs) r at) ≡ readContents fs (drop at r)
-unfolding contentsNamed fieldsFrom readContents
-contents-from [] r at = refl
-contents-from (f ∷ fs) r at = field-from f r at _ (readContents fs) (λ tag start n next e. rw e (contents-from fs r next)) (fieldAt r at) refl
+-- the contents that the fields handed out name are those of the plain reading, for any table, from any place on
+contents-from : (fs : List FieldRule) (bytes : RefT (List ℕ)) (at : ℕ) → contentsNamed fs (now bytes) at (handedOut (length fs) (readerAt bytes at)) ≡ readContents fs (drop at (now bytes))
+unfolding contentsNamed handedOut readContents
+contents-from [] bytes at = refl
+contents-from (f ∷ fs) bytes at =
+    field-from f (now bytes) at _ (readContents fs) (λ tag start n next e. rw e (contents-from fs bytes next)) (fieldAt (now bytes) at) refl
 
 -- reading all fields through the reader is the plain parse
-pub parse-fields : (r : List ℕ) → parse r ≡ parsedBy r (fieldsFrom 6 r 0)
+pub reader-parses : (bytes : RefT (List ℕ)) → parsedBy (now bytes) (handedOut 6 (readerAt bytes 0)) ≡ parse (now bytes)
 unfolding parse
-parse-fields r = sym (ap fieldsIn (contents-from layout r 0))
+reader-parses bytes = ap fieldsIn (contents-from layout bytes 0)
 
--- the field of a number, among those that are read in turn
-pub field-numbered : (n k : ℕ) (r : List ℕ) (at : ℕ) → k < n → getD (fieldsFrom n r at) k Refused ≡ fieldAt r (placeAfter k r at)
-unfolding fieldsFrom placeAfter
-field-numbered zero k r at h = absurd (omega arith)
-field-numbered (suc n) zero r at h = refl
-field-numbered (suc n) (suc k) r at h = field-numbered n k r (nextPlace (fieldAt r at) at) (omega arith)
+-- the field of a number, among those that are handed out
+pub field-numbered : (n k : ℕ) (bytes : RefT (List ℕ)) (at : ℕ) → k < n → getD (handedOut n (readerAt bytes at)) k Refused ≡ fieldAt (now bytes) (placeAfter k (now bytes) at)
+unfolding handedOut placeAfter
+field-numbered zero k bytes at h = absurd (omega arith)
+field-numbered (suc n) zero bytes at h = refl
+field-numbered (suc n) (suc k) bytes at h = field-numbered n k bytes (nextPlace (fieldAt (now bytes) at) at) (omega arith)
 
 -- a field lies within the record, at any place
-pub field-within : (r : List ℕ) (at tag start n next : ℕ) → fieldAt r at ≡ Content tag start n next → start + n ≤ length r
+pub field-within : (r : List ℕ) (at tag start n next : ℕ) → fieldAt r at ≡ Content tag start n next → (next ≡ start + n) × (next ≤ length r)
 unfolding fieldFor
 field-within r at tag start n next e =
     let f : FieldRule = fieldRule tag (λ _. true) in
     let i = is-field f r at tag start n next (ap (asked f) e ∙ rw (eq-eqb tag tag refl)) in
-    omega (arith, i .next-is, i .within)
+    (i .next-is, i .within)

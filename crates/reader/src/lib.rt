@@ -2,7 +2,7 @@
 use record::Field;
 ghost use mathlib.Core.Path.{_≡_};
 ghost use Rattle.record.specs.FieldAt.{fieldAt};
-ghost use Rattle.reader.specs.Reader.{readerAt, nextPlace, placeAfter};
+ghost use Rattle.reader.specs.Reader.{nextPlace, placeAfter, readerAt, movedOn};
 
 // A lent record, and the place where its next field is read.
 pub struct RecordReader<'a> {
@@ -37,7 +37,7 @@ impl<'a> RecordReader<'a> {
 
     // The field at the reader's place, and the reader moved on to the next; at the refusal it stays where it is.
     pub fn next_field(&mut self) -> Field
-        ensures { λ r. ⌜ (r ≡ fieldAt (now (now (self .entry) .bytes)) (now (self .entry) .place)) × (now (self .exit) ≡ readerAt (now (self .entry) .bytes) (nextPlace r (now (self .entry) .place))) ⌝ }
+        ensures { λ r. ⌜ (r ≡ fieldAt (now (now (self .entry) .bytes)) (now (self .entry) .place)) × (now (self .exit) ≡ movedOn (now (self .entry))) ⌝ }
     {
         let field = record::read_field(self.bytes, self.place);
         self.place = next_place(field, self.place);

@@ -48,7 +48,7 @@ module _ (terms : DealTerms) (x y : Fields) where
         (segment-strings (terms .size) x (ax .segment-path-length))
         (ap₂ (λ (m n : ℕ). segmentPathStrings (segmentPosition m n) (y .commitment) (y .segmentPath)) o z ∙ segment-strings (terms .size) y (ay .segment-path-length))
 
-    -- no difference in the entry parts: the same entry, and so the same offset and size
+    -- no difference in the entry parts: the same entry
     same-entry-named : x .place ≡ y .place → entriesFound .differs ≡ false → entryFor x ≡ entryFor y
     unfolding entriesFound
     same-entry-named at n =
@@ -69,6 +69,7 @@ module _ (terms : DealTerms) (r s : List ℕ) where
     unfolding settleRecords
     other-place h = rw (cr, cs, place-of r, place-of s, ne-eqb (fieldsOf r .place) (fieldsOf s .place) h)
 
+    -- what the code requires on the way: entry paths of one length, and an area to divide by
     pub entry-paths : length (fieldsOf r .entryPath) ≡ length (fieldsOf s .entryPath)
     entry-paths = accepted-fields r terms cr .entry-path-length ∙ sym (accepted-fields s terms cs .entry-path-length)
 
@@ -101,6 +102,7 @@ module _ (terms : DealTerms) (r s : List ℕ) where
         pub entries-differ : found .differs ≡ true → settledFrom found ≡ settleRecords terms r s
         entries-differ d = entries-decide entries segments (settleRecords terms r s) settled-is found found-is d
 
+        -- no difference in the entry parts: the segment paths start at one position and have one length
         module _ (br : Bytes r) (bs : Bytes s) (n : found .differs ≡ false) where
           named : (fieldsOf r .commitment ≡ fieldsOf s .commitment) × (fieldsOf r .offset ≡ fieldsOf s .offset) × (fieldsOf r .size ≡ fieldsOf s .size)
           unfolding entries

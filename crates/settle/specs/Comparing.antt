@@ -1,4 +1,5 @@
--- What settling compares: the strings of two entry paths, or of two segment paths, from one position.
+-- What settling compares (document 01, "Booking, finding, building, settling": settle): the strings of two entry paths, or of two segment paths, from one
+-- position.
 use Prim.Native.Nat.{ℕ, _/_}
 use mathlib.Core.List.{List, [], _∷_}
 use lib.ListN.{length}

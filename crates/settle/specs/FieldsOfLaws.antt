@@ -1,5 +1,5 @@
 -- The fields of a record by their places in it, and those of an accepted record.
-use mathlib.Core.Path.{_≡_, sym, ap, _∙_, subst}
+use mathlib.Core.Path.{_≡_, refl, sym, ap, _∙_, subst}
 use Prim.Native.Nat.{ℕ}
 use mathlib.Core.List.{List, []}
 use lib.ListN.{replicate}
@@ -16,6 +16,7 @@ use Rattle.settle.specs.Settle.{placeIn}
 use Rattle.settle.specs.FieldsOf.{parsedFields, fieldsOf}
 
 module _ (r : List ℕ) where
+  -- by their places
   pub fields-at : {o s p u un v vn : ℕ} → placesOf r ≡ FieldPlaces o s p u un v vn → fieldsOf r ≡ fields (part r 3 32) o s p (part r u un) (part r v vn)
   unfolding fieldsOf
   fields-at e = ap parsedFields (parse-places r ∙ ap (fieldsAt r) e)
@@ -24,14 +25,16 @@ module _ (r : List ℕ) where
   unfolding fieldsOf
   no-fields e = ap parsedFields (parse-places r ∙ ap (fieldsAt r) e)
 
+  -- the entry place that 18 compares
   pub place-of : placeIn (parse r) ≡ fieldsOf r .place
   unfolding fieldsOf
   place-of = go (parse r)
     where
       go : (x : Parsed) → placeIn x ≡ parsedFields x .place
-      go (parsed x) = λ i. x .place
-      go broken = λ i. 0
+      go (parsed x) = refl
+      go broken = refl
 
+  -- of an accepted record
   module _ (terms : DealTerms) (e : checkOf terms r ≡ 0) where
     fields-are : fieldsOf r ≡ check-means terms r e .0
     unfolding fieldsOf

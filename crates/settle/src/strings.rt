@@ -74,12 +74,6 @@ pub(crate) fn compare_segments(
     requires { ⌜ length (now «left_path») ≡ length (now «right_path») ⌝ }
     ensures { λ r. ⌜ r ≡ segmentsCompared position left (now («left_path» .entry)) right (now («right_path» .entry)) ⌝ }
 {
-    paths::compare_paths(
-        position,
-        left,
-        left_path,
-        right,
-        right_path,
-        no_difference(),
-    )
+    let seen = no_difference();
+    paths::compare_paths(position, left, left_path, right, right_path, seen)
 }

@@ -37,13 +37,9 @@ fn compare_deal_entry(deal: &[u8], record: &[u8]) -> Compared
     let end = 32 * levels;
     let own_path = &path[..end];
     let own_entry = octets::pair_at(deal, place as usize);
-    compare_entries(
-        place / 64,
-        entry_in(record),
-        entry_path_in(record),
-        own_entry,
-        own_path,
-    )
+    let entry = entry_in(record);
+    let entry_path = entry_path_in(record);
+    compare_entries(place / 64, entry, entry_path, own_entry, own_path)
 }
 
 // Compares the segment strings of an accepted record with those of the deal: the pairs of nodes above the segment.
@@ -60,13 +56,9 @@ fn compare_deal_segment(deal: &[u8], record: &[u8]) -> Compared
     let end = 32 * levels;
     let own_path = &path[..end];
     let own_node = merkle::node_at(deal, level, position as usize);
-    compare_segments(
-        position,
-        commitment_in(record),
-        segment_path_in(record),
-        own_node,
-        own_path,
-    )
+    let commitment = commitment_in(record);
+    let segment_path = segment_path_in(record);
+    compare_segments(position, commitment, segment_path, own_node, own_path)
 }
 
 // Settles a record with a deal: 2 for a deal size that is not allowed, 11 for a deal with stray bits, the refusal of the check against

@@ -24,18 +24,18 @@ lentOutput code value before = choose (eqb code 0) value before
 abbrev pub lentOutputOr : {A : Type 0} → ℕ → ℕ → A → A → A
 lentOutputOr other code value before = choose (eqb code 0 || eqb code other) value before
 
--- the numbers of an entry's kinds
+-- the number of an entry's kind: 1 where it is valid
 abbrev pub kindNumber : EntryKind → ℕ
 kindNumber NotValid = 0
 kindNumber Valid = 1
 
--- the numbers of a slot's states
+-- the number of a slot's state
 abbrev pub stateNumber : SlotState → ℕ
 stateNumber Free = 0
 stateNumber Standing = 1
 stateNumber Kept = 2
 
--- the code of a field: 3 where no field lies at the place; and its four numbers
+-- the code of a field, 3 where none lies at the place, and its four numbers, 0 there
 abbrev pub fieldCode : Field → ℕ
 fieldCode (Content tag start n next) = 0
 fieldCode Refused = 3

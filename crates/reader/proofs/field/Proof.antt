@@ -27,7 +27,7 @@ use contract.BorrowLft.{meet-⊑-right}
 use contract.Lifetimes.{Lfts}
 use contract.Monad.{Fun, fact, fact-use}
 use contract.Running.{givenOf, tables, tablesOf}
-use types.Kit.{Given, Item, Sq, runs, anyQ, atRet, ‵, raw, _⊛_, ⋆, given, some, later, _$_, _∵_, !, qed, by, move, keep, drop, use1, use2, use3, split, join, pick, learn, rewrite, fsplit, fjoin, fpick, fpack, suffices, frame, await, done}
+use types.Kit.{Given, Item, Sq, runs, anyQ, ‵, raw, _⊛_, ⋆, given, some, later, _$_, _∵_, !, qed, by, move, keep, drop, use1, use2, use3, split, join, pick, learn, rewrite, fsplit, fjoin, fpick, fpack, suffices, frame, await, done}
 use types.Run.{Below, look, init, store, forget, stop, from, load, lit, addr, bin, of-opd, and-then, no-more, assigns, assigns-last, land, first, skips, blocks, branches, loops, again, exec, returns-within, enter, alloc1, alloc0, params1, pass1, pass0, free1, free0}
 use sound.WpLaws.{FmC, fmOf, WpFn-mono}
 use denote.RattleType.{RattleType, owns}
@@ -35,8 +35,8 @@ use denote.Laws.{Is, shows}
 use denote.Memory.{mem, cellAt, partOf, pointee}
 use denote.Plain.{uint-vals, uint-tells, uint-makes}
 use denote.Builtin.{u8, usize}
-use denote.Ref.{RefT, NamedLft, MutRef, now}
-use denote.Signature.{plain, namedLft}
+use denote.Ref.{RefT, MutRef, now}
+use denote.Signature.{plain}
 use denote.Slice.{sliceTy, sliceVal, ShrSlice, slice-vals, shr-slice-tells, shr-slice-lawful, shr-slice-copy}
 use denote.Steps.{only, owned, peeks, heard, nothing}
 use denote.Enum.Laws as EL
@@ -57,7 +57,7 @@ use Rattle.record.proofs.Field as S
 use Rattle.record.proofs.Field.Laws as S′
 use Rattle.reader.specs.Reader.{readerAt, nextPlace, placeAfter}
 use Rattle.reader.specs.declared.RecordReader.{RecordReader}
-use Rattle.reader.proofs.Lent.{Back, lends, comes-back}
+use Rattle.reader.proofs.Lent.{lends, comes-back}
 use Rattle.reader.proofs.RecordReader as T
 use Rattle.reader.proofs.RecordReader.Laws as T′
 use Rattle.reader.proofs.RecordReader.new as new

@@ -1,8 +1,6 @@
 use borrow.Author.Needs.{needs}
 use Rattle.settle.proofs.strings.settled_from.Statement.{statement}
 use Rattle.settle.proofs.strings.settled_from.Tie as tie
-use Rattle.settle.proofs.strings.settled_from.Reads as reads
-use Rattle.settle.proofs.strings.settled_from.Lts as lts
 
 returns : tie.Need-returns
 returns c = simp (c .before .before .if1 .taken)

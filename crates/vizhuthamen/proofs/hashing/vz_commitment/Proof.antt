@@ -1,7 +1,7 @@
 use mathlib.Core.Path.{refl}
 use denote.Ref.{now}
-use Rattle.vizhuthamen.proofs.Outputs.{wrong-length, right-length}
 use borrow.Author.Needs.{needs}
+use Rattle.vizhuthamen.proofs.Outputs.{wrong-length, right-length}
 use Rattle.vizhuthamen.proofs.hashing.vz_commitment.Statement.{statement}
 use Rattle.vizhuthamen.proofs.hashing.vz_commitment.Tie as tie
 

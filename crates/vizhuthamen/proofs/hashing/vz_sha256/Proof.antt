@@ -1,8 +1,7 @@
 use mathlib.Core.Path.{refl}
 use denote.Ref.{now}
-use Rattle.vizhuthamen.proofs.Outputs.{wrong-length, right-length}
-use mathlib.Core.Path.{_≡_, refl, sym, ap, _∙_}
 use borrow.Author.Needs.{needs}
+use Rattle.vizhuthamen.proofs.Outputs.{wrong-length, right-length}
 use Rattle.vizhuthamen.proofs.hashing.vz_sha256.Statement.{statement}
 use Rattle.vizhuthamen.proofs.hashing.vz_sha256.Tie as tie
 

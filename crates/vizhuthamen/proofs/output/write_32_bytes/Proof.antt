@@ -1,9 +1,8 @@
 use mathlib.Core.Path.{_∙_}
-use denote.Ref.{now}
 use native.Mathlib.Omega.{arith}
-use Rattle.octets.specs.SpliceLaws.{splice-whole}
-use mathlib.Core.Path.{_≡_, refl, _∙_}
+use denote.Ref.{now}
 use borrow.Author.Needs.{needs}
+use Rattle.octets.specs.SpliceLaws.{splice-whole}
 use Rattle.vizhuthamen.proofs.output.write_32_bytes.Statement.{statement}
 use Rattle.vizhuthamen.proofs.output.write_32_bytes.Tie as tie
 

@@ -1,5 +1,4 @@
 use borrow.Author.Tests.{eq-eqb, ne-eqb}
-use borrow.Author.Needs.{needs}
 use Rattle.vizhuthamen.proofs.output.written_with.Statement.{statement}
 use Rattle.vizhuthamen.proofs.output.written_with.Tie as tie
 

@@ -1,8 +1,8 @@
 use mathlib.Core.Path.{refl, _∙_}
 use denote.Ref.{now}
+use borrow.Author.Needs.{needs}
 use Rattle.vizhuthamen.specs.Export.{lentCode}
 use Rattle.vizhuthamen.proofs.Outputs.{wrong-length, right-length}
-use borrow.Author.Needs.{needs}
 use Rattle.vizhuthamen.proofs.settling.vz_settle_records.Statement.{statement}
 use Rattle.vizhuthamen.proofs.settling.vz_settle_records.Tie as tie
 
