@@ -13,6 +13,7 @@ NAMES = {SHA256: "sha256", COMMITMENT: "commitment", NUMBERS: "index_numbers", M
          BOOK: "book", BUILD: "build", CHECK: "check", SETTLE: "settle_records", SETTLE_DEAL: "settle_with_deal", FIELDS: "read_field"}
 
 CHECK_INPUT = 13  # of the program check_record; no routine of its own
+INSPECT = 14  # of the C interface: what stands at an entry place
 
 MODEL = Model()
 
@@ -77,6 +78,8 @@ def answer(case):
         return line(0, *fields(a))
     if op == CHECK_INPUT:
         return line(check_input(a))
+    if op == INSPECT:  # a is the deal, x the place
+        return line(*m.inspect(a, x))
     raise ValueError(op)
 
 
@@ -297,6 +300,8 @@ def case(rng, op, sizes):
         return op, data, maybe_spoilt(rng, record_of(rng, data)), 0, 0
     if op == FIELDS:
         return op, maybe_spoilt(rng, record_of(rng, data)), b"", 0, 0
+    if op == INSPECT:
+        return op, data, b"", place(rng, len(data)), 0
     raise ValueError(op)
 
 

@@ -143,6 +143,22 @@ class Model:
     def lent_allowed(d):
         return power(d) and 512 <= d <= 1 << 24
 
+    def inspect(self, deal, place):
+        """Code, state (0 free, 1 standing, 2 kept), commitment, offset, size."""
+        d = len(deal)
+        if not self.lent_allowed(d):
+            return 2, 0, ZERO32, 0, 0
+        if stray(deal):
+            return 11, 0, ZERO32, 0, 0
+        _, n, start = index_numbers(d)
+        if place % 64 or not start <= place < d:
+            return 6, 0, ZERO32, 0, 0
+        i = (place - start) // 64
+        row = self.standing(deal, i)
+        if row is None:
+            return 0, 0, ZERO32, 0, 0
+        return 0, 2 if self.kept(deal, i) else 1, *row
+
     # ---- find
     def find(self, deal, commitment):
         """Code, offset, size, place; the view is deal[offset:offset + size]."""

@@ -115,4 +115,5 @@ def main():
     print(f"vectors: {len(calls)} calls, codes {codes}")
 
 
-main()
+if __name__ == "__main__":
+    main()

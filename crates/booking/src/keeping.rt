@@ -32,7 +32,8 @@ fn slot_keeps(deal: &[u8], segment: &[u8], commitment: [u8; 32], ranges: Ranges,
     if !octets::same_at(deal, place, &commitment) {
         return false;
     }
-    octets::same_at(deal, ranges.offsets[i] as usize, segment)
+    let offset = ranges.offsets[i] as usize;
+    octets::same_at(deal, offset, segment)
 }
 
 // The lowest slot of a lent deal that keeps the segment.

@@ -9,7 +9,7 @@ ghost use Rattle.booking.specs.Gather.{EndBy, emptyAt, overlapsAt, roomA
 
 // Whether the n bytes from o and the m bytes from p have a byte in common.
 fn overlap(o: u64, n: u64, p: u64, m: u64) -> bool
-    requires { ⌜ (o + n < 2 ^ 64) × (p + m < 2 ^ 64) ⌝ }
+    requires { ⌜ (o + n ≤ 2 ^ 36) × (p + m ≤ 2 ^ 36) ⌝ }
     ensures { λ r. ⌜ r ≡ R.overlap o n p m ⌝ }
 {
     o < p + m && p < o + n
@@ -17,7 +17,7 @@ fn overlap(o: u64, n: u64, p: u64, m: u64) -> bool
 
 // The lowest slot whose range overlaps the area from an offset.
 fn lowest_overlap(ranges: Ranges, slots: usize, offset: u64, area: u64) -> Lowest
-    requires { ⌜ (slots ≤ 128) × (offset + area < 2 ^ 64) × EndBy (2 ^ 36) slots (ranges .offsets) (ranges .areas) ⌝ }
+    requires { ⌜ (slots ≤ 128) × (offset + area ≤ 2 ^ 36) × EndBy (2 ^ 36) slots (ranges .offsets) (ranges .areas) ⌝ }
     ensures { λ r. ⌜ r ≡ asLowest (lowest (overlapsAt (ranges .offsets) (ranges .areas) offset area) 0 slots) ⌝ }
 {
     let mut i: usize = 0;

@@ -35,7 +35,7 @@ use denote.Laws.{Is, shows}
 use denote.Memory.{mem, cellAt, partOf, pointee}
 use denote.Plain.{uint-vals, uint-tells, uint-makes}
 use denote.Builtin.{u8, usize}
-use denote.Ref.{RefT, MutRef, now}
+use denote.Ref.{RefT, NamedLft, MutRef, now}
 use denote.Signature.{plain}
 use denote.Slice.{sliceTy, sliceVal, ShrSlice, slice-vals, shr-slice-tells, shr-slice-lawful, shr-slice-copy}
 use denote.Steps.{only, owned, peeks, heard, nothing}
@@ -55,7 +55,7 @@ use Rattle.record.specs.FieldAt.{fieldAt}
 use Rattle.record.specs.declared.Field.{Field}
 use Rattle.record.proofs.Field as S
 use Rattle.record.proofs.Field.Laws as S′
-use Rattle.reader.specs.Reader.{readerAt, nextPlace, placeAfter}
+use Rattle.reader.specs.Reader.{nextPlace, placeAfter, readerAt, movedOn}
 use Rattle.reader.specs.declared.RecordReader.{RecordReader}
 use Rattle.reader.proofs.Lent.{lends, comes-back}
 use Rattle.reader.proofs.RecordReader as T
@@ -100,6 +100,10 @@ one-less (suc n) r at h = let e : suc n - 1 ≡ n = omega arith in (omega arith,
 -- the struct's type, over a lifetime
 abbrev B : Lft → RattleType
 B κ = T.the-row (record { mir = named 1; lft = κ })
+
+-- the same as a local of a body has it, which erases the lifetime's name
+abbrev αᵉ : Lft → NamedLft
+αᵉ κ = record { mir = erased; lft = κ }
 
 abbrev D : Lft → Declared
 D κ = T.the-type (record { mir = named 1; lft = κ })
@@ -179,10 +183,10 @@ module _ {M : Type 1} (𝓤 : URA M) (H : Heap 𝓤) (A : Atoms 𝓤) (W : Given
         nothing ! $ move ! (3 ∷ 0 ∷ []) $ join ! $ move ! (2 ∷ 0 ∷ []) $ join ! $ join ! $ frame ! $ done !
 
     next-said : (f : Field) → ent 𝓤 (ensured 𝓤 H A next-field.ended (next-field.clauses 𝓤 H A at-mem run) lfts lent tt f)
-        (guard 𝓤 (f ≡ fieldAt (now s) p) (A .res γ (B κ .coded .code (readerAt s (nextPlace f p)))))
+        (guard 𝓤 (f ≡ fieldAt (now s) p) (A .res γ (B κ .coded .code (movedOn (readerAt s p)))))
     next-said f = exE 𝓤 _ (λ ws.
         let P : SProp 𝓤 = A .res γ (B κ .coded .code (ws .0)) in
-        let E : Type 0 = (f ≡ fieldAt (now s) p) × (ws .0 ≡ readerAt s (nextPlace f p)) in
+        let E : Type 0 = (f ≡ fieldAt (now s) p) × (ws .0 ≡ movedOn (readerAt s p)) in
         fact-use 𝓤 E (snd∗ 𝓤 (sep 𝓤 P (emp 𝓤)) (fact 𝓤 E)) (λ e.
         subst (λ (w : RecordReader). ent 𝓤 (sep 𝓤 (sep 𝓤 P (emp 𝓤)) (fact 𝓤 E)) (guard 𝓤 (f ≡ fieldAt (now s) p) (A .res γ (B κ .coded .code w)))) (e .1)
         (via 𝓤 P (via 𝓤 (sep 𝓤 P (emp 𝓤)) (fst∗ 𝓤 (sep 𝓤 P (emp 𝓤)) (fact 𝓤 E)) (fst∗ 𝓤 P (emp 𝓤))) (guardI 𝓤 (f ≡ fieldAt (now s) p) P (e .0)))))
@@ -200,6 +204,13 @@ module _ {M : Type 1} (𝓤 : URA M) (H : Heap 𝓤) (A : Atoms 𝓤) (W : Given
   abbrev Fewer : Variables → Variables → Type 0
   Fewer t′ t = t′ .left < t .left
 
+  -- the reader at a turn's start, and after the turn's field
+  abbrev reader : Variables → RecordReader
+  reader t = readerAt s (t .place)
+
+  abbrev after : Variables → RecordReader
+  after t = movedOn (reader t)
+
   fewer-ends : WellFounded Fewer
   fewer-ends = InvImage·wf (λ (t : Variables). t .left) (Nat·lt-wfRel .wf)
 
@@ -211,7 +222,7 @@ module _ {M : Type 1} (𝓤 : URA M) (H : Heap 𝓤) (A : Atoms 𝓤) (W : Given
   slice = sliceTy (tyRef (named 0) imm (tyInt w8))
 
   abbrev ref : Ty
-  ref = tyRef erased mut (pointee (T.the-row (record { mir = erased; lft = κ }) .written))
+  ref = tyRef erased mut (pointee (T.the-row (αᵉ κ) .written))
 
   -- what follows the test in a turn
   abbrev lessen : Code
@@ -229,7 +240,7 @@ module _ {M : Type 1} (𝓤 : URA M) (H : Heap 𝓤) (A : Atoms 𝓤) (W : Given
 
     -- the reader's cell and what it owns; κ's token; what the slice owns; the locals, the last first, with _3's cell in front
     abbrev At : Variables → List (Item 𝓤)
-    At t = ‵ (fat fullShare (T′.mir erased) l₃ 0 (T′.lowered (readerAt s (t .place)))) ∷ ‵ (B κ .own (readerAt s (t .place)) (T′.lowered (readerAt s (t .place)) ∷ [])) ∷ ‵ (flft κ q) ∷ ‵ Own
+    At t = ‵ (fat fullShare (T′.mir erased) l₃ 0 (T′.lowered (reader t))) ∷ ‵ (B κ .own (reader t) (T′.lowered (reader t) ∷ [])) ∷ ‵ (flft κ q) ∷ ‵ Own
         ∷ ‵ (froom tyBool l₈ 0) ∷ ‵ (fdies tyBool l₈) ∷ ‵ (froom ref l₇ 0) ∷ ‵ (fdies ref l₇) ∷ ‵ (froom (T′.mir erased) l₆ 0) ∷ ‵ (fdies (T′.mir erased) l₆) ∷ ‵ (froom S′.mir l₅ 0) ∷ ‵ (fdies S′.mir l₅)
         ∷ ‵ (fat fullShare word l₄ 0 (vint w64 (t .left))) ∷ ‵ (fdies word l₄) ∷ ‵ (fdies (T′.mir erased) l₃) ∷ ‵ (fat fullShare word l₂ 0 (vint w64 number)) ∷ ‵ (fdies word l₂)
         ∷ ‵ (fat fullShare slice l₁ 0 v) ∷ ‵ (fdies slice l₁) ∷ ‵ (froom S′.mir l₀ 0) ∷ ‵ (fdies S′.mir l₀) ∷ []
@@ -238,30 +249,25 @@ module _ {M : Type 1} (𝓤 : URA M) (H : Heap 𝓤) (A : Atoms 𝓤) (W : Given
     abbrev Turned : Variables → Out → SProp 𝓤
     Turned t = afterTurn 𝓤 H (Below 𝓤 H A Fewer At t) (afterBlock 𝓤 H (afterSeq 𝓤 H (Wp 𝓤 H C Λ En mir.t-5 (atReturn 𝓤 H En Post)) (atReturn 𝓤 H En Post)))
 
-    -- one field less to pass, once the field f was read
-    abbrev next-turn : (t : Variables) (f : Field) → f ≡ fieldAt (now s) (t .place) → Holds (not (eqb (t .left) 0)) → Variables
-    next-turn t f e more = record {
-      left = t .left - 1;
-      place = nextPlace f (t .place);
-      small = omega (arith, t .small);
-      same = ap (λ (g : Field). placeAfter (t .left - 1) (now s) (nextPlace g (t .place))) e ∙ (one-less (t .left) (now s) (t .place) more .1 ∙ t .same);
-    }
+    -- one field less to pass
+    abbrev next-turn : (t : Variables) → Holds (not (eqb (t .left) 0)) → Variables
+    next-turn t more = record { left = t .left - 1; place = after t .place; small = omega (arith, t .small); same = one-less (t .left) (now s) (t .place) more .1 ∙ t .same }
 
     turns : (t : Variables) → Sq W (At t) (runs C Λ En mir.turn-1 (anyQ (Turned t)))
     unfolding afterTurn
     turns t =
         assigns ! (addr ! (from ! (stop !))) (from ! (stop !)) (init ! 6 refl (tt, tt)) $
-        use2 W (‵ (mem (B κ) .lies (readerAt s (t .place)) l₃ 0)) (in-memory 𝓤 H A W κ (readerAt s (t .place)) l₃) $ lends ! tt (B κ) κ q (readerAt s (t .place)) l₃ 0 (λ a γ.
+        use2 W (‵ (mem (B κ) .lies (reader t) l₃ 0)) (in-memory 𝓤 H A W κ (reader t) l₃) $ lends ! tt (B κ) κ q (reader t) l₃ 0 (λ a γ.
         use3 W (raw (NextField 𝓤 H A at-mem run .pre (to-next l₃ (t .place) a γ))) (goes-next l₃ (t .place) a γ) $
         -- [what the call asks; the lender's part; the way back; what the slice owns; _8; …; _7; …; _6; …; _5; …; _4; …; …; _2; …; _1; …; _0; …]
         calls-at ! fm (NextField 𝓤 H A at-mem run) known-next (to-next l₃ (t .place) a γ) (and-then ! (load ! (from ! (stop !)) (look ! 6 refl)) (no-more !)) (λ u.
         use1 W (later (some (λ (f : Field). ((‵ (flft (a ∷ κ) (PosShare·left q)) ⊛ ‵ (flft κ (PosShare·right q)) ⊛ ‵ ftrue) ⊛ ‵ (S.the-row .own f (u ∷ []))) ⊛ raw (ensured 𝓤 H A next-field.ended (next-field.clauses 𝓤 H A at-mem run) (lfts l₃ (t .place) a γ) (lent l₃ (t .place) a γ) tt f)))) (id⊢ 𝓤 _) $ await ! tt $ pick ! (λ f.
-        split ! $ move ! (1 ∷ []) $ use1 W (given (f ≡ fieldAt (now s) (t .place)) (‵ (fres γ (B κ .coded .code (readerAt s (nextPlace f (t .place))))))) (next-said l₃ (t .place) a γ f) $ learn ! (λ e.
+        split ! $ move ! (1 ∷ []) $ use1 W (given (f ≡ fieldAt (now s) (t .place)) (‵ (fres γ (B κ .coded .code (after t))))) (next-said l₃ (t .place) a γ f) $ learn ! (λ e.
         move ! (1 ∷ []) $ split ! $ move ! (1 ∷ []) $ peeks ! S.the-row (Is S.the-row) (shows 𝓤 H A S.the-row) f (u ∷ []) (λ is.
         -- [the field; the tokens; the last value; the lender's part; the way back; what the slice owns; _8; …; _7; …; _6; …; _5; …; _4; …; …; _2; …; _1; …; _0; …]
         land ! (from ! (stop !)) (init ! 12 refl (EL.lawful S.the-type S′.the-laws 𝓤 H A W tt .typed f _ is .0)) $
-        move ! (1 ∷ []) $ split ! $ move ! (1 ∷ []) $ split ! $ move ! (2 ∷ 0 ∷ 5 ∷ 6 ∷ 4 ∷ []) $ comes-back ! tt (B κ) κ q (readerAt s (nextPlace f (t .place))) l₃ 0 a γ $
-        use1 W (‵ (fat fullShare (T′.mir erased) l₃ 0 (T′.lowered (readerAt s (nextPlace f (t .place))))) ⊛ ‵ (B κ .own (readerAt s (nextPlace f (t .place))) (T′.lowered (readerAt s (nextPlace f (t .place))) ∷ []))) (of-memory 𝓤 H A W κ (readerAt s (nextPlace f (t .place))) l₃) $ split ! $
+        move ! (1 ∷ []) $ split ! $ move ! (1 ∷ []) $ split ! $ move ! (2 ∷ 0 ∷ 5 ∷ 6 ∷ 4 ∷ []) $ comes-back ! tt (B κ) κ q (after t) l₃ 0 a γ $
+        use1 W (‵ (fat fullShare (T′.mir erased) l₃ 0 (T′.lowered (after t))) ⊛ ‵ (B κ .own (after t) (T′.lowered (after t) ∷ []))) (of-memory 𝓤 H A W κ (after t) l₃) $ split ! $
         move ! (3 ∷ []) $ drop ! $
         -- [_3; what the reader owns; the token; the field; what the slice owns; _8; …; _7; …; _6; …; _5; …; _4; …; …; _2; …; _1; …; _0; …]
         assigns ! (bin ! (load ! (from ! (stop !)) (look ! 13 refl)) (lit ! tt) tt) (from ! (stop !)) (init ! 5 refl (tt, tt)) $
@@ -271,9 +277,9 @@ module _ {M : Type 1} (𝓤 : URA M) (H : Heap 𝓤) (A : Atoms 𝓤) (W : Given
         move ! (20 ∷ 21 ∷ []) $ free1 ! $ move ! (18 ∷ 19 ∷ []) $ free1 ! $ move ! (16 ∷ 17 ∷ []) $ free1 ! $ move ! (0 ∷ 15 ∷ []) $ free1 ! $ move ! (12 ∷ 13 ∷ []) $ free1 ! $ move ! (10 ∷ 11 ∷ []) $ free1 ! $ move ! (8 ∷ 9 ∷ []) $ free1 ! $ move ! (6 ∷ 7 ∷ []) $ free1 ! $ move ! (4 ∷ 5 ∷ []) $ free1 ! $ free0 ! $
         keep ! (2 ∷ 1 ∷ 3 ∷ []) $ by ! (exits f u (e ∙ ap (fieldAt (now s)) (sym (none-left (t .left) (now s) (t .place) none) ∙ t .same))))
         (λ more. skips ! $ exec ! C Λ En lessen (anyQ (Turned t)) $
-        assigns-last ! (bin ! (load ! (from ! (stop !)) (look ! 13 refl)) (lit ! tt) (one-less (t .left) (now s) (t .place) more .0)) (from ! (stop !)) (store ! 13 refl (tt, record { fits = next-turn t f e more .small })) $
+        assigns-last ! (bin ! (load ! (from ! (stop !)) (look ! 13 refl)) (lit ! tt) (one-less (t .left) (now s) (t .place) more .0)) (from ! (stop !)) (store ! 13 refl (tt, record { fits = next-turn t more .small })) $
         forget ! 5 refl $ forget ! 7 refl $ forget ! 11 refl $ move ! (3 ∷ []) $ drop ! $
-        again ! Fewer At t (next-turn t f e more) (let one = one-less (t .left) (now s) (t .place) more .0 in omega arith)))))))
+        again ! Fewer At t (next-turn t more) (let one = one-less (t .left) (now s) (t .place) more .0 in omega arith)))))))
 
   module _ (𝓣 : Tables 𝓤 H) (fm : FmC 𝓤 H (W .laws) (𝓣 .C)) (known-new : Triple 𝓤 (𝓣 .C #reader·new) (New 𝓤 H A at-mem run)) (known-next : Triple 𝓤 (𝓣 .C #reader·next-field) (NextField 𝓤 H A at-mem run)) where
     -- the first turn
@@ -291,8 +297,8 @@ module _ {M : Type 1} (𝓤 : URA M) (H : Heap 𝓤) (A : Atoms 𝓤) (W : Given
         split ! $ move ! (1 ∷ []) $ use1 W (raw (fact 𝓤 (h ≡ readerAt s 0))) (new-said h) $ heard ! (h ≡ readerAt s 0) (λ e. split ! $ move ! (1 ∷ []) $
         -- [what the reader owns; the token; what the slice owns; _8; …; _7; …; _6; …; _5; …; _4; …; _3; …; _2; …; _1; …; _0; …]
         peeks ! (B κ) (Is (B κ)) (shows 𝓤 H A (B κ)) h (u ∷ []) (λ is.
-        land ! (from ! (stop !)) (init ! 7 refl (LL.lawful (T.the-type (record { mir = erased; lft = κ })) (T′.the-laws (record { mir = erased; lft = κ })) 𝓤 H A W .typed h _ is .0)) $
-        assigns ! (of-opd ! (load ! (from ! (stop !)) (look ! 7 refl))) (from ! (stop !)) (init ! 13 refl (LL.lawful (T.the-type (record { mir = erased; lft = κ })) (T′.the-laws (record { mir = erased; lft = κ })) 𝓤 H A W .typed h _ is .0)) $
+        land ! (from ! (stop !)) (init ! 7 refl (LL.lawful (T.the-type (αᵉ κ)) (T′.the-laws (αᵉ κ)) 𝓤 H A W .typed h _ is .0)) $
+        assigns ! (of-opd ! (load ! (from ! (stop !)) (look ! 7 refl))) (from ! (stop !)) (init ! 13 refl (LL.lawful (T.the-type (αᵉ κ)) (T′.the-laws (αᵉ κ)) 𝓤 H A W .typed h _ is .0)) $
         assigns ! (of-opd ! (load ! (from ! (stop !)) (look ! 15 refl))) (from ! (stop !)) (init ! 11 refl (tt, record { fits = ok })) $ forget ! 7 refl $
         -- the reader's machine value is written out, and the reader is the one that `new` promises
         rewrite ! 13 (λ (w : Val). ‵ (fat fullShare (T′.mir erased) l₃ 0 w)) (ap only (LL.tells (D κ) (L κ) h (u ∷ []) is) ∙ ap T′.lowered e) refl $

@@ -102,11 +102,11 @@ returns-3 c =
     let s = m .before .before .before .before .before .before .before .before .before .before in
     sym (other-commitment (now (s .args .deal)) (now (s .args .segment)) (s .args .i) (lent-size _ (s .pre .0) .deal) (sym (commitment-read m) ∙ not-true _ (c .if3 .taken)))
 
-mul-same-at : tie.Need-mul-same-at
-mul-same-at c = let h = slot-high (c .before .before .before .before .before .before .before .before .before .before .before) in omega arith
+mul-offset : tie.Need-mul-offset
+mul-offset c = let h = slot-high (c .before .before .before .before .before .before .before .before .before .before .before) in omega arith
 
-element-copy-out-same-at : tie.Need-element-copy-out-same-at
-element-copy-out-same-at c = slot-high (c .before .before .before .before .before .before .before .before .before .before .before)
+element-copy-out-offset : tie.Need-element-copy-out-offset
+element-copy-out-offset c = slot-high (c .before .before .before .before .before .before .before .before .before .before .before)
 
 same-at-requires-2 : tie.Need-same-at-requires-2
 same-at-requires-2 c κs =
@@ -116,9 +116,7 @@ same-at-requires-2 c κs =
     let t = lent-size (length deal) (s .pre .0) .deal in
     let z = segment-size (length deal) (length (now (s .args .segment))) t (s .pre .1 .0) in
     let g = s .pre .1 .1 .1 .0 in
-    let fits : getD (s .args .t4 .offsets) (s .args .i) 0 + length (now (s .args .segment)) ≤ length deal =
-    omega (arith, row-ends (length deal) (slotAt deal (s .args .i)) t, index-start-le (length deal), z .size-area, g .offset-at (s .args .i) (s .pre .1 .1 .1 .1), area-is a) in
-    fits
+    omega (arith, row-ends (length deal) (slotAt deal (s .args .i)) t, index-start-le (length deal), z .size-area, g .offset-at (s .args .i) (s .pre .1 .1 .1 .1), area-is a)
 
 returns-4 : tie.Need-returns-4
 returns-4 c =
@@ -152,7 +150,7 @@ slot-keeps-spec =
     slice-aggregate-same-at
     same-at-requires
     returns-3
-    mul-same-at
-    element-copy-out-same-at
+    mul-offset
+    element-copy-out-offset
     same-at-requires-2
     returns-4)

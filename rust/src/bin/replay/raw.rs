@@ -1,0 +1,181 @@
+//! A case answered by the functions of the C interface. Outputs are lent full of a pattern: with a code that writes none the
+//! pattern must stay, and zeros are shown.
+use super::{commitment_end, digest, no_operation, Answer, Case, Line};
+use std::fmt::Write;
+use vizhuthamen::ffi;
+
+const PATTERN: u8 = 0xa5;
+const NUMBER: u64 = 0xa5a5_a5a5_a5a5_a5a5;
+const WORD: u32 = 0xa5a5_a5a5;
+
+/// The line of an answer, and whether its code writes outputs.
+struct Written {
+    line: Line,
+    written: bool,
+    stayed: bool,
+}
+
+impl Written {
+    fn new(code: u32, writing: &[u32]) -> Written {
+        Written { line: Line::code(code), written: writing.contains(&code), stayed: true }
+    }
+
+    fn number(self, value: u64) -> Written {
+        let stayed = self.stayed && (self.written || value == NUMBER);
+        let line = self.line.add(if self.written { value } else { 0 });
+        Written { line, stayed, ..self }
+    }
+
+    fn word(self, value: u32) -> Written {
+        let stayed = self.stayed && (self.written || value == WORD);
+        let line = self.line.add(if self.written { value } else { 0 });
+        Written { line, stayed, ..self }
+    }
+
+    fn bytes<const N: usize>(self, value: [u8; N]) -> Written {
+        let stayed = self.stayed && (self.written || value == [PATTERN; N]);
+        let line = self.line.bytes(if self.written { &value } else { &[0; N] });
+        Written { line, stayed, ..self }
+    }
+
+    fn done(self) -> Answer {
+        match self.stayed {
+            true => Ok(self.line),
+            false => Err(format!("an output was changed by a refusal: {}", self.line.0).into()),
+        }
+    }
+}
+
+pub fn answer(case: &mut Case) -> Answer {
+    let Case { operation, ref mut a, ref mut b, x, y } = *case;
+    match operation {
+        1 | 2 => hashed(operation, a),
+        3 => numbers(x),
+        4 => make_entry(a, x, y),
+        5 => read_entry(a),
+        6 => find(a, b),
+        7 => book(a, b),
+        8 => build(a, b, x),
+        9 => check(b, x, a),
+        10 => {
+            let (commitment, second) = b.split_at(commitment_end(b, y));
+            settle_records(commitment, x, a, second)
+        }
+        11 => settle_with_deal(a, b),
+        12 => fields(a),
+        14 => inspect(a, x),
+        _ => no_operation(operation),
+    }
+}
+
+fn hashed(operation: u64, input: &[u8]) -> Answer {
+    let mut out = [PATTERN; 32];
+    let function = if operation == 1 { ffi::vz_sha256 } else { ffi::vz_commitment };
+    // SAFETY: here and below, slices are live and outputs are locals or mutably borrowed, so that nothing overlaps.
+    let code = unsafe { function(input.as_ptr(), input.len(), out.as_mut_ptr(), out.len()) };
+    Written::new(code, &[0]).bytes(out).done()
+}
+
+fn numbers(size: u64) -> Answer {
+    let (mut entries, mut start) = (NUMBER, NUMBER);
+    let code = unsafe { ffi::vz_index_numbers(size, &mut entries, &mut start) };
+    Written::new(code, &[0]).number(entries).number(start).done()
+}
+
+fn make_entry(c: &[u8], offset: u64, size: u64) -> Answer {
+    let mut out = [PATTERN; 64];
+    let code = unsafe { ffi::vz_make_entry(c.as_ptr(), c.len(), offset, size, out.as_mut_ptr(), out.len()) };
+    Written::new(code, &[0]).bytes(out).done()
+}
+
+fn read_entry(entry: &[u8]) -> Answer {
+    let (mut valid, mut node, mut offset, mut size) = (WORD, [PATTERN; 32], NUMBER, NUMBER);
+    let code = unsafe {
+        let out = node.as_mut_ptr();
+        ffi::vz_read_entry(entry.as_ptr(), entry.len(), &mut valid, out, 32, &mut offset, &mut size)
+    };
+    Written::new(code, &[0]).word(valid).bytes(node).number(offset).number(size).done()
+}
+
+fn inspect(deal: &[u8], place: u64) -> Answer {
+    let (mut state, mut node, mut offset, mut size) = (WORD, [PATTERN; 32], NUMBER, NUMBER);
+    let code = unsafe {
+        let out = node.as_mut_ptr();
+        ffi::vz_inspect(deal.as_ptr(), deal.len(), place, &mut state, out, 32, &mut offset, &mut size)
+    };
+    Written::new(code, &[0]).word(state).bytes(node).number(offset).number(size).done()
+}
+
+fn find(deal: &[u8], c: &[u8]) -> Answer {
+    let (mut offset, mut size, mut place) = (NUMBER, NUMBER, NUMBER);
+    let code =
+        unsafe { ffi::vz_find(deal.as_ptr(), deal.len(), c.as_ptr(), c.len(), &mut offset, &mut size, &mut place) };
+    let line = Written::new(code, &[0]).number(offset).number(size).number(place).done()?;
+    let view = match code {
+        0 => offset.checked_add(size).and_then(|end| deal.get(offset as usize..end as usize)),
+        _ => Some(&[][..]),
+    };
+    let view = view.ok_or_else(|| format!("the view is outside the deal: {}", line.0))?;
+    Ok(line.add(view.len()).bytes(&digest(view)?))
+}
+
+fn book(deal: &mut [u8], segment: &[u8]) -> Answer {
+    let (mut offset, mut place) = (NUMBER, NUMBER);
+    let code = unsafe {
+        ffi::vz_book(deal.as_mut_ptr(), deal.len(), segment.as_ptr(), segment.len(), &mut offset, &mut place)
+    };
+    let line = Written::new(code, &[0, 15]).number(offset).number(place).done()?;
+    Ok(line.bytes(&digest(deal)?))
+}
+
+fn build(deal: &[u8], output: &mut [u8], place: u64) -> Answer {
+    let mut length = NUMBER;
+    let code =
+        unsafe { ffi::vz_build(deal.as_ptr(), deal.len(), place, output.as_mut_ptr(), output.len(), &mut length) };
+    let line = Written::new(code, &[0]).number(length).done()?;
+    Ok(line.bytes(&digest(output)?))
+}
+
+fn check(c: &[u8], size: u64, record: &[u8]) -> Answer {
+    let code = unsafe { ffi::vz_check(c.as_ptr(), c.len(), size, record.as_ptr(), record.len()) };
+    Ok(Line::code(code))
+}
+
+fn settle_records(c: &[u8], size: u64, first: &[u8], second: &[u8]) -> Answer {
+    let (mut left, mut right) = ([PATTERN; 64], [PATTERN; 64]);
+    let code = unsafe {
+        let (l, r) = (left.as_mut_ptr(), right.as_mut_ptr());
+        let (p, q) = (first.as_ptr(), second.as_ptr());
+        ffi::vz_settle_records(c.as_ptr(), c.len(), size, p, first.len(), q, second.len(), l, 64, r, 64)
+    };
+    Written::new(code, &[0, 17]).bytes(left).bytes(right).done()
+}
+
+fn settle_with_deal(deal: &[u8], record: &[u8]) -> Answer {
+    let (mut left, mut right) = ([PATTERN; 64], [PATTERN; 64]);
+    let code = unsafe {
+        let (l, r) = (left.as_mut_ptr(), right.as_mut_ptr());
+        ffi::vz_settle_with_deal(deal.as_ptr(), deal.len(), record.as_ptr(), record.len(), l, 64, r, 64)
+    };
+    Written::new(code, &[0, 17]).bytes(left).bytes(right).done()
+}
+
+fn fields(record: &[u8]) -> Answer {
+    let (mut line, mut place) = (String::from("0 "), 0);
+    loop {
+        let (mut tag, mut start, mut length, mut next) = (WORD, NUMBER, NUMBER, NUMBER);
+        let code = unsafe {
+            let (record, len) = (record.as_ptr(), record.len());
+            ffi::vz_read_field(record, len, place, &mut tag, &mut start, &mut length, &mut next)
+        };
+        let read = Written::new(code, &[0]).word(tag).number(start).number(length).number(next).done()?;
+        if code != 0 {
+            return Ok(Line(line + &place.to_string()));
+        }
+        if next <= place {
+            return Err(format!("the field at place {place} has the next place {next}").into());
+        }
+        write!(line, "{} ", read.0.strip_prefix("0 ").unwrap_or_default())?;
+        place = next;
+    }
+}

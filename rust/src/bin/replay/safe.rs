@@ -1,0 +1,113 @@
+//! A case answered by the safe functions.
+use super::{commitment_end, digest, no_operation, Answer, Case, Line};
+use std::fmt::Write;
+use vizhuthamen::{self as vz, Booking, Node, Position, Refusal, Settled, Slot};
+
+fn code(result: Result<(), Refusal>) -> Line {
+    Line::code(result.err().map_or(0, Refusal::code))
+}
+
+pub fn answer(case: Case) -> Answer {
+    let Case { operation, mut a, b, x, y } = case;
+    match operation {
+        1 => Ok(digest_line(vz::sha256(&a))),
+        2 => Ok(digest_line(vz::commitment(&a).map(|node| node.0))),
+        3 => Ok(numbers(x)),
+        4 => Ok(made_entry(vz::make_entry(&a, x, y))),
+        5 => Ok(read_entry(&a)),
+        6 => find(&a, &b),
+        7 => book(&mut a, &b),
+        8 => build(&a, b, x),
+        9 => Ok(code(vz::check(&b, x, &a))),
+        10 => {
+            let (commitment, second) = b.split_at(commitment_end(&b, y));
+            Ok(settled(vz::settle_records(commitment, x, &a, second)))
+        }
+        11 => Ok(settled(vz::settle_with_deal(&a, &b))),
+        12 => fields(&a),
+        14 => Ok(inspect(&a, x)),
+        _ => no_operation(operation),
+    }
+}
+
+fn digest_line(result: Result<[u8; 32], Refusal>) -> Line {
+    code(result.map(drop)).bytes(&result.unwrap_or_default())
+}
+
+fn numbers(size: u64) -> Line {
+    let result = vz::index_numbers(size);
+    let (entries, start) = result.map_or((0, 0), |numbers| (numbers.entries, numbers.start));
+    code(result.map(drop)).add(entries).add(start)
+}
+
+fn made_entry(result: Result<[u8; 64], Refusal>) -> Line {
+    code(result.map(drop)).bytes(&result.unwrap_or([0; 64]))
+}
+
+fn read_entry(entry: &[u8]) -> Line {
+    let result = vz::read_entry(entry);
+    let fields = result.ok().flatten();
+    let line = code(result.map(drop)).add(u8::from(fields.is_some()));
+    match fields {
+        Some(entry) => line.add(entry.commitment).add(entry.offset).add(entry.size),
+        None => line.add(Node::default()).add(0).add(0),
+    }
+}
+
+fn inspect(deal: &[u8], place: u64) -> Line {
+    let result = vz::inspect(deal, place);
+    let line = code(result.map(drop));
+    match result.unwrap_or(Slot::Free) {
+        Slot::Free => line.add(0).add(Node::default()).add(0).add(0),
+        Slot::Standing(entry) => line.add(1).add(entry.commitment).add(entry.offset).add(entry.size),
+        Slot::Kept(entry) => line.add(2).add(entry.commitment).add(entry.offset).add(entry.size),
+    }
+}
+
+/// The view is shown by its length and its SHA-256.
+fn find(deal: &[u8], commitment: &[u8]) -> Answer {
+    let result = vz::find(deal, commitment);
+    let (offset, size, place, view) =
+        result.map_or((0, 0, 0, &[][..]), |found| (found.offset, found.size, found.place, found.segment));
+    let line = code(result.map(drop)).add(offset).add(size).add(place);
+    Ok(line.add(view.len()).bytes(&digest(view)?))
+}
+
+/// The deal afterwards is shown by its SHA-256.
+fn book(deal: &mut [u8], segment: &[u8]) -> Answer {
+    let result = vz::book(deal, segment);
+    let (result, position) = match result {
+        Ok(Booking::Booked(position)) => (Ok(()), position),
+        Ok(Booking::AlreadyKept(position)) => (Err(Refusal::ALREADY_KEPT), position),
+        Err(refusal) => (Err(refusal), Position { offset: 0, place: 0 }),
+    };
+    Ok(code(result).add(position.offset).add(position.place).bytes(&digest(deal)?))
+}
+
+/// The output afterwards is shown by its SHA-256.
+fn build(deal: &[u8], mut output: Vec<u8>, place: u64) -> Answer {
+    let result = vz::build_into(deal, place, &mut output);
+    Ok(code(result.map(drop)).add(result.unwrap_or(0)).bytes(&digest(&output)?))
+}
+
+fn settled(result: Result<Settled, Refusal>) -> Line {
+    match result {
+        Ok(Settled::Same) => code(Ok(())).bytes(&[0; 64]).bytes(&[0; 64]),
+        Ok(Settled::Collision { left, right }) => code(Err(Refusal::COLLISION)).bytes(&left).bytes(&right),
+        Err(refusal) => code(Err(refusal)).bytes(&[0; 64]).bytes(&[0; 64]),
+    }
+}
+
+/// A zero; tag, start, length and next place of each field from place 0 on; then the place that is no field.
+fn fields(record: &[u8]) -> Answer {
+    let mut line = String::from("0 ");
+    let mut place = 0;
+    while let Ok(field) = vz::read_field(record, place) {
+        if field.next <= place {
+            return Err(format!("the field at place {place} has the next place {}", field.next).into());
+        }
+        write!(line, "{} {} {} {} ", field.tag, field.start, field.content.len(), field.next)?;
+        place = field.next;
+    }
+    Ok(Line(line + &place.to_string()))
+}

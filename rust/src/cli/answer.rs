@@ -1,0 +1,102 @@
+//! The answer of a command: a code, what it says, and values as text and as JSON.
+use super::json::Json;
+use vizhuthamen::Refusal;
+
+/// An answer. Code 0 is shown by the values alone where there are any, every other code by a line of its own before them.
+#[derive(Debug)]
+pub struct Answer {
+    code: u32,
+    meaning: &'static str,
+    text: String,
+    members: Vec<(&'static str, Json)>,
+    /// Bytes for standard output in the place of the text.
+    pub bytes: Option<Vec<u8>>,
+    /// Lines for standard error beside the answer.
+    pub notes: Vec<String>,
+}
+
+impl Answer {
+    /// Code 0 with its meaning for this command.
+    pub fn done(meaning: &'static str) -> Answer {
+        Answer { code: 0, meaning, text: String::new(), members: vec![], bytes: None, notes: vec![] }
+    }
+
+    pub fn refused(refusal: Refusal) -> Answer {
+        Answer { code: refusal.code(), ..Answer::done(refusal.meaning()) }
+    }
+
+    /// A value with its own line of text, `name value`.
+    pub fn with_value(mut self, name: &'static str, value: Json) -> Answer {
+        let shown = match &value {
+            Json::Text(text) => text.clone(),
+            other => other.encode(),
+        };
+        self.text.push_str(&format!("{name} {shown}\n"));
+        self.members.push((name, value));
+        self
+    }
+
+    /// Values for JSON, with this text in the place of their lines.
+    pub fn with_text(mut self, text: String, members: Vec<(&'static str, Json)>) -> Answer {
+        self.text.push_str(&text);
+        self.members.extend(members);
+        self
+    }
+
+    pub fn with_bytes(mut self, bytes: Vec<u8>) -> Answer {
+        self.bytes = Some(bytes);
+        self
+    }
+
+    pub fn with_note(mut self, note: String) -> Answer {
+        self.notes.push(note);
+        self
+    }
+
+    /// The exit status: the code.
+    pub fn status(&self) -> u8 {
+        u8::try_from(self.code).unwrap_or(u8::MAX)
+    }
+
+    pub fn to_text(&self) -> String {
+        if self.code == 0 && !self.text.is_empty() {
+            return self.text.clone();
+        }
+        format!("code {}: {}\n{}", self.code, self.meaning, self.text)
+    }
+
+    /// One JSON object and a newline.
+    pub fn to_json(&self) -> String {
+        let mut members =
+            vec![("code", Json::Number(u64::from(self.code))), ("meaning", Json::Text(self.meaning.to_string()))];
+        members.extend(self.members.iter().cloned());
+        Json::Object(members).encode() + "\n"
+    }
+}
+
+#[cfg(test)]
+mod tests {
+    use super::*;
+
+    #[test]
+    fn code_0_with_values_shows_the_values() {
+        let answer =
+            Answer::done("done").with_value("offset", Json::Number(128)).with_value("place", Json::Number(320));
+        assert_eq!(answer.to_text(), "offset 128\nplace 320\n");
+        assert_eq!(answer.to_json(), "{\"code\":0,\"meaning\":\"done\",\"offset\":128,\"place\":320}\n");
+        assert_eq!(answer.status(), 0);
+    }
+
+    #[test]
+    fn code_0_without_values_shows_its_meaning() {
+        assert_eq!(Answer::done("accepted").to_text(), "code 0: accepted\n");
+    }
+
+    #[test]
+    fn a_refusal_shows_its_code_and_then_its_values() {
+        let answer = Answer::refused(Refusal::ALREADY_KEPT).with_value("offset", Json::Number(0));
+        assert_eq!(answer.to_text(), "code 15: the segment is kept already\noffset 0\n");
+        assert_eq!(answer.to_json(), "{\"code\":15,\"meaning\":\"the segment is kept already\",\"offset\":0}\n");
+        assert_eq!(answer.status(), 15);
+    }
+}

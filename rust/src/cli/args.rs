@@ -1,0 +1,281 @@
+//! The words of a call.
+use super::failure::{usage, Failure};
+use super::help::{self, Topic};
+use std::ffi::{OsStr, OsString};
+use std::os::unix::ffi::OsStrExt;
+use std::path::PathBuf;
+use vizhuthamen::hex;
+
+/// Where bytes are read from, or written to: standard input or output for the name `-`, else a file.
+#[derive(Debug, PartialEq, Eq)]
+pub enum Stream {
+    Standard,
+    File(PathBuf),
+}
+
+#[derive(Debug, PartialEq, Eq)]
+pub enum Command {
+    New { deal: Stream, size: u64 },
+    Commit { file: Stream },
+    Book { deal: Stream, segment: Stream },
+    List { deal: Stream },
+    Find { deal: Stream, commitment: Vec<u8>, output: Option<Stream> },
+    Build { deal: Stream, place: u64, output: Option<Stream> },
+    Check { commitment: Vec<u8>, size: u64, record: Stream },
+    Settle { commitment: Vec<u8>, size: u64, first: Stream, second: Stream },
+    SettleDeal { deal: Stream, record: Stream },
+    Show { record: Stream },
+}
+
+/// What a call asks for: a text to print, or a command.
+#[derive(Debug, PartialEq, Eq)]
+pub enum Request {
+    Text(String),
+    Run { command: Command, json: bool },
+}
+
+/// The words of a call, options taken apart from operands.
+#[derive(Default)]
+struct Words {
+    operands: Vec<OsString>,
+    output: Option<OsString>,
+    json: bool,
+    help: bool,
+    version: bool,
+}
+
+/// What the words ask for, or why they are no call.
+pub fn parse(words: Vec<OsString>) -> Result<Request, Failure> {
+    let words = sort(words)?;
+    if words.version {
+        return Ok(Request::Text(help::version()));
+    }
+    let mut operands = words.operands.iter();
+    let name = match operands.next() {
+        Some(name) if name == "help" => return help_on(operands.next()),
+        Some(name) => name,
+        None if words.help => return Ok(Request::Text(help::overall())),
+        None => return Err(usage("a command is missing")),
+    };
+    let topic = topic_named(name)?;
+    if words.help {
+        return Ok(Request::Text(help::of(topic)));
+    }
+    let command = command(topic, operands.as_slice(), words.output)?;
+    if words.json && raw_output(&command) {
+        return Err(usage("--json and --output - both write to standard output"));
+    }
+    Ok(Request::Run { command, json: words.json })
+}
+
+fn help_on(name: Option<&OsString>) -> Result<Request, Failure> {
+    Ok(Request::Text(match name {
+        Some(name) => help::of(topic_named(name)?),
+        None => help::overall(),
+    }))
+}
+
+fn topic_named(name: &OsStr) -> Result<&'static Topic, Failure> {
+    name.to_str().and_then(help::topic).ok_or_else(|| usage(format!("no such command: {}", name.to_string_lossy())))
+}
+
+/// Takes options apart from operands.
+fn sort(words: Vec<OsString>) -> Result<Words, Failure> {
+    let mut sorted = Words::default();
+    let mut words = words.into_iter();
+    while let Some(word) = words.next() {
+        match word.as_bytes() {
+            b"--" => sorted.operands.extend(words.by_ref()),
+            b"--json" => sorted.json = true,
+            b"-h" | b"--help" => sorted.help = true,
+            b"-V" | b"--version" => sorted.version = true,
+            b"-o" | b"--output" => {
+                let file = words.next().ok_or_else(|| usage("--output needs a file name"))?;
+                set_output(&mut sorted, file)?;
+            }
+            option if option.starts_with(b"--output=") => {
+                let file = OsStr::from_bytes(&option[b"--output=".len()..]).to_os_string();
+                set_output(&mut sorted, file)?;
+            }
+            option if option.len() > 1 && option[0] == b'-' => {
+                return Err(usage(format!("no such option: {}", word.to_string_lossy())));
+            }
+            _ => sorted.operands.push(word),
+        }
+    }
+    Ok(sorted)
+}
+
+fn set_output(words: &mut Words, file: OsString) -> Result<(), Failure> {
+    match words.output.replace(file) {
+        None => Ok(()),
+        Some(_) => Err(usage("--output is given twice")),
+    }
+}
+
+/// The command of a topic with these operands.
+fn command(topic: &Topic, operands: &[OsString], output: Option<OsString>) -> Result<Command, Failure> {
+    if output.is_some() && !topic.takes_output {
+        return Err(usage(format!("{} takes no --output", topic.name)));
+    }
+    if operands.len() != topic.operands.len() {
+        return Err(usage(format!("wrong number of words; the call is: vizhuthamen {}", help::call(topic))));
+    }
+    let output = output.map(|file| stream(&file)).transpose()?;
+    let command = operands_of(topic.name, operands, output)?;
+    match standard_inputs(&command) {
+        0 | 1 => Ok(command),
+        _ => Err(usage("standard input can be read only once")),
+    }
+}
+
+/// Reads the operands, whose number is right.
+fn operands_of(name: &str, words: &[OsString], output: Option<Stream>) -> Result<Command, Failure> {
+    Ok(match (name, words) {
+        ("new", [deal, size]) => Command::New { deal: stream(deal)?, size: number(size)? },
+        ("commit", [file]) => Command::Commit { file: stream(file)? },
+        ("book", [deal, segment]) => Command::Book { deal: stream(deal)?, segment: stream(segment)? },
+        ("list", [deal]) => Command::List { deal: stream(deal)? },
+        ("find", [deal, node]) => Command::Find { deal: stream(deal)?, commitment: bytes(node)?, output },
+        ("build", [deal, place]) => Command::Build { deal: stream(deal)?, place: number(place)?, output },
+        ("check", [node, size, record]) => {
+            Command::Check { commitment: bytes(node)?, size: number(size)?, record: stream(record)? }
+        }
+        ("settle", [node, size, first, second]) => Command::Settle {
+            commitment: bytes(node)?,
+            size: number(size)?,
+            first: stream(first)?,
+            second: stream(second)?,
+        },
+        ("settle-deal", [deal, record]) => Command::SettleDeal { deal: stream(deal)?, record: stream(record)? },
+        ("show", [record]) => Command::Show { record: stream(record)? },
+        _ => return Err(usage(format!("no such command: {name}"))),
+    })
+}
+
+/// How many operands of a command are read from standard input.
+fn standard_inputs(command: &Command) -> usize {
+    let read: &[&Stream] = match command {
+        Command::New { .. } => &[],
+        Command::Commit { file } => &[file],
+        Command::Book { deal, segment } => &[deal, segment],
+        Command::List { deal } | Command::Find { deal, .. } | Command::Build { deal, .. } => &[deal],
+        Command::Check { record, .. } | Command::Show { record } => &[record],
+        Command::Settle { first, second, .. } => &[first, second],
+        Command::SettleDeal { deal, record } => &[deal, record],
+    };
+    read.iter().filter(|stream| ***stream == Stream::Standard).count()
+}
+
+/// Whether the command writes bytes to standard output in the place of its answer.
+fn raw_output(command: &Command) -> bool {
+    matches!(command, Command::Find { output: Some(Stream::Standard), .. })
+        || matches!(command, Command::Build { output: Some(Stream::Standard), .. })
+}
+
+fn stream(word: &OsStr) -> Result<Stream, Failure> {
+    match word.as_bytes() {
+        b"" => Err(usage("a file name is empty")),
+        b"-" => Ok(Stream::Standard),
+        _ => Ok(Stream::File(PathBuf::from(word))),
+    }
+}
+
+/// A decimal number, of digits alone.
+fn number(word: &OsStr) -> Result<u64, Failure> {
+    let digits = word.to_str().filter(|text| !text.is_empty() && text.bytes().all(|b| b.is_ascii_digit()));
+    digits
+        .and_then(|text| text.parse().ok())
+        .ok_or_else(|| usage(format!("not a decimal number below 2^64: {}", word.to_string_lossy())))
+}
+
+/// The bytes of a commitment in hex, however many there are: the library judges their number.
+fn bytes(word: &OsStr) -> Result<Vec<u8>, Failure> {
+    word.to_str()
+        .and_then(hex::decode)
+        .ok_or_else(|| usage(format!("not a commitment in hex: {}", word.to_string_lossy())))
+}
+
+#[cfg(test)]
+mod tests {
+    use super::*;
+
+    fn parsed(line: &str) -> Result<Request, Failure> {
+        parse(line.split(' ').filter(|word| !word.is_empty()).map(OsString::from).collect())
+    }
+
+    fn file(name: &str) -> Stream {
+        Stream::File(PathBuf::from(name))
+    }
+
+    #[test]
+    fn commands() {
+        let book = Command::Book { deal: file("d"), segment: Stream::Standard };
+        assert_eq!(parsed("book d -"), Ok(Request::Run { command: book, json: false }));
+        let check = Command::Check { commitment: vec![0xab, 1], size: 512, record: file("-r") };
+        assert_eq!(parsed("--json check AB01 512 -- -r"), Ok(Request::Run { command: check, json: true }));
+    }
+
+    #[test]
+    fn output_in_three_spellings() {
+        for option in ["--output f", "--output=f", "-o f"] {
+            let build = Command::Build { deal: file("d"), place: 256, output: Some(file("f")) };
+            assert_eq!(parsed(&format!("build d {option} 256")), Ok(Request::Run { command: build, json: false }));
+        }
+    }
+
+    #[test]
+    fn texts() {
+        for line in ["--help", "-h", "help"] {
+            assert_eq!(parsed(line), Ok(Request::Text(help::overall())));
+        }
+        for topic in &help::TOPICS {
+            for line in [format!("{} --help", topic.name), format!("help {}", topic.name)] {
+                assert_eq!(parsed(&line), Ok(Request::Text(help::of(topic))));
+            }
+        }
+        assert_eq!(parsed("--version"), Ok(Request::Text(help::version())));
+    }
+
+    #[test]
+    fn wrong_usage() {
+        let lines = [
+            "",
+            "nothing",
+            "new d",
+            "new d 512 1",
+            "new d 0x200",
+            "new d +512",
+            "new d -512",
+            "new d 512k",
+            "book d",
+            "new d 18446744073709551616",
+            "find d xyz",
+            "find d abc",
+            "list d --output f",
+            "list --all d",
+            "build d 256 --output",
+            "build d 256 -o a -o b",
+            "build d 256 -o - --json",
+            "settle ab 512 - -",
+            "settle-deal - -",
+            "book - -",
+            "help nothing",
+            "nothing --help",
+            "build d 256 --output=",
+        ];
+        for line in lines {
+            assert!(matches!(parsed(line), Err(Failure { status: 64, .. })), "{line}");
+        }
+    }
+
+    #[test]
+    fn words_that_are_no_utf_8() {
+        let odd = OsStr::from_bytes(b"\xff\xfe").to_os_string();
+        let path = Command::Commit { file: Stream::File(PathBuf::from(&odd)) };
+        assert_eq!(parse(vec!["commit".into(), odd.clone()]), Ok(Request::Run { command: path, json: false }));
+        assert!(parse(vec![odd.clone()]).is_err());
+        assert!(parse(vec!["new".into(), "d".into(), odd.clone()]).is_err());
+        assert!(parse(vec!["find".into(), "d".into(), odd]).is_err());
+    }
+}

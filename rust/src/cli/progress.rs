@@ -1,0 +1,41 @@
+//! Progress of long work, on standard error where that is a terminal.
+use std::io::{self, IsTerminal, Write};
+
+/// Work on fewer bytes than this is not announced.
+const LONG: usize = 4 << 20;
+
+/// A line on standard error that is there while the work is done.
+pub struct Progress {
+    what: &'static str,
+    shown: bool,
+}
+
+impl Progress {
+    /// Announces work on a number of bytes.
+    pub fn start(what: &'static str, bytes: usize) -> Progress {
+        let progress = Progress { what, shown: bytes >= LONG && io::stderr().is_terminal() };
+        progress.show(&format!("{} MiB", bytes >> 20));
+        progress
+    }
+
+    /// Shows how far the work is.
+    pub fn step(&self, done: u64, total: u64) {
+        self.show(&format!("{done} of {total}"));
+    }
+
+    fn show(&self, detail: &str) {
+        if self.shown {
+            let mut err = io::stderr().lock();
+            let _ = write!(err, "\r\x1b[K{}: {detail} ...", self.what).and_then(|()| err.flush());
+        }
+    }
+}
+
+impl Drop for Progress {
+    fn drop(&mut self) {
+        if self.shown {
+            let mut err = io::stderr().lock();
+            let _ = write!(err, "\r\x1b[K").and_then(|()| err.flush());
+        }
+    }
+}

@@ -1,0 +1,202 @@
+//! A deal in memory: its slots, finding a segment, booking one.
+use crate::codes::{accepted, Refusal};
+use crate::entry::Entry;
+use crate::ffi;
+use crate::node::Node;
+
+/// The largest deal that is held in memory, in bytes.
+pub const MAX_DEAL: usize = 1 << 24;
+
+/// What a slot of the index holds.
+#[derive(Clone, Copy, Debug, PartialEq, Eq)]
+pub enum Slot {
+    /// No standing entry.
+    Free,
+    /// A standing entry whose commitment is not that of the bytes at its offset.
+    Standing(Entry),
+    /// A standing entry whose commitment is that of the bytes at its offset.
+    Kept(Entry),
+}
+
+/// A segment that was found: where it is, and its bytes, a part of the deal.
+#[derive(Clone, Copy, Debug, PartialEq, Eq)]
+pub struct Found<'d> {
+    pub offset: u64,
+    pub size: u64,
+    pub place: u64,
+    pub segment: &'d [u8],
+}
+
+/// Where a segment and its index entry are.
+#[derive(Clone, Copy, Debug, PartialEq, Eq)]
+pub struct Position {
+    pub offset: u64,
+    pub place: u64,
+}
+
+/// The answer of a booking that is not refused.
+#[derive(Clone, Copy, Debug, PartialEq, Eq)]
+pub enum Booking {
+    /// The segment and its entry were written.
+    Booked(Position),
+    /// Code 15: the deal has the segment, and was not changed.
+    AlreadyKept(Position),
+}
+
+/// What stands at an entry place of a deal. Refusals: 2, 11, 6.
+pub fn inspect(deal: &[u8], place: u64) -> Result<Slot, Refusal> {
+    let mut state = 0;
+    let mut commitment = [0; 32];
+    let (mut offset, mut size) = (0, 0);
+    // SAFETY: both slices are live, and all that is written are locals of their own.
+    let code = unsafe {
+        ffi::vz_inspect(
+            deal.as_ptr(),
+            deal.len(),
+            place,
+            &mut state,
+            commitment.as_mut_ptr(),
+            commitment.len(),
+            &mut offset,
+            &mut size,
+        )
+    };
+    accepted(code)?;
+    let entry = Entry { commitment: Node(commitment), offset, size };
+    Ok(match state {
+        0 => Slot::Free,
+        1 => Slot::Standing(entry),
+        _ => Slot::Kept(entry),
+    })
+}
+
+/// The lowest slot that holds a kept entry with this commitment. Refusals: 1, 2, 11, 16.
+pub fn find<'d>(deal: &'d [u8], commitment: &[u8]) -> Result<Found<'d>, Refusal> {
+    let (mut offset, mut size, mut place) = (0, 0, 0);
+    // SAFETY: both slices are live, and all that is written are locals of their own.
+    let code = unsafe {
+        ffi::vz_find(
+            deal.as_ptr(),
+            deal.len(),
+            commitment.as_ptr(),
+            commitment.len(),
+            &mut offset,
+            &mut size,
+            &mut place,
+        )
+    };
+    accepted(code)?;
+    Ok(Found { offset, size, place, segment: part(deal, offset, size) })
+}
+
+/// The `length` bytes from `start` on. With code 0 the library's numbers lie within the slice it was lent.
+pub(crate) fn part(bytes: &[u8], start: u64, length: u64) -> &[u8] {
+    let (start, length) = (start as usize, length as usize);
+    &bytes[start..start + length]
+}
+
+/// Books a segment: it and its entry are written into the deal, unless the deal has it. Refusals: 2, 4, 11, 13, 14.
+pub fn book(deal: &mut [u8], segment: &[u8]) -> Result<Booking, Refusal> {
+    let (mut offset, mut place) = (0, 0);
+    // SAFETY: the slices are live and apart, since one is borrowed mutably; the two numbers are locals of their own.
+    let code = unsafe {
+        ffi::vz_book(deal.as_mut_ptr(), deal.len(), segment.as_ptr(), segment.len(), &mut offset, &mut place)
+    };
+    let position = Position { offset, place };
+    match accepted(code) {
+        Ok(()) => Ok(Booking::Booked(position)),
+        Err(Refusal::ALREADY_KEPT) => Ok(Booking::AlreadyKept(position)),
+        Err(refusal) => Err(refusal),
+    }
+}
+
+#[cfg(test)]
+mod tests {
+    use super::*;
+    use crate::entry::make_entry;
+    use crate::testing::segment;
+    use crate::tree::commitment;
+
+    fn booked(offset: u64, place: u64) -> Result<Booking, Refusal> {
+        Ok(Booking::Booked(Position { offset, place }))
+    }
+
+    /// The paper's run on an all-zero deal of 512 bytes.
+    #[test]
+    fn a_deal_of_512_bytes_fills() {
+        let mut deal = [0; 512];
+        assert_eq!(book(&mut deal, &segment(1, 128)), booked(0, 256));
+        let first = deal;
+        let again = Ok(Booking::AlreadyKept(Position { offset: 0, place: 256 }));
+        assert_eq!(book(&mut deal, &segment(1, 128)), again);
+        assert_eq!(deal, first);
+        assert_eq!(book(&mut deal, &segment(2, 128)), booked(128, 320));
+        assert_eq!(deal[128..256], segment(2, 128));
+        let second = deal;
+        assert_eq!(book(&mut deal, &segment(3, 128)), Err(Refusal::NO_PLACE));
+        assert_eq!(deal, second);
+    }
+
+    #[test]
+    fn four_slots_fill() {
+        let mut deal = [0; 1024];
+        for i in 0..4 {
+            assert_eq!(book(&mut deal, &segment(i, 128)), booked(128 * u64::from(i), 768 + 64 * u64::from(i)));
+        }
+        assert_eq!(book(&mut deal, &segment(4, 128)), Err(Refusal::NO_SLOT));
+    }
+
+    #[test]
+    fn the_all_zero_segment_is_booked_like_any_other() {
+        let mut deal = [0; 512];
+        assert_eq!(book(&mut deal, &[0; 128]), booked(0, 256));
+        assert!(matches!(book(&mut deal, &[0; 128]), Ok(Booking::AlreadyKept(_))));
+    }
+
+    #[test]
+    fn refused_bookings_change_nothing() {
+        let cases = [(511, 128, Refusal::SIZE), (0, 128, Refusal::SIZE), (512, 512, Refusal::SEGMENT_SIZE)];
+        for (size, length, refusal) in cases {
+            let mut deal = vec![0; size];
+            assert_eq!(book(&mut deal, &vec![0; length]), Err(refusal));
+            assert!(deal.iter().all(|byte| *byte == 0));
+        }
+        let mut deal = [0; 512];
+        assert_eq!(book(&mut deal, &[]), Err(Refusal::SEGMENT_SIZE));
+        assert_eq!(book(&mut deal, &[0xff; 128]), Err(Refusal::STRAY_BITS));
+        deal[31] = 0x40;
+        assert_eq!(book(&mut deal, &[0; 128]), Err(Refusal::STRAY_BITS));
+    }
+
+    #[test]
+    fn found_bytes_are_a_part_of_the_deal() {
+        let mut deal = [0; 1024];
+        book(&mut deal, &segment(1, 128)).unwrap();
+        book(&mut deal, &segment(2, 256)).unwrap();
+        let wanted = commitment(&segment(2, 256)).unwrap();
+        let found = find(&deal, wanted.as_ref()).unwrap();
+        assert_eq!((found.offset, found.size, found.place), (256, 256, 832));
+        assert_eq!(found.segment.as_ptr_range(), deal[256..512].as_ptr_range());
+        assert_eq!(find(&deal, &[0; 32]), Err(Refusal::NOT_KEPT));
+        assert_eq!(find(&deal, &[0; 31]), Err(Refusal::COMMITMENT_LENGTH));
+        assert_eq!(find(&deal[..1000], &[0; 32]), Err(Refusal::SIZE));
+    }
+
+    #[test]
+    fn the_three_states_of_a_slot() {
+        let mut deal = [0; 512];
+        book(&mut deal, &segment(1, 128)).unwrap();
+        let entry = Entry { commitment: commitment(&segment(1, 128)).unwrap(), offset: 0, size: 128 };
+        assert_eq!(inspect(&deal, 256), Ok(Slot::Kept(entry)));
+        assert_eq!(inspect(&deal, 320), Ok(Slot::Free));
+        let other = Entry { commitment: Node([7; 32]), offset: 128, size: 128 };
+        deal[320..384].copy_from_slice(&make_entry(&other.commitment.0, other.offset, other.size).unwrap());
+        assert_eq!(inspect(&deal, 320), Ok(Slot::Standing(other)));
+        for place in [0, 192, 255, 257, 300, 512, u64::MAX - 63] {
+            assert_eq!(inspect(&deal, place), Err(Refusal::PLACE), "{place}");
+        }
+        assert_eq!(inspect(&deal[..511], 256), Err(Refusal::SIZE));
+        deal[31] = 0x80;
+        assert_eq!(inspect(&deal, 0), Err(Refusal::STRAY_BITS));
+    }
+}

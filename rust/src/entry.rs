@@ -1,0 +1,113 @@
+//! Index entries, and the numbers of the index area.
+use crate::codes::{accepted, Refusal};
+use crate::ffi;
+use crate::node::Node;
+
+/// The number of index entries of a deal, and the byte at which its index area starts.
+#[derive(Clone, Copy, Debug, PartialEq, Eq)]
+pub struct IndexNumbers {
+    pub entries: u64,
+    pub start: u64,
+}
+
+/// What an index entry says.
+#[derive(Clone, Copy, Debug, PartialEq, Eq)]
+pub struct Entry {
+    pub commitment: Node,
+    pub offset: u64,
+    pub size: u64,
+}
+
+/// The index numbers for a deal size, a power of two from 512 to 2^36. Refusals: 2.
+pub fn index_numbers(size: u64) -> Result<IndexNumbers, Refusal> {
+    let (mut entries, mut start) = (0, 0);
+    // SAFETY: the two numbers are locals of their own.
+    let code = unsafe { ffi::vz_index_numbers(size, &mut entries, &mut start) };
+    accepted(code).map(|()| IndexNumbers { entries, start })
+}
+
+/// The 64 bytes of the entry for a commitment and two numbers, taken as they are. Refusals: 1, 8.
+pub fn make_entry(commitment: &[u8], offset: u64, size: u64) -> Result<[u8; 64], Refusal> {
+    let mut entry = [0; 64];
+    // SAFETY: both slices are live, and the one that is written is a local of its own.
+    let code = unsafe {
+        ffi::vz_make_entry(commitment.as_ptr(), commitment.len(), offset, size, entry.as_mut_ptr(), entry.len())
+    };
+    accepted(code).map(|()| entry)
+}
+
+/// What the 64 bytes of an entry say; `None` where the checksum is wrong. Refusals: 2 for another length.
+pub fn read_entry(entry: &[u8]) -> Result<Option<Entry>, Refusal> {
+    let mut valid = 0;
+    let mut commitment = [0; 32];
+    let (mut offset, mut size) = (0, 0);
+    // SAFETY: both slices are live, and all that is written are locals of their own.
+    let code = unsafe {
+        ffi::vz_read_entry(
+            entry.as_ptr(),
+            entry.len(),
+            &mut valid,
+            commitment.as_mut_ptr(),
+            commitment.len(),
+            &mut offset,
+            &mut size,
+        )
+    };
+    accepted(code)?;
+    Ok((valid == 1).then_some(Entry { commitment: Node(commitment), offset, size }))
+}
+
+#[cfg(test)]
+mod tests {
+    use super::*;
+
+    const COMMITMENT: Node = Node([5; 32]);
+
+    #[test]
+    fn index_numbers_of_the_paper() {
+        let rows = [
+            (512, 4, 256),
+            (524_288, 4, 524_032),
+            (1_048_576, 8, 1_048_064),
+            (16_777_216, 128, 16_769_024),
+            (34_359_738_368, 262_144, 34_342_961_152),
+            (68_719_476_736, 524_288, 68_685_922_304),
+        ];
+        for (size, entries, start) in rows {
+            assert_eq!(index_numbers(size), Ok(IndexNumbers { entries, start }));
+        }
+        for size in [0, 256, 513, 768, 1 << 37, u64::MAX] {
+            assert_eq!(index_numbers(size), Err(Refusal::SIZE), "{size}");
+        }
+    }
+
+    #[test]
+    fn an_entry_reads_back() {
+        for (offset, size) in [(0, 128), (1, 2), (u64::MAX, u64::MAX - 1)] {
+            let entry = make_entry(&COMMITMENT.0, offset, size).unwrap();
+            assert_eq!(entry[..32], COMMITMENT.0);
+            assert_eq!(read_entry(&entry), Ok(Some(Entry { commitment: COMMITMENT, offset, size })));
+        }
+    }
+
+    #[test]
+    fn a_changed_entry_is_not_valid() {
+        let entry = make_entry(&COMMITMENT.0, 128, 256).unwrap();
+        for at in 0..64 {
+            let mut changed = entry;
+            changed[at] ^= 1;
+            assert_eq!(read_entry(&changed), Ok(None), "byte {at}");
+        }
+        assert_eq!(read_entry(&[0; 64]), Ok(None));
+    }
+
+    #[test]
+    fn refusals() {
+        assert_eq!(make_entry(&[0; 31], 0, 0), Err(Refusal::COMMITMENT_LENGTH));
+        assert_eq!(make_entry(&[], 0, 0), Err(Refusal::COMMITMENT_LENGTH));
+        assert_eq!(make_entry(&[0xff; 32], 0, 0), Err(Refusal::COMMITMENT_BITS));
+        for length in [0, 63, 65] {
+            assert_eq!(read_entry(&vec![0; length]), Err(Refusal::SIZE), "{length}");
+        }
+    }
+}

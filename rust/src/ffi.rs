@@ -1,0 +1,203 @@
+//! The functions of the static library, as include/vizhuthamen.h declares them.
+//!
+//! A caller lends a pointer and a length; no pointer is null, and memory that is written overlaps no other argument.
+
+extern "C" {
+    pub fn vz_sha256(message: *const u8, message_len: usize, digest: *mut u8, digest_len: usize) -> u32;
+
+    pub fn vz_commitment(run: *const u8, run_len: usize, node: *mut u8, node_len: usize) -> u32;
+
+    pub fn vz_index_numbers(size: u64, entries: *mut u64, start: *mut u64) -> u32;
+
+    pub fn vz_make_entry(
+        commitment: *const u8,
+        commitment_len: usize,
+        offset: u64,
+        size: u64,
+        entry: *mut u8,
+        entry_len: usize,
+    ) -> u32;
+
+    pub fn vz_read_entry(
+        entry: *const u8,
+        entry_len: usize,
+        valid: *mut u32,
+        commitment: *mut u8,
+        commitment_len: usize,
+        offset: *mut u64,
+        size: *mut u64,
+    ) -> u32;
+
+    pub fn vz_inspect(
+        deal: *const u8,
+        deal_len: usize,
+        place: u64,
+        state: *mut u32,
+        commitment: *mut u8,
+        commitment_len: usize,
+        offset: *mut u64,
+        size: *mut u64,
+    ) -> u32;
+
+    pub fn vz_find(
+        deal: *const u8,
+        deal_len: usize,
+        commitment: *const u8,
+        commitment_len: usize,
+        offset: *mut u64,
+        size: *mut u64,
+        place: *mut u64,
+    ) -> u32;
+
+    pub fn vz_book(
+        deal: *mut u8,
+        deal_len: usize,
+        segment: *const u8,
+        segment_len: usize,
+        offset: *mut u64,
+        place: *mut u64,
+    ) -> u32;
+
+    pub fn vz_build(
+        deal: *const u8,
+        deal_len: usize,
+        place: u64,
+        record: *mut u8,
+        record_len: usize,
+        length: *mut u64,
+    ) -> u32;
+
+    pub fn vz_check(
+        commitment: *const u8,
+        commitment_len: usize,
+        size: u64,
+        record: *const u8,
+        record_len: usize,
+    ) -> u32;
+
+    pub fn vz_settle_records(
+        commitment: *const u8,
+        commitment_len: usize,
+        size: u64,
+        first: *const u8,
+        first_len: usize,
+        second: *const u8,
+        second_len: usize,
+        left: *mut u8,
+        left_len: usize,
+        right: *mut u8,
+        right_len: usize,
+    ) -> u32;
+
+    pub fn vz_settle_with_deal(
+        deal: *const u8,
+        deal_len: usize,
+        record: *const u8,
+        record_len: usize,
+        left: *mut u8,
+        left_len: usize,
+        right: *mut u8,
+        right_len: usize,
+    ) -> u32;
+
+    pub fn vz_read_field(
+        record: *const u8,
+        record_len: usize,
+        place: u64,
+        tag: *mut u32,
+        start: *mut u64,
+        length: *mut u64,
+        next: *mut u64,
+    ) -> u32;
+}
+
+/// What the header says of outputs beyond the safe functions' reach: a wrong length gets 12 before all else, and outputs
+/// stay as they were with every code that writes none.
+#[cfg(test)]
+mod tests {
+    use super::*;
+    use crate::testing::segment;
+
+    const LENGTHS: [usize; 5] = [0, 31, 33, 63, 65];
+    const PATTERN: u8 = 0xa5;
+    const NUMBER: u64 = 0xa5a5_a5a5_a5a5_a5a5;
+
+    /// Lends an output of each wrong length, full of a pattern, and expects code 12 and the pattern.
+    fn refuses_lengths(right: usize, call: impl Fn(&mut [u8]) -> u32) {
+        for length in LENGTHS.into_iter().filter(|length| *length != right) {
+            let mut output = vec![PATTERN; length];
+            assert_eq!(call(&mut output), 12, "{length}");
+            assert!(output.iter().all(|byte| *byte == PATTERN), "{length}");
+        }
+        assert_ne!(call(&mut vec![PATTERN; right]), 12);
+    }
+
+    #[test]
+    fn one_output_of_a_fixed_length() {
+        // An input that is refused too: the output's length is judged first.
+        for input in [&[0; 32][..], &[]] {
+            refuses_lengths(32, |out| unsafe { vz_sha256(input.as_ptr(), input.len(), out.as_mut_ptr(), out.len()) });
+            refuses_lengths(32, |out| unsafe {
+                vz_commitment(input.as_ptr(), input.len(), out.as_mut_ptr(), out.len())
+            });
+            refuses_lengths(64, |out| unsafe {
+                vz_make_entry(input.as_ptr(), input.len(), 0, 0, out.as_mut_ptr(), out.len())
+            });
+        }
+    }
+
+    #[test]
+    fn an_output_beside_numbers() {
+        for input in [&[0; 512][..], &[0; 64], &[]] {
+            refuses_lengths(32, |out| {
+                let (mut word, mut offset, mut size) = (7, NUMBER, NUMBER);
+                let code = unsafe {
+                    let (out, len) = (out.as_mut_ptr(), out.len());
+                    vz_read_entry(input.as_ptr(), input.len(), &mut word, out, len, &mut offset, &mut size)
+                };
+                assert!(code == 0 || (word, offset, size) == (7, NUMBER, NUMBER));
+                code
+            });
+            refuses_lengths(32, |out| {
+                let (mut word, mut offset, mut size) = (7, NUMBER, NUMBER);
+                let code = unsafe {
+                    let (out, len) = (out.as_mut_ptr(), out.len());
+                    vz_inspect(input.as_ptr(), input.len(), 256, &mut word, out, len, &mut offset, &mut size)
+                };
+                assert!(code == 0 || (word, offset, size) == (7, NUMBER, NUMBER));
+                code
+            });
+        }
+    }
+
+    #[test]
+    fn two_outputs() {
+        let (deal, record, root) = ([0; 512], [0; 234], [0; 32]);
+        let records = |left: &mut [u8], right: &mut [u8]| unsafe {
+            let (l, ln, r, rn) = (left.as_mut_ptr(), left.len(), right.as_mut_ptr(), right.len());
+            vz_settle_records(root.as_ptr(), 32, 512, record.as_ptr(), 234, record.as_ptr(), 234, l, ln, r, rn)
+        };
+        let with_deal = |left: &mut [u8], right: &mut [u8]| unsafe {
+            let (l, ln, r, rn) = (left.as_mut_ptr(), left.len(), right.as_mut_ptr(), right.len());
+            vz_settle_with_deal(deal.as_ptr(), 512, record.as_ptr(), 234, l, ln, r, rn)
+        };
+        refuses_lengths(64, |out| records(out, &mut [0; 64]));
+        refuses_lengths(64, |out| records(&mut [0; 64], out));
+        refuses_lengths(64, |out| with_deal(out, &mut [0; 64]));
+        refuses_lengths(64, |out| with_deal(&mut [0; 64], out));
+    }
+
+    #[test]
+    fn numbers_stay_with_refusals() {
+        let (mut a, mut b, mut c, mut tag) = (NUMBER, NUMBER, NUMBER, 7);
+        let mut deal = [0; 512];
+        unsafe {
+            assert_eq!(vz_index_numbers(511, &mut a, &mut b), 2);
+            assert_eq!(vz_find(deal.as_ptr(), 512, deal.as_ptr(), 32, &mut a, &mut b, &mut c), 16);
+            assert_eq!(vz_book(deal.as_mut_ptr(), 512, segment(1, 512).as_ptr(), 512, &mut a, &mut b), 4);
+            assert_eq!(vz_build(deal.as_ptr(), 512, 256, [0; 300].as_mut_ptr(), 300, &mut a), 16);
+            assert_eq!(vz_read_field(deal.as_ptr(), 2, 0, &mut tag, &mut a, &mut b, &mut c), 3);
+        }
+        assert_eq!((a, b, c, tag), (NUMBER, NUMBER, NUMBER, 7));
+    }
+}

@@ -1,0 +1,39 @@
+//! Verifiable data aggregation (FRC-0058) over the proved static library libvizhuthamen.a.
+//!
+//! Every function here is a safe call of one function of the library. A refusal is a [`Refusal`], which carries the code and its
+//! meaning in words. The answers with a code that is not 0 and yet carry values (15 of a booking, 17 of a settling) are cases of
+//! [`Booking`] and [`Settled`].
+//!
+//! ```
+//! let mut deal = vec![0; 512];
+//! let segment = [1; 128];
+//! let vizhuthamen::Booking::Booked(position) = vizhuthamen::book(&mut deal, &segment)? else {
+//!     unreachable!("an all-zero deal keeps nothing");
+//! };
+//! let record = vizhuthamen::build(&deal, position.place)?;
+//! let commitment = vizhuthamen::commitment(&deal)?;
+//! vizhuthamen::check(commitment.as_ref(), 512, &record)?;
+//! # Ok::<(), vizhuthamen::Refusal>(())
+//! ```
+#![warn(missing_debug_implementations)]
+
+mod codes;
+mod deal;
+mod entry;
+pub mod ffi;
+pub mod hex;
+mod node;
+mod record;
+mod tree;
+
+pub use codes::{meaning, Refusal};
+pub use deal::{book, find, inspect, Booking, Found, Position, Slot, MAX_DEAL};
+pub use entry::{index_numbers, make_entry, read_entry, Entry, IndexNumbers};
+pub use node::{Node, NotANode};
+pub use record::{
+    build, build_into, check, fields, read_field, settle_records, settle_with_deal, Field, Fields, Settled, MAX_RECORD,
+};
+pub use tree::{commitment, sha256};
+
+#[cfg(test)]
+mod testing;

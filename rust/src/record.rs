@@ -1,0 +1,262 @@
+//! Inclusion records: building, checking, settling, and reading their fields.
+use crate::codes::{accepted, Refusal};
+use crate::deal::part;
+use crate::ffi;
+
+/// The length of the longest record that is accepted, and so of the longest that is built.
+pub const MAX_RECORD: usize = 1962;
+
+/// The answer of a settling that is not refused.
+#[derive(Clone, Copy, Debug, PartialEq, Eq)]
+pub enum Settled {
+    /// Code 0: no string differs.
+    Same,
+    /// Code 17: two different 64-byte strings with one node hash, the first record's (or the record's) first.
+    Collision { left: [u8; 64], right: [u8; 64] },
+}
+
+/// A field of a record: its tag, where its content starts, the content, and the next field's place.
+#[derive(Clone, Copy, Debug, PartialEq, Eq)]
+pub struct Field<'r> {
+    pub tag: u8,
+    pub start: u64,
+    pub content: &'r [u8],
+    pub next: u64,
+}
+
+/// Builds the record of the entry at a place into the first bytes of an output, and answers its length.
+/// Refusals: 2, 11, 6, 16, 12.
+pub fn build_into(deal: &[u8], place: u64, output: &mut [u8]) -> Result<usize, Refusal> {
+    let mut length = 0;
+    // SAFETY: the slices are live and apart, since one is borrowed mutably; the number is a local of its own.
+    let code =
+        unsafe { ffi::vz_build(deal.as_ptr(), deal.len(), place, output.as_mut_ptr(), output.len(), &mut length) };
+    accepted(code).map(|()| length as usize)
+}
+
+/// The record of the entry at a place of a deal. Refusals: 2, 11, 6, 16.
+pub fn build(deal: &[u8], place: u64) -> Result<Vec<u8>, Refusal> {
+    let mut record = vec![0; MAX_RECORD];
+    let length = build_into(deal, place, &mut record)?;
+    record.truncate(length);
+    Ok(record)
+}
+
+/// Checks a record against a deal's commitment and size. Refusals: 1 to 10, in this order.
+pub fn check(commitment: &[u8], size: u64, record: &[u8]) -> Result<(), Refusal> {
+    // SAFETY: both slices are live, and nothing is written.
+    let code = unsafe { ffi::vz_check(commitment.as_ptr(), commitment.len(), size, record.as_ptr(), record.len()) };
+    accepted(code)
+}
+
+/// Settles two records for one deal commitment and size.
+/// Refusals: those of the first one's check, of the second one's, 18.
+pub fn settle_records(commitment: &[u8], size: u64, first: &[u8], second: &[u8]) -> Result<Settled, Refusal> {
+    let (mut left, mut right) = ([0; 64], [0; 64]);
+    // SAFETY: the slices are live, and those that are written are locals of their own.
+    let code = unsafe {
+        ffi::vz_settle_records(
+            commitment.as_ptr(),
+            commitment.len(),
+            size,
+            first.as_ptr(),
+            first.len(),
+            second.as_ptr(),
+            second.len(),
+            left.as_mut_ptr(),
+            left.len(),
+            right.as_mut_ptr(),
+            right.len(),
+        )
+    };
+    settled(code, left, right)
+}
+
+/// Settles a record with a deal in hand.
+/// Refusals: 2, 11, those of the check against the deal's own commitment and length.
+pub fn settle_with_deal(deal: &[u8], record: &[u8]) -> Result<Settled, Refusal> {
+    let (mut left, mut right) = ([0; 64], [0; 64]);
+    // SAFETY: the slices are live, and those that are written are locals of their own.
+    let code = unsafe {
+        ffi::vz_settle_with_deal(
+            deal.as_ptr(),
+            deal.len(),
+            record.as_ptr(),
+            record.len(),
+            left.as_mut_ptr(),
+            left.len(),
+            right.as_mut_ptr(),
+            right.len(),
+        )
+    };
+    settled(code, left, right)
+}
+
+/// What a settling's code and strings stand for.
+fn settled(code: u32, left: [u8; 64], right: [u8; 64]) -> Result<Settled, Refusal> {
+    match accepted(code) {
+        Ok(()) => Ok(Settled::Same),
+        Err(Refusal::COLLISION) => Ok(Settled::Collision { left, right }),
+        Err(refusal) => Err(refusal),
+    }
+}
+
+/// The field at a place of a record, whatever its tag. Refusals: 3 where no field lies there.
+pub fn read_field(record: &[u8], place: u64) -> Result<Field<'_>, Refusal> {
+    let mut tag = 0;
+    let (mut start, mut length, mut next) = (0, 0, 0);
+    // SAFETY: the slice is live, and all that is written are locals of their own.
+    let code = unsafe {
+        ffi::vz_read_field(record.as_ptr(), record.len(), place, &mut tag, &mut start, &mut length, &mut next)
+    };
+    accepted(code)?;
+    Ok(Field { tag: tag as u8, start, content: part(record, start, length), next })
+}
+
+/// The fields of a record from place 0 on, up to the first place that is no field.
+pub fn fields(record: &[u8]) -> Fields<'_> {
+    Fields { record, place: 0 }
+}
+
+/// Reads the fields of a record in turn.
+#[derive(Clone, Debug)]
+pub struct Fields<'r> {
+    record: &'r [u8],
+    place: u64,
+}
+
+impl Fields<'_> {
+    /// The place that is read next.
+    pub fn place(&self) -> u64 {
+        self.place
+    }
+}
+
+impl<'r> Iterator for Fields<'r> {
+    type Item = Field<'r>;
+
+    fn next(&mut self) -> Option<Field<'r>> {
+        let field = read_field(self.record, self.place).ok()?;
+        self.place = field.next;
+        Some(field)
+    }
+}
+
+#[cfg(test)]
+mod tests {
+    use super::*;
+    use crate::deal::book;
+    use crate::testing::segment;
+    use crate::tree::commitment;
+
+    /// A deal of 512 bytes that keeps two segments, with its commitment and the records of both.
+    fn example() -> ([u8; 512], [u8; 32], Vec<u8>, Vec<u8>) {
+        let mut deal = [0; 512];
+        book(&mut deal, &segment(1, 128)).unwrap();
+        book(&mut deal, &segment(2, 128)).unwrap();
+        let root = commitment(&deal).unwrap().0;
+        let (first, second) = (build(&deal, 256).unwrap(), build(&deal, 320).unwrap());
+        (deal, root, first, second)
+    }
+
+    #[test]
+    fn a_built_record_is_accepted() {
+        let (_, root, first, second) = example();
+        assert_eq!(first.len(), 234);
+        assert_eq!(check(&root, 512, &first), Ok(()));
+        assert_eq!(check(&root, 512, &second), Ok(()));
+        assert_ne!(first, second);
+    }
+
+    #[test]
+    fn a_record_with_any_byte_changed_is_refused() {
+        let (_, root, first, _) = example();
+        for at in 0..first.len() {
+            let mut changed = first.clone();
+            changed[at] ^= 1;
+            assert!(check(&root, 512, &changed).is_err(), "byte {at}");
+        }
+    }
+
+    #[test]
+    fn the_refusals_of_the_check() {
+        let (_, root, first, _) = example();
+        let changed = |at: usize, value: u8| {
+            let mut record = first.clone();
+            record[at] = value;
+            record
+        };
+        assert_eq!(check(&root[..31], 512, &first), Err(Refusal::COMMITMENT_LENGTH));
+        assert_eq!(check(&root, 511, &first), Err(Refusal::SIZE));
+        assert_eq!(check(&root, 512, &[]), Err(Refusal::FORM));
+        assert_eq!(check(&root, 512, &first[..233]), Err(Refusal::FORM));
+        assert_eq!(check(&root, 512, &changed(49, 0)), Err(Refusal::SEGMENT_SIZE));
+        assert_eq!(check(&root, 512, &changed(38, 64)), Err(Refusal::OFFSET));
+        assert_eq!(check(&root, 512, &changed(60, 1)), Err(Refusal::PLACE));
+        assert_eq!(check(&root, 1024, &first), Err(Refusal::PLACE));
+        assert_eq!(check(&root, 512, &changed(34, 0xff)), Err(Refusal::COMMITMENT_BITS));
+        assert_eq!(check(&root, 512, &changed(72, !first[72])), Err(Refusal::SEGMENT_PATH));
+        assert_eq!(check(&root, 512, &changed(233, !first[233])), Err(Refusal::ENTRY_PATH));
+    }
+
+    #[test]
+    fn an_output_that_is_too_short_stays() {
+        let (deal, _, first, _) = example();
+        let mut output = [9; 233];
+        assert_eq!(build_into(&deal, 256, &mut output), Err(Refusal::OUTPUT));
+        assert_eq!(output, [9; 233]);
+        assert_eq!(build_into(&deal, 256, &mut []), Err(Refusal::OUTPUT));
+        let mut output = [9; 240];
+        assert_eq!(build_into(&deal, 256, &mut output), Ok(234));
+        assert_eq!(output[..234], first);
+        assert_eq!(output[234..], [9; 6]);
+    }
+
+    #[test]
+    fn refused_buildings() {
+        let (mut deal, ..) = example();
+        assert_eq!(build(&deal, 384), Err(Refusal::NOT_KEPT));
+        assert_eq!(build(&deal, 300), Err(Refusal::PLACE));
+        assert_eq!(build(&deal[..256], 192), Err(Refusal::SIZE));
+        deal[0] ^= 1;
+        assert_eq!(build(&deal, 256), Err(Refusal::NOT_KEPT));
+        deal[31] |= 0x80;
+        assert_eq!(build(&deal, 300), Err(Refusal::STRAY_BITS));
+    }
+
+    #[test]
+    fn settling() {
+        let (mut deal, root, first, second) = example();
+        assert_eq!(settle_records(&root, 512, &first, &first), Ok(Settled::Same));
+        assert_eq!(settle_records(&root, 512, &first, &second), Err(Refusal::OTHER_PLACE));
+        assert_eq!(settle_records(&root, 512, &first, &[]), Err(Refusal::FORM));
+        assert_eq!(settle_with_deal(&deal, &first), Ok(Settled::Same));
+        assert_eq!(settle_with_deal(&deal[..100], &first), Err(Refusal::SIZE));
+        deal[0] ^= 1;
+        assert_eq!(settle_with_deal(&deal, &first), Err(Refusal::SEGMENT_PATH));
+    }
+
+    #[test]
+    fn code_17_is_a_collision_with_its_pair() {
+        let (left, right) = ([1; 64], [2; 64]);
+        assert_eq!(settled(17, left, right), Ok(Settled::Collision { left, right }));
+        assert_eq!(settled(0, left, right), Ok(Settled::Same));
+        assert_eq!(settled(18, left, right), Err(Refusal::OTHER_PLACE));
+    }
+
+    #[test]
+    fn fields_in_turn() {
+        let (_, _, first, _) = example();
+        let mut reader = fields(&first);
+        let read: Vec<_> = reader.by_ref().map(|f| (f.tag, f.start, f.content.len())).collect();
+        assert_eq!(read, [(1, 3, 32), (2, 38, 8), (3, 49, 8), (4, 60, 8), (5, 71, 64), (6, 138, 96)]);
+        assert_eq!(reader.place(), 234);
+        let mut cut = fields(&first[..100]);
+        assert_eq!(cut.by_ref().count(), 4);
+        assert_eq!(cut.place(), 68);
+        assert_eq!(fields(&[]).next(), None);
+        for place in [232, 234, 235, u64::MAX, u64::MAX - 2] {
+            assert_eq!(read_field(&first, place), Err(Refusal::FORM), "{place}");
+        }
+    }
+}

@@ -1,0 +1,464 @@
+"""Drives the command line as a user does: python3 tests/cli_test.py (VIZHUTHAMEN names another binary).
+
+The expected values are those of the independent model.
+"""
+import json
+import os
+import pty
+import random
+import resource
+import shutil
+import signal
+import stat
+import subprocess
+import tempfile
+import time
+import unittest
+from pathlib import Path
+
+from cases import node
+from model import Model
+
+ROOT = Path(__file__).resolve().parent.parent
+BINARY = Path(os.environ.get("VIZHUTHAMEN", ROOT / "rust" / "target" / "release" / "vizhuthamen"))
+COMMANDS = ("new", "commit", "book", "list", "find", "build", "check", "settle", "settle-deal", "show")
+MODEL = Model()
+USAGE, IO = 64, 74
+
+
+def nobody():
+    """Options of a call by a user whom permissions bind."""
+    return {"user": "nobody", "group": "nogroup", "extra_groups": []} if os.getuid() == 0 else {}
+
+
+class Calls(unittest.TestCase):
+    """A folder of its own for each test, and calls of the program in it."""
+
+    def setUp(self):
+        self.folder = Path(tempfile.mkdtemp(prefix="vizhuthamen-cli-"))
+        self.folder.chmod(0o777)
+        self.addCleanup(shutil.rmtree, self.folder)
+        self.program = self.folder / "program"
+        shutil.copy(BINARY, self.program)
+        self.program.chmod(0o755)
+        self.rng = random.Random(self.id())
+
+    def path(self, name):
+        return self.folder / name
+
+    def put(self, name, data):
+        self.path(name).write_bytes(data)
+        return data
+
+    def get(self, name):
+        return self.path(name).read_bytes()
+
+    def call(self, *words, status=0, stdin=b"", **options):
+        """Runs the program; the exit status must be the expected one. Gives standard output and standard error."""
+        ran = subprocess.run([self.program, *map(str, words)], input=stdin, capture_output=True, cwd=self.folder, timeout=120, **options)
+        self.assertEqual(ran.returncode, status, (words, ran.stdout[-300:], ran.stderr[-300:]))
+        return ran.stdout.decode(), ran.stderr.decode()
+
+    def answer(self, *words, **options):
+        return self.call(*words, **options)[0]
+
+    def refused(self, code, *words, **options):
+        """A refusal: the code as the exit status and in the first line."""
+        out = self.answer(*words, status=code, **options)
+        self.assertTrue(out.startswith(f"code {code}: "), out)
+        return out
+
+    def failed(self, status, *words, **options):
+        """A call without an answer: nothing on standard output, one line on standard error. Gives that line."""
+        out, err = self.call(*words, status=status, **options)
+        self.assertEqual(out, "")
+        self.assertRegex(err, r"\Avizhuthamen: [^\n]+\n\Z")
+        return err
+
+    def files(self):
+        return sorted(p.name for p in self.folder.iterdir() if p.name != "program")
+
+    def segment(self, size=128):
+        return b"".join(node(self.rng) for _ in range(size // 32))
+
+    def booked(self, size=1024, sizes=(256, 128)):
+        """A deal file `deal` that keeps segments of these sizes; the model's deal, and the records' places."""
+        deal, places = bytes(size), []
+        for s in sizes:
+            code, _, place, deal = MODEL.book(deal, self.segment(s))
+            self.assertEqual(code, 0)
+            places.append(place)
+        return self.put("deal", deal), places
+
+
+class MainJob(Calls):
+    def test_from_a_new_deal_to_a_settled_record(self):
+        a, b = self.put("a", self.segment(256)), self.put("b", self.segment(128))
+        ca, cb = (MODEL.commitment(x)[1].hex() for x in (a, b))
+        self.assertEqual(self.answer("new", "deal", 1024), "size 1024\nentries 4\nstart 768\n")
+        self.assertEqual(self.get("deal"), bytes(1024))
+        self.assertEqual(self.answer("book", "deal", "a"), f"offset 0\nplace 768\nsize 256\ncommitment {ca}\n")
+        self.assertEqual(self.answer("book", "deal", "b"), f"offset 256\nplace 832\nsize 128\ncommitment {cb}\n")
+        kept = self.get("deal")
+        self.assertEqual(kept, MODEL.book(MODEL.book(bytes(1024), a)[3], b)[3])
+        again = self.refused(15, "book", "deal", "a")
+        self.assertEqual(again.splitlines()[1:], ["offset 0", "place 768", "size 256", f"commitment {ca}"])
+        self.assertEqual(self.get("deal"), kept)
+        self.listed(ca, cb)
+        self.found(ca, a)
+        self.settled(kept)
+        self.assertEqual(self.files(), ["a", "b", "deal", "found", "record", "record2"])
+
+    def listed(self, ca, cb):
+        rows = [line.split() for line in self.answer("list", "deal").splitlines()]
+        self.assertEqual(rows[0], ["slot", "place", "state", "offset", "size", "commitment"])
+        self.assertEqual(rows[1:], [["0", "768", "kept", "0", "256", ca], ["1", "832", "kept", "256", "128", cb],
+                                    ["2", "896", "free", "-", "-", "-"], ["3", "960", "free", "-", "-", "-"]])
+
+    def found(self, ca, a):
+        self.assertEqual(self.answer("find", "deal", ca), "offset 0\nsize 256\nplace 768\n")
+        self.assertEqual(self.answer("find", "deal", ca.upper(), "--output", "found"), "offset 0\nsize 256\nplace 768\n")
+        self.assertEqual(self.get("found"), a)
+
+    def settled(self, deal):
+        record = MODEL.build(deal, 768)[1]
+        root = MODEL.commitment(deal)[1].hex()
+        self.assertEqual(self.answer("commit", "deal"), root + "\n")
+        self.assertEqual(self.answer("build", "deal", 768), record.hex() + "\n")
+        self.assertEqual(self.answer("build", "deal", 768, "--output", "record"), f"length {len(record)}\n")
+        self.assertEqual(self.get("record"), record)
+        self.assertEqual(self.answer("check", root, 1024, "record"), "code 0: the record is accepted\n")
+        self.assertEqual(self.answer("settle", root, 1024, "record", "record"), "code 0: the two records are the same\n")
+        self.assertEqual(self.answer("settle-deal", "deal", "record"), "code 0: the record is the one that the deal gives\n")
+        self.answer("build", "deal", 832, "-o", "record2")
+        self.refused(18, "settle", root, 1024, "record", "record2")
+
+    def test_the_largest_deal(self):
+        self.answer("new", "deal", 1 << 24)
+        segment = self.put("segment", self.segment(1 << 12) * (1 << 11))
+        out = self.answer("book", "deal", "segment")
+        self.assertTrue(out.startswith("offset 0\nplace 16769024\nsize 8388608\n"), out)
+        self.assertEqual(self.get("deal")[: 1 << 23], segment)
+        self.answer("build", "deal", 16769024, "-o", "record")
+        root = self.answer("commit", "deal").strip()
+        self.answer("check", root, 1 << 24, "record")
+        self.answer("settle-deal", "deal", "record")
+
+    def test_the_state_of_a_standing_entry(self):
+        deal = bytearray(self.booked(512, (128,))[0])
+        deal[5] ^= 1
+        self.put("deal", bytes(deal))
+        self.assertEqual(self.answer("list", "deal").splitlines()[1].split()[:5], ["0", "256", "standing", "0", "128"])
+
+
+class Json(Calls):
+    def object(self, *words, status=0):
+        out = self.answer(*words, "--json", status=status)
+        self.assertEqual(out.count("\n"), 1)
+        value = json.loads(out)
+        self.assertEqual(value["code"], status)
+        self.assertTrue(value["meaning"])
+        return value
+
+    def test_every_command(self):
+        deal, places = self.booked()
+        record = self.put("record", MODEL.build(deal, places[0])[1])
+        root, commitment = MODEL.commitment(deal)[1].hex(), deal[places[0] : places[0] + 32].hex()
+        new = self.object("new", "other", 512)
+        self.assertEqual((new["size"], new["entries"], new["start"]), (512, 4, 256))
+        self.assertEqual(self.object("commit", "deal")["commitment"], root)
+        self.put("segment", deal[:256])
+        again = self.object("book", "deal", "segment", status=15)
+        self.assertEqual((again["offset"], again["place"], again["commitment"]), (0, places[0], commitment))
+        slots = self.object("list", "deal")["slots"]
+        self.assertEqual([s["state"] for s in slots], ["kept", "kept", "free", "free"])
+        self.assertEqual(slots[0], {"slot": 0, "place": places[0], "state": "kept", "offset": 0, "size": 256, "commitment": commitment})
+        found = self.object("find", "deal", commitment)
+        self.assertEqual((found["offset"], found["size"], found["place"]), (0, 256, places[0]))
+        built = self.object("build", "deal", places[0])
+        self.assertEqual((built["record"], built["length"]), (record.hex(), len(record)))
+        self.object("check", root, 1024, "record")
+        self.object("settle", root, 1024, "record", "record")
+        self.object("settle-deal", "deal", "record")
+        fields = self.object("show", "record")["fields"]
+        self.assertEqual([f["tag"] for f in fields], [1, 2, 3, 4, 5, 6])
+        self.assertEqual([f.get("value") for f in fields], [None, 0, 256, places[0], None, None])
+        self.assertEqual(b"".join(bytes.fromhex(f["content"]) for f in fields)[:32], record[3:35])
+
+    def test_refusals(self):
+        self.booked()
+        self.assertEqual(self.object("find", "deal", "00" * 31, status=1), {"code": 1, "meaning": "a commitment is not 32 bytes long"})
+        self.assertEqual(self.object("build", "deal", 960, status=16)["code"], 16)
+        self.put("record", b"\2\10\0" + b"\xff" * 8)
+        shown = self.object("show", "record", status=3)
+        self.assertEqual(shown["fields"][0]["value"], (1 << 64) - 1)
+
+    def test_failures_leave_standard_output_empty(self):
+        self.failed(IO, "--json", "list", "missing")
+        self.failed(USAGE, "--json", "list")
+
+
+class Refusals(Calls):
+    def changed(self, record, at, value):
+        self.put("changed", record[:at] + bytes([value]) + record[at + 1:])
+
+    def test_the_codes_of_the_check(self):
+        deal, places = self.booked(512, (128,))
+        record = self.put("record", MODEL.build(deal, places[0])[1])
+        root = MODEL.commitment(deal)[1].hex()
+        self.refused(1, "check", root[:-2], 512, "record")
+        self.refused(1, "check", "", 512, "record")
+        self.refused(2, "check", root, 513, "record")
+        self.refused(2, "check", root, 1 << 37, "record")
+        self.put("cut", record[:-1])
+        self.refused(3, "check", root, 512, "cut")
+        cases = ((4, 49, 0), (5, 38, 64), (6, 60, 1), (7, 50, 1), (8, 34, 255), (9, 72, record[72] ^ 1), (10, 233, record[233] ^ 1))
+        for code, at, value in cases:
+            self.changed(record, at, value)
+            if code == 7:  # a segment of 256 bytes with the path of one of 128
+                self.put("changed", record[:49] + b"\0\1" + record[51:])
+            self.refused(code, "check", root, 512, "changed")
+            self.refused(code, "settle", root, 512, "record", "changed")
+            self.refused(code, "settle-deal", "deal", "changed")
+
+    def test_the_codes_of_deals(self):
+        deal, places = self.booked(512, (128, 128))
+        self.put("third", self.segment())
+        self.refused(14, "book", "deal", "third")
+        self.put("stray", b"\xff" * 128)
+        self.refused(11, "book", "deal", "stray")
+        self.refused(11, "commit", "stray")
+        self.refused(4, "book", "deal", "deal")
+        self.refused(16, "find", "deal", "00" * 32)
+        self.refused(16, "build", "deal", 384)
+        self.refused(6, "build", "deal", 300)
+        self.refused(6, "build", "deal", 512)
+        self.assertEqual(self.get("deal"), deal)
+        self.booked(1024, (128,) * 4)
+        self.refused(13, "book", "deal", "third")
+
+    def test_wrong_sizes_are_named(self):
+        self.put("short", bytes(1000))
+        for words in (("list", "short"), ("book", "short", "short"), ("find", "short", "00" * 32), ("build", "short", 0),
+                      ("commit", "short"), ("settle-deal", "short", "short")):
+            out, err = self.call(*words, status=2)
+            self.assertTrue(out.startswith("code 2: "))
+            self.assertIn("short has 1000 bytes", err)
+        with open(self.path("long"), "wb") as file:
+            file.truncate(1 << 33)
+        for words in (("list", "long"), ("commit", "long")):
+            self.assertIn("long has more than 16777216 bytes", self.call(*words, status=2)[1])
+        for size in (0, 511, 513, 1 << 25, 1 << 37):
+            self.refused(2, "new", "made", size)
+        self.assertEqual(self.files(), ["long", "short"])
+
+    def test_a_malformed_record_is_shown_as_far_as_it_goes(self):
+        deal, places = self.booked()
+        self.put("cut", MODEL.build(deal, places[0])[1][:70])
+        lines = self.refused(3, "show", "cut").splitlines()
+        self.assertEqual([line.split()[0] for line in lines], ["code", "tag", "1", "2", "3", "4", "unread"])
+        self.put("empty", b"")
+        self.refused(3, "show", "empty")
+
+
+class Usage(Calls):
+    def test_help_and_version(self):
+        overall = self.answer("--help")
+        for command in COMMANDS:
+            self.assertIn(f"  {command} ", overall)
+            text = self.answer(command, "--help")
+            self.assertTrue(text.startswith(f"Usage: vizhuthamen {command} "), text)
+            self.assertEqual(text, self.answer("help", command))
+        self.assertIn("not locked", self.answer("book", "--help"))
+        self.assertRegex(self.answer("--version"), r"\Avizhuthamen \d+\.\d+\.\d+\n\Z")
+
+    def test_wrong_usage(self):
+        calls = ((), ("nothing",), ("new", "d"), ("new", "d", "0x200"), ("new", "d", "-1"), ("new", "d", "512", "512"),
+                 ("find", "d", "xyz"), ("list", "--all", "d"), ("list", "d", "--output", "f"), ("settle", "00", "512", "-", "-"),
+                 ("build", "d", str(1 << 64)), ("build", "d", "256", "-o", "-", "--json"), ("new", "-", "512"), ("book", "-", "s"),
+                 ("list", ""))
+        for words in calls:
+            self.failed(USAGE, *words)
+        self.assertEqual(self.files(), [])
+
+    def test_standard_input(self):
+        deal, places = self.booked()
+        segment = deal[:256]
+        record = self.put("record", MODEL.build(deal, places[0])[1])
+        root, commitment = MODEL.commitment(deal)[1].hex(), deal[places[0] : places[0] + 32].hex()
+        self.assertEqual(self.answer("commit", "-", stdin=deal), root + "\n")
+        self.refused(15, "book", "deal", "-", stdin=segment)
+        for words in (("list", "deal"), ("find", "deal", commitment), ("build", "deal", places[0])):
+            piped = ["-" if w == "deal" else w for w in words]
+            self.assertEqual(self.answer(*piped, stdin=deal), self.answer(*words))
+        self.answer("check", root, 1024, "-", stdin=record)
+        self.answer("settle", root, 1024, "record", "-", stdin=record)
+        self.answer("settle-deal", "-", "record", stdin=deal)
+        self.assertEqual(self.answer("show", "-", stdin=record), self.answer("show", "record"))
+
+    def test_bytes_to_standard_output(self):
+        deal, places = self.booked()
+        for words, data in ((("build", "deal", places[0]), MODEL.build(deal, places[0])[1]),
+                            (("find", "deal", deal[places[0] : places[0] + 32].hex()), deal[:256])):
+            ran = subprocess.run([self.program, *map(str, words), "-o", "-"], capture_output=True, cwd=self.folder)
+            self.assertEqual((ran.returncode, ran.stdout, ran.stderr), (0, data, b""))
+
+    def test_random_words_and_bytes_never_end_in_a_panic(self):
+        deal, places = self.booked()
+        self.put("record", MODEL.build(deal, places[0])[1])
+        self.put("empty", b"")
+        words = [*COMMANDS, "deal", "record", "empty", "missing", ".", "-", "--json", "--output", "made", "--", "0", "512", "1024",
+                 str(places[0]), "00" * 32, "ff", "", "\udcff", "--help", MODEL.commitment(deal)[1].hex()]
+        for _ in range(400):
+            call = [self.rng.choice(COMMANDS), *self.rng.choices(words, k=self.rng.randrange(5))]
+            self.put("noise", self.rng.randbytes(self.rng.randrange(400)))
+            ran = subprocess.run([self.program, *call], input=self.rng.randbytes(300), capture_output=True, cwd=self.folder)
+            self.assertIn(ran.returncode, (*range(19), USAGE, IO), call)
+            self.assertNotIn(b"panicked", ran.stderr, call)
+            self.put("deal", deal)
+
+    def test_random_bytes_as_files(self):
+        for _ in range(200):
+            data = bytearray(self.rng.choice((self.rng.randbytes(self.rng.randrange(300)), self.booked()[0])))
+            for _ in range(self.rng.randrange(4) if data else 0):
+                data[self.rng.randrange(len(data))] = self.rng.randrange(256)
+            self.put("file", bytes(data))
+            for words in (("show", "file"), ("list", "file"), ("commit", "file"), ("settle-deal", "file", "file")):
+                ran = subprocess.run([self.program, *words], capture_output=True, cwd=self.folder)
+                self.assertIn(ran.returncode, range(19), words)
+                self.assertNotIn(b"panicked", ran.stderr, words)
+
+
+class Failures(Calls):
+    def test_files_that_cannot_be_read(self):
+        self.booked()
+        self.path("folder").mkdir()
+        for words in (("commit", "missing"), ("commit", "folder"), ("list", "missing"), ("list", "folder"), ("book", "missing", "deal"),
+                      ("book", "folder", "deal"), ("book", "deal", "missing"), ("show", "missing"), ("settle-deal", "deal", "missing"),
+                      ("check", "00" * 32, 512, "missing"), ("build", "missing", 0), ("find", "missing", "00" * 32)):
+            self.assertIn("missing" if "missing" in words else "folder", self.failed(IO, *words))
+        self.path("deal").chmod(0)
+        self.failed(IO, "list", "deal", **nobody())
+
+    def test_a_new_deal_never_overwrites(self):
+        self.put("deal", b"precious")
+        self.assertIn("exists", self.failed(IO, "new", "deal", 512))
+        self.assertEqual(self.get("deal"), b"precious")
+        self.failed(IO, "new", "no/such/folder", 512)
+
+    def limited(self, size, ignore):
+        """Options of a call whose writes to files fail after some bytes, by an error or by a signal that kills."""
+        def limit():
+            resource.setrlimit(resource.RLIMIT_FSIZE, (size, size))
+            signal.signal(signal.SIGXFSZ, signal.SIG_IGN if ignore else signal.SIG_DFL)
+        return {"preexec_fn": limit, "restore_signals": False}
+
+    def test_a_booking_that_cannot_write_leaves_the_old_deal(self):
+        deal, _ = self.booked()
+        self.put("segment", self.segment())
+        for size in (0, 100, 1023):
+            self.assertIn("File too large", self.failed(IO, "book", "deal", "segment", **self.limited(size, True)))
+            self.assertEqual(self.get("deal"), deal)
+            self.assertEqual(self.files(), ["deal", "segment"])
+        self.answer("book", "deal", "segment", **self.limited(1024, True))
+
+    def test_a_booking_that_is_killed_while_writing_leaves_the_old_deal(self):
+        deal, _ = self.booked()
+        segment = self.put("segment", self.segment())
+        self.call("book", "deal", "segment", status=-signal.SIGXFSZ, **self.limited(500, False))
+        self.assertEqual(self.get("deal"), deal)
+        self.answer("book", "deal", "segment")
+        self.assertEqual(self.get("deal"), MODEL.book(deal, segment)[3])
+
+    def test_a_booking_that_is_killed_at_any_moment_leaves_a_whole_deal(self):
+        old = self.put("deal", bytes(1 << 20))
+        segment = self.put("segment", self.segment(1 << 12) * (1 << 7))
+        new = MODEL.book(old, segment)[3]
+        began = time.monotonic()
+        self.answer("book", "deal", "segment")
+        span = time.monotonic() - began
+        for i in range(40):
+            self.put("deal", old)
+            call = subprocess.Popen([self.program, "book", "deal", "segment"], cwd=self.folder, stdout=subprocess.DEVNULL)
+            time.sleep(span * i / 32)
+            call.kill()
+            call.wait()
+            self.assertIn(self.get("deal"), (old, new))
+
+    def test_a_folder_or_a_deal_that_may_not_be_written(self):
+        deal, _ = self.booked()
+        self.put("segment", self.segment())
+        self.path("deal").chmod(0o444)
+        self.failed(IO, "book", "deal", "segment", **nobody())
+        self.path("deal").chmod(0o666)
+        self.folder.chmod(0o555)
+        self.failed(IO, "book", "deal", "segment", **nobody())
+        self.failed(IO, "build", "deal", 768, "-o", "record", **nobody())
+        self.folder.chmod(0o777)
+        self.assertEqual(self.get("deal"), deal)
+        self.assertEqual(self.files(), ["deal", "segment"])
+        self.answer("book", "deal", "segment", **nobody())
+
+    def test_permissions_and_links_are_kept(self):
+        self.booked()
+        self.put("segment", self.segment())
+        self.path("deal").chmod(0o640)
+        self.path("link").symlink_to("deal")
+        owner = (1234, 1235) if os.getuid() == 0 else (os.getuid(), os.getgid())
+        os.chown(self.path("deal"), *owner)
+        self.answer("book", "link", "segment")
+        info = self.path("deal").stat()
+        self.assertEqual((stat.S_IMODE(info.st_mode), info.st_uid, info.st_gid), (0o640, *owner))
+        self.assertTrue(self.path("link").is_symlink())
+        self.assertIn(self.segment_at(2), self.get("segment"))
+
+    def segment_at(self, slot):
+        row = self.answer("list", "deal").splitlines()[1 + slot].split()
+        offset, size = int(row[3]), int(row[4])
+        return self.get("deal")[offset : offset + size]
+
+    def test_outputs(self):
+        deal, places = self.booked()
+        for name in ("deal", "./deal", str(self.path("deal"))):
+            self.failed(USAGE, "build", "deal", places[0], "-o", name)
+        self.assertEqual(self.get("deal"), deal)
+        self.put("record", b"an old and longer file" * 100)
+        self.answer("build", "deal", places[0], "-o", "record")
+        self.assertEqual(self.get("record"), MODEL.build(deal, places[0])[1])
+        self.path("folder").mkdir()
+        self.failed(IO, "build", "deal", places[0], "-o", "folder")
+        self.failed(IO, "build", "deal", places[0], "-o", "no/such/file")
+        self.answer("build", "deal", places[0], "-o", "/dev/null")
+        self.assertTrue(stat.S_ISCHR(os.stat("/dev/null").st_mode))
+        self.failed(IO, "build", "deal", places[0], "-o", "/dev/full")
+        self.assertEqual(self.files(), ["deal", "folder", "record"])
+
+    def test_a_full_or_closed_standard_output(self):
+        self.booked()
+        with open("/dev/full", "wb") as full:
+            ran = subprocess.run([self.program, "list", "deal"], cwd=self.folder, stdout=full, stderr=subprocess.PIPE)
+        self.assertEqual(ran.returncode, IO)
+        self.assertIn(b"No space left", ran.stderr)
+        read, write = os.pipe()
+        os.close(read)
+        ran = subprocess.run([self.program, "list", "deal"], cwd=self.folder, stdout=write, stderr=subprocess.PIPE)
+        os.close(write)
+        self.assertEqual((ran.returncode, ran.stderr), (0, b""))
+
+    def test_progress_is_for_terminals_alone(self):
+        self.put("file", bytes(1 << 23))
+        out, err = self.call("commit", "file")
+        self.assertEqual(err, "")
+        parent, child = pty.openpty()
+        ran = subprocess.run([self.program, "commit", "file"], cwd=self.folder, stdout=subprocess.PIPE, stderr=child)
+        os.close(child)
+        shown = os.read(parent, 4096)
+        os.close(parent)
+        self.assertEqual((ran.returncode, ran.stdout.decode()), (0, out))
+        self.assertIn(b"hashing: 8 MiB", shown)
+
+
+if __name__ == "__main__":
+    if not BINARY.is_file():
+        raise SystemExit(f"cli_test: {BINARY} is not there; run: cargo build --release --offline --manifest-path rust/Cargo.toml")
+    unittest.main()

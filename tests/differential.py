@@ -1,0 +1,227 @@
+"""Compares the library with the independent model, call by call.
+
+Run from anywhere: python3 tests/differential.py [--count N] [--seed S] [--large] [--memcheck] [--replay PATH]
+
+The calls of tests/cases.py are answered by the model and by the program `replay`, which runs each of them by the C interface and by
+the safe Rust functions: codes, numbers, nodes, views, and the content of all lent memory before and after. The first difference ends
+the run; its case is written to target/differential-failure.bin. --large adds deals of 2^20 and 2^24 bytes, --memcheck runs the
+library under valgrind.
+"""
+import argparse
+import os
+import random
+import subprocess
+import sys
+import time
+from collections import Counter
+from pathlib import Path
+
+from cases import (BOOK, BUILD, CHECK, CHECK_INPUT, COMMITMENT, FIELDS, FIND, INSPECT, MAKE, MODEL, NAMES, NUMBERS, READ, SETTLE,
+                   SETTLE_DEAL, SHA256, answer, cases, deal, encode, node, place, run, spoil)
+from model import index_numbers
+from vectors import large_deals
+
+ROOT = Path(__file__).resolve().parent.parent
+FAILURE = ROOT / "target" / "differential-failure.bin"
+ROUTINES = NAMES | {INSPECT: "inspect"}
+BATCH = 2000
+
+# The codes that a run of the default length must meet. 17 needs a collision of SHA-256, and 2 of sha256 a long message (--large).
+CODES = {SHA256: {0}, COMMITMENT: {0, 2, 11}, NUMBERS: {0, 2}, MAKE: {0, 1, 8}, READ: {0, 2}, FIND: {0, 1, 2, 11, 16},
+         BOOK: {0, 2, 4, 11, 13, 14, 15}, BUILD: {0, 2, 6, 11, 12, 16}, CHECK: set(range(11)), SETTLE: set(range(11)) | {18},
+         SETTLE_DEAL: {0, *range(2, 12)}, FIELDS: {0}, INSPECT: {0, 2, 6, 11}}
+ENOUGH = 50_000
+
+
+class Difference(Exception):
+    pass
+
+
+class Comparison:
+    """Feeds batches to the replay program and counts what was compared."""
+
+    def __init__(self, command):
+        self.command = command
+        self.counts = {op: Counter() for op in ROUTINES}
+
+    def batch(self, calls):
+        calls = [c for c in calls if c[0] in ROUTINES]
+        expected = [answer(c) for c in calls]
+        ran = subprocess.run(self.command, input=b"".join(map(encode, calls)), capture_output=True)
+        got = ran.stdout.decode(errors="replace").splitlines(keepends=True)
+        for i, call in enumerate(calls):
+            if i >= len(got) or got[i] != expected[i]:
+                error = ran.stderr.decode(errors="replace").strip()
+                self.differs(call, got[i] if i < len(got) else f"no answer, exit status {ran.returncode}: {error}", expected[i])
+            self.counts[call[0]][int(expected[i].split()[0])] += 1
+        if ran.returncode or len(got) != len(calls):
+            raise Difference(f"the replay program ended with {ran.returncode} after {len(got)} answers to {len(calls)} calls:\n"
+                             + ran.stderr.decode(errors="replace"))
+
+    def differs(self, call, got, expected):
+        FAILURE.parent.mkdir(exist_ok=True)
+        FAILURE.write_bytes(encode(call))
+        op, a, b, x, y = call
+        raise Difference(f"{ROUTINES[op]}, arguments of {len(a)} and {len(b)} bytes, numbers {x} and {y}\n"
+                         f"  library: {got.rstrip()}\n  model:   {expected.rstrip()}\n"
+                         f"the case again: {' '.join(self.command)} < {FAILURE}")
+
+    def total(self):
+        return sum(sum(c.values()) for c in self.counts.values())
+
+    def table(self):
+        lines = [f"{'routine':<18}{'calls':>8}  calls by code"]
+        for op, name in ROUTINES.items():
+            codes = ", ".join(f"{code}: {n}" for code, n in sorted(self.counts[op].items()))
+            lines.append(f"{name:<18}{sum(self.counts[op].values()):>8}  {codes}")
+        return "\n".join(lines)
+
+    def unmet(self):
+        """Codes of the rules that no call has met."""
+        return [f"{ROUTINES[op]} {code}" for op in ROUTINES for code in sorted(CODES[op] - set(self.counts[op]))]
+
+
+def random_batches(seed, count):
+    """Batches of their own seeds, so that each can be made again without the others."""
+    for i in range(0, count, BATCH):
+        yield cases(random.Random(f"{seed}/{i}"), min(BATCH, count - i), ops=tuple(ROUTINES))
+
+
+def false_entries(rng, count):
+    """Entries that stand without being kept: asked for by their commitment, their bytes, their place."""
+    for _ in range(count):
+        data = bytearray(deal(rng, (512, 1024, 4096)))
+        _, n, start = index_numbers(len(data))
+        p = start + 64 * rng.randrange(n)
+        s = rng.choice((128, 256))
+        o = s * rng.randrange(start // s)
+        data[p : p + 64] = MODEL.entry(node(rng), o, s)
+        data = bytes(data)
+        yield FIND, data, data[p : p + 32], 0, 0
+        yield BOOK, data, data[o : o + s], 0, 0
+        yield BUILD, data, rng.randbytes(2000), p, 0
+        yield INSPECT, data, b"", p, 0
+
+
+def long_records(rng):
+    """Well-formed records with more nodes than any path has, and as many as a length can say."""
+    for u, v in ((3, 2047), (2047, 3), (2047, 2047), (2047, 0)):
+        nodes = [[rng.randbytes(32) for _ in range(n)] for n in (u, v)]
+        r = MODEL.encode(node(rng), 0, 128, 256, *nodes)
+        yield CHECK, r, bytes(32), 512, 0
+        yield SETTLE, r, bytes(32) + r, 512, 32
+        yield FIELDS, r, b"", 0, 0
+        yield SETTLE_DEAL, bytes(512), r, 0, 0
+    yield FIELDS, bytes(65538) + b"\1\xff\xff" + bytes(65535) + b"\7\0", b"", 0, 0
+    yield CHECK, bytes(70000), bytes(32), 512, 0
+
+
+def limits():
+    """Lengths at the upper bound and beyond it."""
+    full = 1 << 24
+    for n in (full, full + 1, 2 * full):
+        yield SHA256, bytes(n), b"", 0, 0
+    for n in (full, full + 32, 2 * full):
+        yield COMMITMENT, bytes(n), b"", 0, 0
+    for n in (full + 32, 2 * full):
+        yield FIND, bytes(n), bytes(32), 0, 0
+        yield BUILD, bytes(n), bytes(2000), n - 64, 0
+        yield INSPECT, bytes(n), b"", n - 64, 0
+        yield SETTLE_DEAL, bytes(n), b"", 0, 0
+
+
+def large_calls(rng, d, sizes):
+    """A deal of d bytes, booked into step by step; then records of it, whole and spoilt, and the deal spoilt."""
+    _, _, start = index_numbers(d)
+    data = run(rng, start) + bytes(d - start)
+    places = []
+    for s in sizes:
+        segment = run(rng, s)
+        yield BOOK, data, segment, 0, 0
+        code, o, p, data = MODEL.book(data, segment)
+        if code == 0:
+            places.append(p)
+            yield BOOK, data, segment, 0, 0
+            yield FIND, data, data[p : p + 32], 0, 0
+            yield INSPECT, data, b"", p, 0
+    yield FIND, data, node(rng), 0, 0
+    yield BOOK, data, run(rng, d), 0, 0
+    root = MODEL.commitment(data)[1]
+    for p in rng.sample(places, min(2, len(places))):
+        code, r = MODEL.build(data, p)
+        yield BUILD, data, rng.randbytes(2000), p, 0
+        yield BUILD, data, rng.randbytes(len(r) - 1), p, 0
+        yield CHECK, r, root, d, 0
+        for record in (r, spoil(rng, r)):
+            yield SETTLE, r, root + record, d, 32
+            yield SETTLE_DEAL, data, record, 0, 0
+    yield BUILD, data, rng.randbytes(2000), place(rng, d), 0
+    yield from spoilt_deal(rng, data, places)
+
+
+def spoilt_deal(rng, data, places):
+    """One byte of a kept segment changed; then stray bits in the last node."""
+    p = rng.choice(places)
+    changed = bytearray(data)
+    changed[int.from_bytes(data[p + 32 : p + 40], "little")] ^= 1
+    changed = bytes(changed)
+    yield FIND, changed, data[p : p + 32], 0, 0
+    yield INSPECT, changed, b"", p, 0
+    yield BUILD, changed, rng.randbytes(2000), p, 0
+    yield BOOK, changed, run(rng, 128), 0, 0
+    stray = changed[:-1] + b"\x80"
+    for op, b, x in ((COMMITMENT, b"", 0), (FIND, bytes(32), 0), (BOOK, bytes(128), 0), (BUILD, b"", p), (INSPECT, b"", p)):
+        yield op, stray, b, x, 0
+
+
+def batches(options):
+    yield "records of deals up to 2^36 bytes", large_deals(random.Random(f"{options.seed}/records"))
+    yield "records with long paths", long_records(random.Random(f"{options.seed}/paths"))
+    yield "entries that are not kept", false_entries(random.Random(f"{options.seed}/entries"), min(500, options.count))
+    if options.large:
+        rng = random.Random(f"{options.seed}/large")
+        yield "lengths at their bounds", limits()
+        for _ in range(4):
+            yield "deals of 2^20 bytes", large_calls(rng, 1 << 20, [128, 1 << 12, 128, 1 << 18, 1 << 19, 1 << 10, 256, 1 << 15, 128, 64])
+        yield "deals of 2^24 bytes", large_calls(rng, 1 << 24, [128, 1 << 23, 1 << 16, 1 << 10])
+    for i, calls in enumerate(random_batches(options.seed, options.count)):
+        yield f"batch {i}", calls
+
+
+def arguments():
+    parser = argparse.ArgumentParser(description="Compares the library with the independent model.")
+    parser.add_argument("--count", type=int, help="random calls on deals of 512 to 4,096 bytes (default 100000; with --memcheck 2000)")
+    parser.add_argument("--seed", help="seed of the calls (default: a fresh one, which is printed)")
+    parser.add_argument("--large", action="store_true", help="add deals of 2^20 and 2^24 bytes and lengths at the upper bounds")
+    parser.add_argument("--memcheck", action="store_true", help="run the library under valgrind's memcheck")
+    parser.add_argument("--replay", default=ROOT / "rust" / "target" / "release" / "replay", type=Path, help="the replay program")
+    options = parser.parse_args()
+    options.seed = options.seed or os.urandom(4).hex()
+    if options.count is None:
+        options.count = 2000 if options.memcheck else 100_000
+    return options
+
+
+def main():
+    options = arguments()
+    if not options.replay.is_file():
+        sys.exit(f"differential: {options.replay} is not there; run: cargo build --release --offline --manifest-path rust/Cargo.toml")
+    valgrind = ["valgrind", "--quiet", "--leak-check=full", "--error-exitcode=99"] if options.memcheck else []
+    comparison = Comparison([*valgrind, str(options.replay)])
+    print(f"differential: seed {options.seed}", flush=True)
+    began = time.monotonic()
+    name = ""
+    try:
+        for name, calls in batches(options):
+            comparison.batch(calls)
+    except Difference as difference:
+        sys.exit(f"differential: seed {options.seed}, {name}: a difference after {comparison.total()} calls\n{difference}")
+    print(comparison.table())
+    unmet = comparison.unmet()
+    if unmet and options.count >= ENOUGH:
+        sys.exit(f"differential: no call has met these codes: {', '.join(unmet)}")
+    print(f"differential: {comparison.total()} calls, no difference, {time.monotonic() - began:.0f} s")
+
+
+if __name__ == "__main__":
+    main()
