@@ -1,5 +1,5 @@
 -- Booking a segment in a deal (document 01, "Booking, finding, building, settling": book; order 2, 4, 11, 15, 13, 14).
-use mathlib.Core.Bool.{Bool, true, false, _&&_}
+use mathlib.Core.Bool.{Bool, _&&_}
 use Prim.Native.Nat.{ℕ, _*_}
 use mathlib.Core.List.{List, [], _∷_}
 use lib.ListN.{length}

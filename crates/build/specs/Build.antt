@@ -1,5 +1,4 @@
 -- Building a record from a lent deal and an entry place (document 01, "Booking, finding, building, settling": build).
-use mathlib.Core.Bool.{Bool, true, false}
 use Prim.Native.Nat.{ℕ}
 use mathlib.Core.List.{List, [], _∷_}
 use lib.ListN.{length}

@@ -1,36 +1,34 @@
 -- A record that is built: its fields, its sizes, and where its paths lead. For any source that is a tree over the deal.
-use mathlib.Core.Path.{_≡_, refl, sym, ap, ap₂, _∙_, subst}
-use mathlib.Core.Bool.{Bool, true, false, _&&_}
+use mathlib.Core.Path.{_≡_, refl, sym, ap, ap₂, _∙_}
+use mathlib.Core.Bool.{true}
 use Prim.Native.Nat.{ℕ, zero, suc, _+_, _-_, _*_, _/_, _%_, _^_, _≤_, _<_}
 use native.Mathlib.Omega.{arith}
-use mathlib.Core.List.{List, [], _∷_, _++_}
-use lib.ListN.{length, take, drop, length-drop}
-use lib.Seq.{take-take, drop-drop, take-add, length-take-le}
-use lib.Dec.{eqb}
+use mathlib.Core.List.{List, _++_}
+use lib.ListN.{length, take, drop}
+use lib.Seq.{take-take, drop-drop, take-add}
 use borrow.Author.Tests.{eq-eqb}
-use Rattle.octets.specs.Refusals.{Rule, rule, firstRefusal, unlessRefused}
-use Rattle.octets.specs.RefusalLaws.{AllPassed, Codes, none-refused, all-passed}
+use Rattle.octets.specs.Refusals.{firstRefusal, unlessRefused}
+use Rattle.octets.specs.RefusalLaws.{none-refused}
 use Rattle.octets.specs.Bytes.{Bytes}
 use Rattle.octets.specs.Splice.{part}
-use Rattle.octets.specs.SpliceLaws.{part-length, bytes-part, part-part}
+use Rattle.octets.specs.SpliceLaws.{part-length, bytes-part}
 use Rattle.node.specs.Node.{nodeHash}
 use Rattle.merkle.specs.StrayBits.{clearNode, noStrayBits}
 use Rattle.merkle.specs.StrayBitsLaws.{clear-at}
 use Rattle.paths.specs.Path.{pathRoot}
-use Rattle.paths.specs.NodeSource.{NodeSource, siblings}
+use Rattle.paths.specs.NodeSource.{NodeSource}
 use Rattle.paths.specs.IsTree.{IsTree}
 use Rattle.paths.specs.NodeSourceLaws.{path-length, own-leads}
-use Rattle.entries.specs.Sizes.{dealSizeAllowed, lentSizeAllowed, segmentSizeAllowed, offsetAllowed, placeAllowed, area, indexStart, dealLevel, segmentLevel, segmentPathLevels, entryPathLevels, segmentPosition, entryPosition}
-use Rattle.entries.specs.SizesLaws.{DealSize, LentSize, lent-size, SegmentSize, segment-size, SegmentPlace, segment-place, EntryPlace, entry-place, index-start-le}
+use Rattle.entries.specs.Sizes.{lentSizeAllowed, segmentSizeAllowed, offsetAllowed, placeAllowed, area, indexStart, dealLevel, segmentLevel, segmentPathLevels, entryPathLevels, segmentPosition, entryPosition}
+use Rattle.entries.specs.SizesLaws.{LentSize, lent-size, SegmentSize, segment-size, SegmentPlace, segment-place, EntryPlace, entry-place, index-start-le}
 use Rattle.entries.specs.Entry.{entryOf, commitmentIn, offsetIn, sizeIn}
 use Rattle.entries.specs.EntryLaws.{valid-is}
-use Rattle.index.specs.Slots.{entryAt, standing, kept}
-use Rattle.index.specs.SlotsLaws.{Stands, Keeps, keeps}
-use Rattle.record.specs.Form.{Fields, Parsed, parsed, parse, encode, wholeNodes}
+use Rattle.index.specs.Slots.{entryAt, kept}
+use Rattle.index.specs.SlotsLaws.{Keeps, keeps}
+use Rattle.record.specs.Form.{parsed, parse, encode}
 use Rattle.record.specs.FormLaws.{Sized, parse-encode}
-use Rattle.record.specs.Check.{DealTerms, dealTerms, entryFor}
 use Rattle.record.specs.CheckLaws.{Accepted}
-use Rattle.build.specs.Build.{LentDeal, dealSize, termsOf, segmentPathOf, entryPathOf, fieldsFor, Building, built, notBuilt, buildRules, recordAt}
+use Rattle.build.specs.Build.{LentDeal, dealSize, termsOf, segmentPathOf, entryPathOf, fieldsFor, built, notBuilt, buildRules, recordAt}
 
 -- what a record that was built is
 pub record Builds (deal : LentDeal) (place : ℕ) (r : List ℕ) : Type 0 where

@@ -1,9 +1,9 @@
 -- Building writes exactly a record where that is the record at the place.
-use mathlib.Core.Path.{_≡_, refl, sym, ap, ap₂, _∙_, subst}
+use mathlib.Core.Path.{_≡_, refl, sym, ap, _∙_}
 use mathlib.Core.Bool.{Bool, true, false}
-use Prim.Native.Nat.{ℕ, zero, suc, _≤_, _<_}
+use Prim.Native.Nat.{ℕ, zero, suc}
 use native.Mathlib.Omega.{arith}
-use mathlib.Core.List.{List, [], _∷_}
+use mathlib.Core.List.{List}
 use lib.ListN.{length}
 use lib.Dec.{leb}
 use borrow.Author.Tests.{le-leb}
@@ -13,7 +13,7 @@ use Rattle.octets.specs.Splice.{splice}
 use Rattle.octets.specs.SpliceLaws.{splice-whole}
 use Rattle.index.specs.Slots.{entryAt}
 use Rattle.record.specs.Form.{encode}
-use Rattle.build.specs.Build.{LentDeal, dealSize, fieldsFor, Building, built, notBuilt, buildRules, recordAt, answerFor, outputFor, buildAnswer, buildOutput}
+use Rattle.build.specs.Build.{LentDeal, fieldsFor, built, notBuilt, buildRules, recordAt, answerFor, outputFor, buildAnswer, buildOutput}
 use Rattle.build.specs.declared.BuildAnswer.{BuildAnswer}
 use Rattle.demands.specs.BuildsExactly.{BuildsExactly}
 

@@ -1,31 +1,23 @@
 -- The strings of an accepted record as chains from the deal's commitment, and from the first difference to the answer.
 use mathlib.Core.Path.{_≡_, refl, sym, ap, ap₂, _∙_, subst}
-use mathlib.Core.Logic.{_⊎_, inl, inr}
-use mathlib.Core.Bool.{Bool, true, false}
-use Prim.Native.Nat.{ℕ, zero, suc, _+_, _*_, _/_, _%_, _^_, _≤_, _<_}
+use mathlib.Core.Logic.{inl, inr}
+use mathlib.Core.Bool.{true}
+use Prim.Native.Nat.{ℕ, _+_}
 use native.Mathlib.Omega.{arith}
 use mathlib.Core.List.{List, [], _∷_, _++_}
-use lib.ListN.{length, take, drop}
-use lib.Dec.{eqb}
-use borrow.Author.Tests.{eq-eqb}
-use Rattle.octets.specs.Bytes.{Bytes}
+use lib.ListN.{length}
 use Rattle.node.specs.Node.{nodeHash, node-hash-length}
-use Rattle.paths.specs.Path.{pathRoot}
 use Rattle.paths.specs.Strings.{pathStrings}
 use Rattle.paths.specs.Difference.{Difference, same, differ, firstDifference}
-use Rattle.paths.specs.Collision.{Collision}
 use Rattle.paths.specs.Chain.{sides, Chain}
-use Rattle.paths.specs.DifferenceLaws.{Shows, chain-length, two-chains, two-parts, no-difference}
-use Rattle.paths.specs.PathLaws.{strings-chain, strings-injective, strings-start}
+use Rattle.paths.specs.DifferenceLaws.{Shows, no-difference}
+use Rattle.paths.specs.PathLaws.{strings-chain}
 use Rattle.entries.specs.Sizes.{segmentPathLevels, entryPathLevels, segmentPosition, entryPosition}
-use Rattle.entries.specs.Entry.{entryOf, commitmentIn, offsetIn, sizeIn}
-use Rattle.entries.specs.EntryLaws.{entry-length, commitment-back, offset-back, size-back}
-use Rattle.record.specs.Form.{Fields, Parsed, parsed, broken, parse, encode}
-use Rattle.record.specs.FormLaws.{Sized, parse-canonical}
-use Rattle.record.specs.Check.{DealTerms, entryFor, checkOf}
-use Rattle.record.specs.CheckLaws.{Accepted, check-means}
-use Rattle.settle.specs.Settle.{notSettled, settledBy, entryStrings, segmentStrings, stringsOf, stringsIn, placeIn, settleRecords}
-use Rattle.settle.specs.declared.Settled.{Settled}
+use Rattle.entries.specs.EntryLaws.{entry-length}
+use Rattle.record.specs.Form.{Fields}
+use Rattle.record.specs.Check.{DealTerms, entryFor}
+use Rattle.record.specs.CheckLaws.{Accepted}
+use Rattle.settle.specs.Settle.{settledBy, entryStrings, segmentStrings}
 use Rattle.demands.specs.Settles.{Settles}
 
 -- from the first difference of two lists of strings to the answer

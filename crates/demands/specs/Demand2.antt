@@ -1,5 +1,5 @@
 -- Demand 2: whatever is built from a kept entry is accepted against its deal's commitment and size; a segment already kept is never booked again in that deal.
-use mathlib.Core.Path.{_≡_, refl, sym, ap, ap₂, _∙_, subst}
+use mathlib.Core.Path.{_≡_, refl, sym, ap, _∙_}
 use mathlib.Core.Bool.{Bool, true, false}
 use Prim.Native.Nat.{ℕ, zero, suc, _≤_}
 use native.Mathlib.Omega.{arith}
@@ -27,7 +27,7 @@ use Rattle.build.specs.Build.{LentDeal, lentDeal, buildRules, dealSize, termsOf
 use Rattle.booking.specs.Booking.{bookAnswer, bookedDeal}
 use Rattle.booking.specs.Run.{runBookings}
 use Rattle.booking.specs.NeverAgain.{never-again, kept-for-good}
-use Rattle.build.specs.BuildLaws.{Builds, build-means, commitment-length, built-parses, built-accepted}
+use Rattle.build.specs.BuildLaws.{build-means, commitment-length, built-parses, built-accepted}
 
 -- for any source of nodes that is a tree over the deal
 pub built-checks : (deal : LentDeal) → IsTree (deal .nodes) (deal .bytes) (dealLevel (dealSize deal)) → Bytes (deal .bytes) → (place : ℕ) (r : List ℕ)

@@ -73,7 +73,7 @@ pub const PADDING_SUMS: [u32; 64] = [
     0x4c191d76,
 ];
 
-// The hash value after this block.
+// The hash value after this block, eight rounds a turn.
 pub fn finish(hash: [u32; 8]) -> [u32; 8]
     ensures { λ r. ⌜ r ≡ F.compress hash paddingBlock ⌝ }
 {
@@ -81,9 +81,15 @@ pub fn finish(hash: [u32; 8]) -> [u32; 8]
     let mut s = hash;
     let mut t = 0;
     while t < 64 {
-        let next = round(s, k[t], 0);
-        s = next;
-        t += 1;
+        let s1 = round(s, k[t], 0);
+        let s2 = round(s1, k[t + 1], 0);
+        let s3 = round(s2, k[t + 2], 0);
+        let s4 = round(s3, k[t + 3], 0);
+        let s5 = round(s4, k[t + 4], 0);
+        let s6 = round(s5, k[t + 5], 0);
+        let s7 = round(s6, k[t + 6], 0);
+        s = round(s7, k[t + 7], 0);
+        t += 8;
     }
     sums(hash, s)
 }

@@ -1,11 +1,10 @@
 -- The first refusal: 0 exactly where every rule is passed.
-use mathlib.Core.Path.{_≡_, refl, sym, ap, ap₂, _∙_}
-use mathlib.Core.Bool.{Bool, true, false, _&&_, true≢false}
-use Prim.Native.Nat.{ℕ, zero, suc, _<_}
+use mathlib.Core.Path.{_≡_, refl}
+use mathlib.Core.Bool.{Bool, true, false, _&&_}
+use Prim.Native.Nat.{ℕ, _<_}
 use native.Mathlib.Omega.{arith}
 use mathlib.Core.List.{List, [], _∷_, _++_}
-use Rattle.octets.specs.Choice.{choose}
-use Rattle.octets.specs.Refusals.{Rule, rule, firstOf, firstRefusal, unlessRefused}
+use Rattle.octets.specs.Refusals.{Rule, rule, firstOf, firstRefusal}
 
 -- every rule of a list is passed
 abbrev pub AllPassed : List Rule → Type 0

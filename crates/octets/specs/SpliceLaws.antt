@@ -1,11 +1,11 @@
 -- What a splice changes and what not.
-use mathlib.Core.Path.{_≡_, refl, sym, ap, ap₂, _∙_, subst}
-use mathlib.Core.List.{List, [], _∷_, _++_, append-assoc, append-nil}
-use Prim.Native.Nat.{ℕ, zero, suc, _+_, _*_, _≤_, _<_, _-_}
+use mathlib.Core.Path.{_≡_, sym, ap, ap₂, _∙_}
+use mathlib.Core.List.{List, [], _++_, append-assoc, append-nil}
+use Prim.Native.Nat.{ℕ, _+_, _≤_, _<_, _-_}
 use native.Mathlib.Nat.{add-assoc, add-zero, zero-add, add-sub-cancel-left}
 use native.Mathlib.Omega.{arith}
-use lib.ListN.{length, take, drop, getD, length-append, length-take, length-drop, List·getD-append, drop-of-length-le, take-append-drop}
-use lib.Seq.{getD-take, getD-drop, getD-append-add, length-take-le, ext-getD, take-all, take-take, drop-drop, take-length, take-at, drop-at, take-add}
+use lib.ListN.{length, take, drop, getD, length-append, length-drop, List·getD-append, drop-of-length-le, take-append-drop}
+use lib.Seq.{getD-take, getD-drop, getD-append-add, length-take-le, ext-getD, take-all, drop-drop, take-length, take-at, drop-at, take-add}
 use borrow.Rule.Slice.PartMut.{putMid}
 use Rattle.octets.specs.Bytes.{Bytes, bytes-take, bytes-drop, bytes-append}
 use Rattle.octets.specs.Splice.{part, splice}

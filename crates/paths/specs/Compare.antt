@@ -1,7 +1,7 @@
 -- Two paths from the same position, compared from the bottom up: what was last seen to differ is the first difference from the top.
-use mathlib.Core.Bool.{Bool, true, false}
+use mathlib.Core.Bool.{true, false}
 use Prim.Native.Nat.{ℕ, zero, suc, _/_}
-use mathlib.Core.List.{List, _∷_}
+use mathlib.Core.List.{List}
 use lib.ListN.{take, drop, replicate}
 use Rattle.octets.specs.Choice.{choose}
 use Rattle.octets.specs.Equality.{sameBytes}

@@ -1,17 +1,16 @@
 -- Comparing from the bottom up gives the first difference from the top.
-use mathlib.Core.Path.{_≡_, refl, sym, ap, _∙_}
+use mathlib.Core.Path.{_≡_, refl, ap, _∙_}
 use mathlib.Core.Bool.{Bool, true, false}
 use Prim.Native.Nat.{ℕ, zero, suc, _/_}
-use mathlib.Core.List.{List, [], _∷_}
+use mathlib.Core.List.{List, _∷_}
 use lib.ListN.{take, drop}
 use Rattle.octets.specs.Choice.{choose}
 use Rattle.octets.specs.Equality.{sameBytes}
 use Rattle.node.specs.Node.{nodeHash}
 use Rattle.paths.specs.Path.{pairOf}
 use Rattle.paths.specs.Strings.{pathStrings}
-use Rattle.paths.specs.Difference.{Difference, same, differ, firstDifference}
-use Rattle.paths.specs.Compare.{compared, unequal, comparedAbove, comparedUp}
-use Rattle.paths.specs.declared.Compared.{Compared}
+use Rattle.paths.specs.Difference.{Difference, differ, firstDifference}
+use Rattle.paths.specs.Compare.{compared, unequal, comparedUp}
 
 choose-compared : (b : Bool) (d : Difference) (v w : List ℕ) → compared (choose b d (differ v w)) ≡ choose b (compared d) (unequal v w)
 choose-compared true d v w = refl

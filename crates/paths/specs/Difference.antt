@@ -1,5 +1,4 @@
 -- The first difference of two lists of strings (document 01, "Booking, finding, building, settling": settle).
-use mathlib.Core.Bool.{Bool, true, false}
 use Prim.Native.Nat.{ℕ}
 use mathlib.Core.List.{List, [], _∷_}
 use Rattle.octets.specs.Choice.{choose}

@@ -1,14 +1,13 @@
 -- Two chains to one node: no string differs, or the first two that differ are a collision.
 use mathlib.Core.Path.{_≡_, refl, sym, ap, ap₂, _∙_, subst}
 use mathlib.Core.Bool.{Bool, true, false}
-use Prim.Native.Nat.{ℕ, zero, suc, _+_, _*_, _/_, _%_, _≤_, _<_}
+use Prim.Native.Nat.{ℕ, suc, _+_}
 use native.Mathlib.Omega.{arith}
 use mathlib.Core.List.{List, [], _∷_, _++_}
 use lib.ListN.{length}
 use Rattle.octets.specs.Choice.{choose}
 use Rattle.octets.specs.Equality.{sameBytes}
 use Rattle.octets.specs.EqualityLaws.{same-true, same-false, same-refl}
-use Rattle.node.specs.Node.{nodeHash}
 use Rattle.paths.specs.Difference.{Difference, same, differ, firstDifference}
 use Rattle.paths.specs.Collision.{Collision}
 use Rattle.paths.specs.Chain.{half, Chain}

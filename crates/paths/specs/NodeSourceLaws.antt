@@ -1,16 +1,15 @@
 -- A source that is a tree: its own paths lead to its top node, and their strings are its pairs. Once over the height.
 use mathlib.Core.Path.{_≡_, refl, sym, ap, ap₂, _∙_}
-use mathlib.Core.Bool.{Bool, true, false}
-use Prim.Native.Nat.{ℕ, zero, suc, _+_, _-_, _*_, _/_, _%_, _^_, _≤_, _<_}
+use Prim.Native.Nat.{ℕ, zero, suc, _+_, _-_, _*_, _/_, _%_, _^_, _<_}
 use native.Mathlib.Nat.{pow-suc, le-trans, le-of-eq}
 use native.Mathlib.Omega.{arith}
-use mathlib.Core.List.{List, [], _∷_, _++_}
+use mathlib.Core.List.{List, _∷_, _++_}
 use lib.ListN.{length, take, drop, length-append}
 use lib.Seq.{take-at, drop-at}
 use lib.Dec.{eqb}
 use borrow.Author.Tests.{eq-eqb, ne-eqb}
 use Rattle.octets.specs.Choice.{choose}
-use Rattle.node.specs.Node.{nodeHash, node-hash-length}
+use Rattle.node.specs.Node.{nodeHash}
 use Rattle.merkle.specs.Tree.{nodeAt}
 use Rattle.merkle.specs.TreeLaws.{node-split, node-at-length, node-leaf, within}
 use Rattle.paths.specs.Path.{pairOf, pathRoot}

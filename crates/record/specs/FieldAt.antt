@@ -8,7 +8,7 @@ use lib.Dec.{eqb, leb}
 use Rattle.octets.specs.Choice.{choose}
 use Rattle.octets.specs.LittleEndian.{numberOf}
 use Rattle.octets.specs.Splice.{part}
-use Rattle.record.specs.Form.{FieldRule, fieldRule, exactly, wholeNodes, Fields, Parsed, parsed, broken}
+use Rattle.record.specs.Form.{FieldRule, fieldRule, exactly, wholeNodes, Parsed, parsed, broken}
 use Rattle.record.specs.declared.Field.{Field}
 use Rattle.record.specs.declared.Field.the-variants.{Content, Refused}
 use Rattle.record.specs.declared.Places.{Places}

@@ -39,10 +39,31 @@ schedule-of m w (suc n) h e r =
     rw (schedule-of m w n (omega arith) e (λ i l. r i (omega arith)), next-take w (16 + n) (omega arith), a, take-suc w (16 + n) 0 (omega arith), q)
 
 -- one more round
-pub rounds-more : (k w h s t : List ℕ) (i j : ℕ) → s ≡ rounds k w h i → t ≡ round s (getD k i 0) (getD w i 0) → j ≡ suc i
+rounds-more : (k w h s t : List ℕ) (i j : ℕ) → s ≡ rounds k w h i → t ≡ round s (getD k i 0) (getD w i 0) → j ≡ suc i
     → t ≡ rounds k w h j
 unfolding rounds
 rounds-more k w h s t i j e f g = rw (g, f, e)
+
+-- eight more rounds
+pub rounds-eight : (k w h s s1 s2 s3 s4 s5 s6 s7 s8 : List ℕ) (i : ℕ) → s ≡ rounds k w h i
+    → s1 ≡ round s (getD k i 0) (getD w i 0)
+    → s2 ≡ round s1 (getD k (i + 1) 0) (getD w (i + 1) 0)
+    → s3 ≡ round s2 (getD k (i + 2) 0) (getD w (i + 2) 0)
+    → s4 ≡ round s3 (getD k (i + 3) 0) (getD w (i + 3) 0)
+    → s5 ≡ round s4 (getD k (i + 4) 0) (getD w (i + 4) 0)
+    → s6 ≡ round s5 (getD k (i + 5) 0) (getD w (i + 5) 0)
+    → s7 ≡ round s6 (getD k (i + 6) 0) (getD w (i + 6) 0)
+    → s8 ≡ round s7 (getD k (i + 7) 0) (getD w (i + 7) 0)
+    → s8 ≡ rounds k w h (i + 8)
+rounds-eight k w h s s1 s2 s3 s4 s5 s6 s7 s8 i e e1 e2 e3 e4 e5 e6 e7 e8 =
+    let f1 = rounds-more k w h s s1 i (i + 1) e e1 (omega arith) in
+    let f2 = rounds-more k w h s1 s2 (i + 1) (i + 2) f1 e2 (omega arith) in
+    let f3 = rounds-more k w h s2 s3 (i + 2) (i + 3) f2 e3 (omega arith) in
+    let f4 = rounds-more k w h s3 s4 (i + 3) (i + 4) f3 e4 (omega arith) in
+    let f5 = rounds-more k w h s4 s5 (i + 4) (i + 5) f4 e5 (omega arith) in
+    let f6 = rounds-more k w h s5 s6 (i + 5) (i + 6) f5 e6 (omega arith) in
+    let f7 = rounds-more k w h s6 s7 (i + 6) (i + 7) f6 e7 (omega arith) in
+    rounds-more k w h s7 s8 (i + 7) (i + 8) f7 e8 (omega arith)
 
 -- constants and words that give the same rounds one by one give the same rounds
 pub rounds-same : (k w k' w' h : List ℕ) (n : ℕ)

@@ -110,7 +110,7 @@ fn first_words(block: [u32; 16]) -> [u32; 64]
     w
 }
 
-// The schedule of a block (step 1).
+// The schedule of a block (step 1), two words a turn.
 fn schedule(block: [u32; 16]) -> [u32; 64]
     ensures { λ r. ⌜ r ≡ F.schedule block ⌝ }
 {
@@ -118,7 +118,9 @@ fn schedule(block: [u32; 16]) -> [u32; 64]
     let mut t = 16;
     while t < 64 {
         w[t] = schedule_word(w[t - 2], w[t - 7], w[t - 15], w[t - 16]);
-        t += 1;
+        let u = t + 1;
+        w[u] = schedule_word(w[u - 2], w[u - 7], w[u - 15], w[u - 16]);
+        t += 2;
     }
     w
 }
@@ -144,16 +146,22 @@ pub fn round(s: [u32; 8], k: u32, w: u32) -> [u32; 8]
     ]
 }
 
-// The 64 rounds with the constants k and the schedule w (steps 2 and 3).
+// The 64 rounds with the constants k and the schedule w (steps 2 and 3), eight a turn.
 fn rounds(hash: [u32; 8], k: [u32; 64], w: [u32; 64]) -> [u32; 8]
     ensures { λ r. ⌜ r ≡ F.rounds k w hash 64 ⌝ }
 {
     let mut s = hash;
     let mut t = 0;
     while t < 64 {
-        let next = round(s, k[t], w[t]);
-        s = next;
-        t += 1;
+        let s1 = round(s, k[t], w[t]);
+        let s2 = round(s1, k[t + 1], w[t + 1]);
+        let s3 = round(s2, k[t + 2], w[t + 2]);
+        let s4 = round(s3, k[t + 3], w[t + 3]);
+        let s5 = round(s4, k[t + 4], w[t + 4]);
+        let s6 = round(s5, k[t + 5], w[t + 5]);
+        let s7 = round(s6, k[t + 6], w[t + 6]);
+        s = round(s7, k[t + 7], w[t + 7]);
+        t += 8;
     }
     s
 }
