@@ -13,6 +13,7 @@ NAMES = {SHA256: "sha256", COMMITMENT: "commitment", NUMBERS: "index_numbers", M
          BOOK: "book", BUILD: "build", CHECK: "check", SETTLE: "settle_records", SETTLE_DEAL: "settle_with_deal", FIELDS: "read_field"}
 
 CHECK_INPUT = 13  # of the program check_record; no routine of its own
+COMPARE = 15  # of the code that settling shares: two paths from one position
 INSPECT = 14  # of the C interface: what stands at an entry place
 
 MODEL = Model()
@@ -78,6 +79,9 @@ def answer(case):
         return line(0, *fields(a))
     if op == CHECK_INPUT:
         return line(check_input(a))
+    if op == COMPARE:  # a and b are a node and a path each, x the position
+        nodes = lambda data: [data[i : i + 32] for i in range(32, len(data), 32)]
+        return line(*m.settled(m.path_strings(a[:32], x, nodes(a)), m.path_strings(b[:32], x, nodes(b))))
     if op == INSPECT:  # a is the deal, x the place
         return line(*m.inspect(a, x))
     raise ValueError(op)

@@ -7,7 +7,7 @@ import random
 import sys
 from pathlib import Path
 
-from cases import (BOOK, BUILD, CHECK, CHECK_INPUT, COMMITMENT, FIELDS, FIND, MODEL, NAMES, NUMBERS, READ, SETTLE, SETTLE_DEAL,
+from cases import (BOOK, BUILD, CHECK, CHECK_INPUT, COMMITMENT, COMPARE, FIELDS, FIND, MODEL, NAMES, NUMBERS, READ, SETTLE, SETTLE_DEAL,
                    answer, case, encode, node, run)
 from model import index_numbers, le
 
@@ -80,6 +80,20 @@ def large_deals(rng):
         yield CHECK, r, bytes(32), d, 0
 
 
+def compared_paths(rng):
+    """Two paths from one position that differ in the start node, in one sibling, in several, or not at all; from the top, the first
+    difference is the highest string that differs."""
+    for levels in (0, 1, 2, 5, 18):
+        for position in (0, 1, 2, 5, (1 << 18) - 1):
+            a = rng.randbytes(32 + 32 * levels)
+            yield COMPARE, a, a, position, 0
+            for k in range(levels + 1):
+                b = bytearray(a)
+                b[32 * k + rng.randrange(32)] ^= 1
+                yield COMPARE, a, bytes(b), position, 0
+            yield COMPARE, a, rng.randbytes(len(a)), position, 0
+
+
 def inputs(rng):
     """Inputs of the program check_record at the edges of its lengths."""
     root, r = sparse_record(rng, 512, 128)
@@ -96,6 +110,7 @@ def all_cases():
     yield from worked_runs(rng)
     yield from large_deals(rng)
     yield from inputs(rng)
+    yield from compared_paths(random.Random(17))
     yield COMMITMENT, run(rng, 8192), b"", 0, 0
     for i in range(720):
         yield case(rng, 1 + i % len(NAMES), (512, 512, 1024))

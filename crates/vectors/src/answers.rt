@@ -1,6 +1,7 @@
 // The calls. Each prints its answer, and `answer` the end of the line.
 use crate::show;
 use entries::EntryKind;
+use paths::Compared;
 use record::Field;
 use settle::Settled;
 
@@ -90,6 +91,34 @@ fn settle_records(first: &[u8], b: &[u8], size: u64, y: u64) {
     settled(answer);
 }
 
+// The strings of two paths from one position compared, each path after the node that it starts from: 17 and the two strings at
+// the first difference from the top, or 0 and zeros. The two need not lead to one node.
+fn compare(position: u64, a: &[u8], b: &[u8]) {
+    if a.len() != b.len() {
+        return;
+    }
+    if a.len() < 32 {
+        return;
+    }
+    let x = octets::node_at(a, 0);
+    let y = octets::node_at(b, 0);
+    let seen = Compared {
+        differs: false,
+        left: [0u8; 64],
+        right: [0u8; 64],
+    };
+    let found = paths::compare_paths(position, x, &a[32..], y, &b[32..], seen);
+    let left = found.left;
+    let right = found.right;
+    if found.differs {
+        show::code(17);
+    } else {
+        show::code(0);
+    }
+    show::bytes(&left);
+    show::bytes(&right);
+}
+
 // The fields in turn from place 0, and the first place that is no field.
 fn fields(record: &[u8]) {
     show::code(0);
@@ -129,6 +158,7 @@ fn answer_reading(operation: u64, a: &[u8], b: &[u8], x: u64, y: u64) {
         11 => settled(settle::settle_with_deal(a, b)),
         12 => fields(a),
         13 => show::code(check_input::check_input(a)),
+        15 => compare(x, a, b),
         _ => {}
     }
 }
