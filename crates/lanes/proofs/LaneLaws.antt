@@ -1,13 +1,13 @@
 -- One lane of four.
 use mathlib.Core.Path.{_≡_, refl, sym, _∙_}
 use mathlib.Core.List.{List}
-use Prim.Native.Nat.{ℕ, _+_, _*_, _/_, _%_, _<_}
+use Prim.Native.Nat.{ℕ, _+_, _*_, _/_, _%_, _≤_, _<_}
 use native.Mathlib.Omega.{arith}
 use borrow.Author.Count.{below-more}
-use lib.ListN.{length, getD, set, length-set}
+use lib.ListN.{length, getD, take, set, length-set}
 use lib.Seq.{getD-set-same, getD-set-other}
 use Rattle.sha256.specs.Table.{table}
-use Rattle.sha256.specs.TableLaws.{getD-table, table-ext, as-table}
+use Rattle.sha256.specs.TableLaws.{getD-table, table-ext, table-more, as-table}
 use Rattle.lanes.specs.Lanes.{lane}
 
 module _ (s words : List ℕ) (l : ℕ) where
@@ -40,10 +40,26 @@ module _ (s words : List ℕ) (l : ℕ) where
   lane-other r q a b ne c = table-ext (λ t. getD r (4 * t + q) 0) (λ t. getD s (4 * t + q) 0) 8 (λ t h. c .others (4 * t + q) (λ k. ne (omega arith)))
 
 -- the same words in each lane
-pub lane-same : (words : List ℕ) (l : ℕ) → length words ≡ 8 → l < 4 → lane 8 (table (λ i. getD words (i / 4) 0) 32) l ≡ words
-lane-same words l e h =
-    table-ext (λ t. getD (table (λ i. getD words (i / 4) 0) 32) (4 * t + l) 0) (λ t. getD words t 0) 8
+pub lane-same : (words : List ℕ) (n l : ℕ) → length words ≡ n → l < 4 → lane n (table (λ i. getD words (i / 4) 0) (4 * n)) l ≡ words
+lane-same words n l e h =
+    table-ext (λ t. getD (table (λ i. getD words (i / 4) 0) (4 * n)) (4 * t + l) 0) (λ t. getD words t 0) n
     (λ t b.
     let q : (4 * t + l) / 4 ≡ t = omega arith in
-    rw (getD-table (λ i. getD words (i / 4) 0) 32 (4 * t + l) (omega arith), q))
-    ∙ sym (as-table words 8 e)
+    rw (getD-table (λ i. getD words (i / 4) 0) (4 * n) (4 * t + l) (omega arith), q))
+    ∙ sym (as-table words n e)
+
+-- one turn of a loop that stores a table's entries four at a time
+pub four-more : (f : ℕ → ℕ) (m : List ℕ) (t j a b c d : ℕ) → j ≡ 4 * t → 4 * t + 4 ≤ length m → take (4 * t) m ≡ table f (4 * t)
+    → a ≡ f j → b ≡ f (j + 1) → c ≡ f (j + 2) → d ≡ f (j + 3)
+    → take (4 * (t + 1)) (set (set (set (set m j a) (j + 1) b) (j + 2) c) (j + 3) d) ≡ table f (4 * (t + 1))
+four-more f m t j a b c d ej h e ea eb ec ed =
+    let l1 : length (set m j a) ≡ length m = length-set m j a in
+    let l2 : length (set (set m j a) (j + 1) b) ≡ length m = length-set (set m j a) (j + 1) b ∙ l1 in
+    let l3 : length (set (set (set m j a) (j + 1) b) (j + 2) c) ≡ length m = length-set (set (set m j a) (j + 1) b) (j + 2) c ∙ l2 in
+    let e0 : take j m ≡ table f j = rw ej e in
+    let e1 : take (j + 1) (set m j a) ≡ table f (j + 1) = table-more f m j (j + 1) a (omega arith) (omega arith) e0 ea in
+    let e2 : take (j + 2) (set (set m j a) (j + 1) b) ≡ table f (j + 2)
+    = table-more f (set m j a) (j + 1) (j + 2) b (omega arith) (omega arith) e1 eb in
+    let e3 : take (j + 3) (set (set (set m j a) (j + 1) b) (j + 2) c) ≡ table f (j + 3)
+    = table-more f (set (set m j a) (j + 1) b) (j + 2) (j + 3) c (omega arith) (omega arith) e2 ec in
+    table-more f (set (set (set m j a) (j + 1) b) (j + 2) c) (j + 3) (4 * (t + 1)) d (omega arith) (omega arith) e3 ed

@@ -1,4 +1,5 @@
 mod ClearLaws
+mod ConstantsLaws
 mod LaneLaws
 mod LoadLaws
 mod RoundLaws

@@ -3,13 +3,14 @@ use mathlib.Core.Path.{_≡_, refl, sym, ap, _∙_}
 use mathlib.Core.List.{List}
 use Prim.Native.Nat.{ℕ, zero, suc, _+_, _*_, _/_, _%_, _≤_, _<_}
 use native.Mathlib.Omega.{arith}
-use lib.ListN.{length, getD, set, take, length-set}
+use lib.ListN.{length, getD, set, take}
 use Rattle.octets.specs.Splice.{part}
 use Rattle.octets.specs.SpliceLaws.{part-length, getD-part}
 use Rattle.sha256.specs.Table.{table}
 use Rattle.sha256.specs.Fips.{wordAt}
-use Rattle.sha256.specs.TableLaws.{getD-table, table-ext, table-more}
+use Rattle.sha256.specs.TableLaws.{getD-table, table-ext}
 use Rattle.lanes.specs.NodeWords.{wordsOf, Holds}
+use Rattle.lanes.proofs.LaneLaws.{four-more}
 
 -- word j of the four
 abbrev pub laneWord : List ℕ → ℕ → ℕ → ℕ → ℕ
@@ -28,18 +29,10 @@ pub load-more : (run m : List ℕ) (step at t j a b c d : ℕ) → j ≡ 4 * t �
     → d ≡ wordAt run (at + 4 * t + 3 * step)
     → take (4 * (t + 1)) (set (set (set (set m j a) (j + 1) b) (j + 2) c) (j + 3) d) ≡ table (laneWord run step at) (4 * (t + 1))
 load-more run m step at t j a b c d ej h e ea eb ec ed =
-    let f : ℕ → ℕ = laneWord run step at in
-    let l1 : length (set m j a) ≡ length m = length-set m j a in
-    let l2 : length (set (set m j a) (j + 1) b) ≡ length m = length-set (set m j a) (j + 1) b ∙ l1 in
-    let l3 : length (set (set (set m j a) (j + 1) b) (j + 2) c) ≡ length m = length-set (set (set m j a) (j + 1) b) (j + 2) c ∙ l2 in
-    let e0 : take j m ≡ table f j = rw ej e in
-    let e1 : take (j + 1) (set m j a) ≡ table f (j + 1)
-    = table-more f m j (j + 1) a (omega arith) (omega arith) e0 (ea ∙ word-of run step at t 0 j (at + 4 * t) (omega arith) (omega arith) (omega arith)) in
-    let e2 : take (j + 2) (set (set m j a) (j + 1) b) ≡ table f (j + 2)
-    = table-more f (set m j a) (j + 1) (j + 2) b (omega arith) (omega arith) e1 (eb ∙ word-of run step at t 1 (j + 1) (at + 4 * t + step) (omega arith) (omega arith) (omega arith)) in
-    let e3 : take (j + 3) (set (set (set m j a) (j + 1) b) (j + 2) c) ≡ table f (j + 3)
-    = table-more f (set (set m j a) (j + 1) b) (j + 2) (j + 3) c (omega arith) (omega arith) e2 (ec ∙ word-of run step at t 2 (j + 2) (at + 4 * t + 2 * step) (omega arith) (omega arith) (omega arith)) in
-    table-more f (set (set (set m j a) (j + 1) b) (j + 2) c) (j + 3) (4 * (t + 1)) d (omega arith) (omega arith) e3
+    four-more (laneWord run step at) m t j a b c d ej h e
+    (ea ∙ word-of run step at t 0 j (at + 4 * t) (omega arith) (omega arith) (omega arith))
+    (eb ∙ word-of run step at t 1 (j + 1) (at + 4 * t + step) (omega arith) (omega arith) (omega arith))
+    (ec ∙ word-of run step at t 2 (j + 2) (at + 4 * t + 2 * step) (omega arith) (omega arith) (omega arith))
     (ed ∙ word-of run step at t 3 (j + 3) (at + 4 * t + 3 * step) (omega arith) (omega arith) (omega arith))
 
 -- the node of a lane stands in the run

@@ -1,10 +1,10 @@
 -- Rounds and sums, lane by lane.
 use mathlib.Core.Path.{_≡_, sym, ap, _∙_}
-use mathlib.Core.List.{List}
+use mathlib.Core.List.{List, []}
 use Prim.Native.Nat.{ℕ, zero, suc, _+_, _*_, _≤_, _<_}
 use native.Mathlib.Nat.{add-zero, add-suc}
 use native.Mathlib.Omega.{arith}
-use lib.ListN.{getD, drop, replicate, getD-replicate}
+use lib.ListN.{getD, drop}
 use lib.Seq.{getD-drop}
 use Rattle.sha256.specs.Table.{table}
 use Rattle.sha256.specs.Fips.{_⊞_, rounds, sums}
@@ -18,30 +18,27 @@ unfolding rounds
 rounds-add k w h i zero = rw add-zero
 rounds-add k w h i (suc n) = rw (add-suc, rounds-add k w h i n, getD-drop i k n 0, getD-drop i w n 0)
 
--- eight more rounds of a lane
-pub lane-rounds : (k w s h r : List ℕ) (i j l : ℕ) → i + 8 ≤ 64 → l < 4 → j ≡ i + 8 → lane 8 s l ≡ rounds k (lane 64 w l) h i
-    → lane 8 r l ≡ rounds (table (λ n. getD k (i + n) 0) 8) (lane 8 (table (λ n. getD w (4 * i + n) 0) 32) l) (lane 8 s l) 8
-    → lane 8 r l ≡ rounds k (lane 64 w l) h j
-lane-rounds k w s h r i j l fits b ej e f =
-    let kf : ℕ → ℕ = λ n. getD k (i + n) 0 in
-    let wf : ℕ → ℕ = λ n. getD w (4 * i + n) 0 in
-    let lf : ℕ → ℕ = λ n. getD w (4 * n + l) 0 in
+-- eight more rounds of a lane, with the constants k and no schedule
+pub lane-rounds : (k s h r : List ℕ) (i j l : ℕ) → i + 8 ≤ 64 → l < 4 → j ≡ i + 8 → lane 8 s l ≡ rounds (lane 64 k l) [] h i
+    → lane 8 r l ≡ rounds (lane 8 (table (λ n. getD k (4 * i + n) 0) 32) l) [] (lane 8 s l) 8
+    → lane 8 r l ≡ rounds (lane 64 k l) [] h j
+lane-rounds k s h r i j l fits b ej e f =
+    let kf : ℕ → ℕ = λ n. getD k (4 * i + n) 0 in
     f
-    ∙ ap (λ (x : List ℕ). rounds (table kf 8) (lane 8 (table wf 32) l) x 8) e
-    ∙ rounds-same (table kf 8) (lane 8 (table wf 32) l) (drop i k) (drop i (lane 64 w l)) (rounds k (lane 64 w l) h i) 8
+    ∙ ap (λ (x : List ℕ). rounds (lane 8 (table kf 32) l) [] x 8) e
+    ∙ rounds-same (lane 8 (table kf 32) l) [] (drop i (lane 64 k l)) (drop i []) (rounds (lane 64 k l) [] h i) 8
     (λ n g x.
     let p : 4 * i + (4 * n + l) ≡ 4 * (i + n) + l = omega arith in
     rw (
-      getD-table kf 8 n g,
-      getD-table (λ t. getD (table wf 32) (4 * t + l) 0) 8 n g,
-      getD-table wf 32 (4 * n + l) (omega arith),
+      getD-table (λ t. getD (table kf 32) (4 * t + l) 0) 8 n g,
+      getD-table kf 32 (4 * n + l) (omega arith),
       p,
-      getD-drop i k n 0,
-      getD-drop i (lane 64 w l) n 0,
-      getD-table lf 64 (i + n) (omega arith),
+      getD-drop i (lane 64 k l) n 0,
+      getD-drop {A = ℕ} i [] n 0,
+      getD-table (λ t. getD k (4 * t + l) 0) 64 (i + n) (omega arith),
     ))
-    ∙ sym (rounds-add k (lane 64 w l) h i 8)
-    ∙ ap (rounds k (lane 64 w l) h) (sym ej)
+    ∙ sym (rounds-add (lane 64 k l) [] h i 8)
+    ∙ ap (rounds (lane 64 k l) [] h) (sym ej)
 
 -- the sums of a lane
 pub lane-sums : (h s : List ℕ) (l : ℕ) → l < 4 → lane 8 (table (λ i. getD h i 0 ⊞ getD s i 0) 32) l ≡ sums (lane 8 h l) (lane 8 s l)
@@ -54,7 +51,3 @@ lane-sums h s l b =
       getD-table (λ n. getD h (4 * n + l) 0) 8 t g,
       getD-table (λ n. getD s (4 * n + l) 0) 8 t g,
     ))
-
--- a lane of zeros
-pub lane-zero : (l i : ℕ) → l < 4 → i < 64 → getD (lane 64 (replicate 256 0) l) i 0 ≡ 0
-lane-zero l i b h = getD-table (λ t. getD (replicate 256 0) (4 * t + l) 0) 64 i h ∙ getD-replicate 256 (4 * i + l) 0 0 (omega arith)

@@ -2,6 +2,7 @@
 mod block; // block.rt: the block routine on four blocks
 mod lane; // lane.rt: the words of one lane
 mod load; // load.rt: the words of four nodes
+mod padding_sums; // padding_sums.rt: the sums that the padding block's rounds take
 mod schedule; // schedule.rt: four schedules
 
 pub use load::load_nodes;

@@ -1,7 +1,7 @@
 -- SHA-256 of 64 bytes: two blocks, the second of them the padding block, whose rounds need no schedule.
 use mathlib.Core.Path.{_≡_, refl, sym, _∙_}
 use mathlib.Core.Bool.{Bool}
-use mathlib.Core.List.{List, _∷_, _++_}
+use mathlib.Core.List.{List, [], _∷_, _++_}
 use Prim.Native.Nat.{ℕ, _+_, _*_, _<_}
 use native.Mathlib.Omega.{arith}
 use lib.Dec.{eqb, eqb→eq}
@@ -10,7 +10,7 @@ use lib.Seq.{getD-drop, getD-append-add}
 use Rattle.sha256.specs.Table.{table}
 use Rattle.sha256.specs.Fips.{_⊞_, constants, σ0, σ1, scheduleWord, nextWord, schedule, rounds, pad, zeroBytes, lengthByte, blockAt, wordAt, hashValue, compress, initial, digest, sha256}
 use Rattle.sha256.specs.TableLaws.{table-ext}
-use Rattle.sha256.specs.BlockLaws.{schedule-of, round-sum, rounds-same}
+use Rattle.sha256.specs.BlockLaws.{schedule-of, rounds-sums}
 use Rattle.sha256.specs.PaddingLaws.{pad-length, pad-block}
 use Rattle.node.specs.PaddingBlock.{paddingBlock, paddingSchedule, paddingSums}
 use Rattle.node.specs.Every.{at}
@@ -37,13 +37,9 @@ sum-is : (i : ℕ) → i < 64 → getD paddingSums i 0 ≡ getD constants i 0 �
 unfolding paddingSums paddingSchedule constants is-sum
 sum-is i h = eqb→eq (getD paddingSums i 0) (getD constants i 0 ⊞ getD paddingSchedule i 0) (at is-sum paddingSums tt i h)
 
--- the rounds of the padding block, with the sums as constants and zeros as schedule
-pub padding-rounds : (h zeros : List ℕ) → ((i : ℕ) → i < 64 → getD zeros i 0 ≡ 0)
-    → rounds paddingSums zeros h 64 ≡ rounds constants (schedule paddingBlock) h 64
-padding-rounds h zeros z =
-    rw padding-schedule
-    (rounds-same paddingSums zeros constants paddingSchedule h 64
-    (λ i l s. rw (z i l, sum-is i l) (round-sum s (getD constants i 0) (getD paddingSchedule i 0))))
+-- the rounds of the padding block, with the sums as constants and no schedule
+pub padding-rounds : (h : List ℕ) → rounds paddingSums [] h 64 ≡ rounds constants (schedule paddingBlock) h 64
+padding-rounds h = rw padding-schedule (rounds-sums paddingSums constants paddingSchedule h 64 sum-is)
 
 -- the padding of 64 bytes
 padding : List ℕ

@@ -6,7 +6,7 @@ ghost use Rattle.sha256.specs.Fips as F;
 ghost use Rattle.node.specs.PaddingBlock.{paddingBlock};
 
 // The words of its schedule, with the constants added to them.
-pub const PADDING_SUMS: [u32; 64] = [
+const PADDING_SUMS: [u32; 64] = [
     0xc28a2f98,
     0x71374491,
     0xb5c0fbcf,

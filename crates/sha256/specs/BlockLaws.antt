@@ -78,9 +78,14 @@ rounds-same k w k' w' h (suc n) f =
 add-first : (x k w : ℕ) → x ⊞ (k ⊞ w) ⊞ 0 ≡ x ⊞ k ⊞ w
 add-first x k w = omega arith
 
-pub round-sum : (s : List ℕ) (k w : ℕ) → round s (k ⊞ w) 0 ≡ round s k w
+round-sum : (s : List ℕ) (k w : ℕ) → round s (k ⊞ w) 0 ≡ round s k w
 unfolding round
 round-sum s k w = rw (add-first (getD s 7 0 ⊞ Σ1 (getD s 4 0) ⊞ ch (getD s 4 0) (getD s 5 0) (getD s 6 0)) k w)
+
+-- so that the rounds may take the sums as constants, and no schedule
+pub rounds-sums : (sums k w h : List ℕ) (n : ℕ) → ((i : ℕ) → i < n → getD sums i 0 ≡ getD k i 0 ⊞ getD w i 0)
+    → rounds sums [] h n ≡ rounds k w h n
+rounds-sums sums k w h n e = rounds-same sums [] k w h n (λ i l s. rw (e i l) (round-sum s (getD k i 0) (getD w i 0)))
 
 -- one more block of a padded message
 pub hash-more : (bytes h m g : List ℕ) (at : ℕ) → at % 64 ≡ 0 → h ≡ hashValue bytes (at / 64) → m ≡ blockAt bytes at → g ≡ compress h m

@@ -10,10 +10,10 @@ use Rattle.lanes.proofs.block.eight_of_each.Statement.{statement}
 use Rattle.lanes.proofs.block.eight_of_each.Tie as tie
 
 abbrev Inv-loop : tie.InvT-loop
-Inv-loop w at words₀ j₀ words j = (j ≤ 32) × (length words ≡ 32) × (take j words ≡ table (λ n. getD w (at + n) 0) j)
+Inv-loop sums at words₀ j₀ words j = (j ≤ 32) × (length words ≡ 32) × (take j words ≡ table (λ n. getD sums (at + n) 0) j)
 
 abbrev μ-loop : tie.MeasureT-loop
-μ-loop w at words₀ j₀ words j = 32 - j
+μ-loop sums at words₀ j₀ words j = 32 - j
 
 loop-holds : tie.Need-loop-holds Inv-loop μ-loop
 unfolding table

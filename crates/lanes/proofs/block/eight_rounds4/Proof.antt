@@ -1,7 +1,7 @@
 -- `eight_rounds4`: the lanes below l have gone through eight rounds.
 use Prim.Native.Nat.{ℕ, _-_, _≤_, _<_}
 use mathlib.Core.Path.{_≡_, refl, ap₂, _∙_}
-use mathlib.Core.List.{List}
+use mathlib.Core.List.{List, []}
 use native.Mathlib.Nat.{not-suc-le-zero}
 use native.Mathlib.Omega.{arith}
 use lib.ListN.{length}
@@ -13,10 +13,10 @@ use Rattle.lanes.proofs.block.eight_rounds4.Statement.{statement}
 use Rattle.lanes.proofs.block.eight_rounds4.Tie as tie
 
 abbrev Inv-loop : tie.InvT-loop
-Inv-loop k s w next₀ l₀ next l = (l ≤ 4) × (length next ≡ 32) × ((q : ℕ) → q < l → lane 8 next q ≡ rounds k (lane 8 w q) (lane 8 s q) 8)
+Inv-loop s sums next₀ l₀ next l = (l ≤ 4) × (length next ≡ 32) × ((q : ℕ) → q < l → lane 8 next q ≡ rounds (lane 8 sums q) [] (lane 8 s q) 8)
 
 abbrev μ-loop : tie.MeasureT-loop
-μ-loop k s w next₀ l₀ next l = 4 - l
+μ-loop s sums next₀ l₀ next l = 4 - l
 
 loop-holds : tie.Need-loop-holds Inv-loop μ-loop
 loop-holds c = (omega arith, refl, λ q h. absurd (not-suc-le-zero h))
@@ -28,9 +28,9 @@ loop-again c =
     let a = f .before .before .before .before .before .args in (
       omega arith,
       c .put-lane .ensures .sized,
-      below-more (λ q. lane 8 (c .put-lane .last .0) q ≡ rounds (a .k) (lane 8 (a .t3) q) (lane 8 (a .t1) q) 8) (l .l)
+      below-more (λ q. lane 8 (c .put-lane .last .0) q ≡ rounds (lane 8 (a .t2) q) [] (lane 8 (a .t1) q) 8) (l .l)
           (λ q b. c .put-lane .ensures .others q (omega arith) (λ e. omega arith) ∙ l .inv .2 q b)
-          (c .put-lane .ensures .here ∙ c .before .eight-rounds .ensures ∙ ap₂ (λ (x y : List ℕ). rounds (a .k) y x 8) (f .lane-of .ensures) (c .before .before .lane-of2 .ensures)),
+          (c .put-lane .ensures .here ∙ c .before .eight-rounds .ensures ∙ ap₂ (λ (x y : List ℕ). rounds y [] x 8) (f .lane-of .ensures) (c .before .before .lane-of2 .ensures)),
     )
 
 returns : tie.Need-returns Inv-loop μ-loop

@@ -29,7 +29,7 @@ returns : tie.Need-returns Inv-loop μ-loop
 returns c = λ q b.
     let l = c .before .loop in
     let words = c .before .before .args .t1 in
-    rw (table-done _ (l .lanes) (l .i) 32 (omega arith) (l .inv .1) (l .inv .2)) (lane-same words q (search needs) b)
+    rw (table-done _ (l .lanes) (l .i) 32 (omega arith) (l .inv .1) (l .inv .2)) (lane-same words 8 q (search needs) b)
 
 pub in-each-lane-spec : {M : Type 1} → statement M
 in-each-lane-spec =

@@ -45,7 +45,7 @@ unfolding compress
 returns c =
     let hash = c .before .before .before .args .hash in
     let e : c .before .before .loop .t ≡ 64 = omega arith in
-    c .sums .ensures ∙ ap (sums hash) ((rw e at (c .before .before .loop .inv .2)) ∙ padding-rounds hash [] (λ i l. refl))
+    c .sums .ensures ∙ ap (sums hash) ((rw e at (c .before .before .loop .inv .2)) ∙ padding-rounds hash)
 
 pub finish-spec : {M : Type 1} → statement M
 finish-spec =
