@@ -5,8 +5,7 @@ use Prim.Native.Nat.{ℕ}
 use mathlib.Core.List.{List, [], _∷_}
 use lib.ListN.{length}
 use Rattle.node.specs.Node.{nodeHash}
-use Rattle.merkle.specs.Tree.{nodeAt, commitmentOf}
-use Rattle.merkle.specs.TreeLaws.{top-node}
+use Rattle.merkle.specs.Tree.{nodeAt}
 use Rattle.merkle.specs.StrayBits.{noStrayBits}
 use Rattle.paths.specs.Strings.{pathStrings}
 use Rattle.paths.specs.Difference.{firstDifference}
@@ -14,7 +13,7 @@ use Rattle.paths.specs.Compare.{compared}
 use Rattle.paths.specs.IsTree.{IsTree}
 use Rattle.paths.specs.NodeSourceLaws.{run-tree}
 use Rattle.paths.specs.declared.Compared.{Compared}
-use Rattle.entries.specs.Sizes.{lentSizeAllowed, dealLevel, segmentLevel, segmentPathLevels, entryPathLevels, segmentPosition, entryPosition}
+use Rattle.entries.specs.Sizes.{lentSizeAllowed, placeAllowed, dealLevel, segmentLevel, segmentPathLevels, entryPathLevels, segmentPosition, entryPosition}
 use Rattle.entries.specs.SizesLaws.{lent-size}
 use Rattle.index.specs.Slots.{entryAt}
 use Rattle.record.specs.Check.{entryFor, checkOf}
@@ -40,10 +39,6 @@ module _ (deal r : List ℕ) where
     unfolding settleWithDeal
     stray-refused e = rw (lent, e)
 
-    -- the commitment that the record is checked against is the deal's own
-    pub own-commitment : commitmentOf (dealLevel (length deal)) deal ≡ termsOf (lentDeal deal) .commitment
-    own-commitment = sym (top-node deal (dealLevel (length deal)) (lent-size (length deal) lent .deal .is-power))
-
     pub check-refused : noStrayBits deal ≡ true → {code : ℕ} → code ≡ checkOf (termsOf (lentDeal deal)) r → (code ≡ 0 → ⊥) → notSettled code ≡ settleWithDeal (lentDeal deal) r
     unfolding settleWithDeal
     check-refused clear {code} e h = rw (lent, clear, ← e) (refused-with code notSettled _ h)
@@ -54,6 +49,9 @@ module _ (deal r : List ℕ) where
 
       accepted : Accepted (termsOf (lentDeal deal)) (fieldsOf r)
       accepted = accepted-fields r (termsOf (lentDeal deal)) cr
+
+      pub accepted-place : placeAllowed (length deal) (fieldsOf r .place) ≡ true
+      accepted-place = accepted .place-allowed
 
       pub inside : InDeal (length deal) (fieldsOf r .place) (fieldsOf r .offset) (fieldsOf r .size)
       inside = in-deal (length deal) (fieldsOf r .place) (fieldsOf r .offset) (fieldsOf r .size) lent (accepted .place-allowed) (accepted .size-allowed) (accepted .offset-allowed)

@@ -2,4 +2,5 @@
 pub mod Answers
 pub mod RecordsCases
 pub mod OwnPath
+pub mod OwnEntryPath
 pub mod DealCases

@@ -15,9 +15,9 @@ use paths::Compared;
 ghost use mathlib.Core.Path.{_≡_};
 ghost use mathlib.Core.Bool.{true};
 ghost use lib.ListN.{length};
-ghost use Rattle.entries.specs.Sizes.{lentSizeAllowed};
+ghost use Rattle.entries.specs.Sizes.{dealSizeAllowed, lentSizeAllowed, placeAllowed};
 ghost use Rattle.record.specs.Check.{checkOf};
-ghost use Rattle.build.specs.Build.{lentDeal, termsOf};
+ghost use Rattle.build.specs.Build.{lentDeal, termsOf, entryPathOf};
 ghost use Rattle.settle.specs.Settle.{settleWithDeal};
 ghost use Rattle.settle.specs.FieldsOf.{fieldsOf};
 ghost use Rattle.settle.specs.Comparing.{entryWithDeal, segmentWithDeal};
@@ -25,17 +25,35 @@ ghost use Rattle.settle.specs.Comparing.{entryWithDeal, segmentWithDeal}
 // A lent deal has at most 2^19 nodes of 32 bytes, and its longest path is that of an entry, from level 1 up.
 const LONGEST_PATH: usize = 32 * 18;
 
+// An allowed entry place: the record's own where that is allowed, else the first of the index.
+fn allowed_place(size: u64, record: &[u8]) -> u64
+    requires { ⌜ dealSizeAllowed size ≡ true ⌝ }
+    ensures { λ r. ⌜ (placeAllowed size r ≡ true) × (placeAllowed size (fieldsOf (now («record» .entry)) .place) ≡ true → r ≡ fieldsOf (now («record» .entry)) .place) ⌝ }
+{
+    let first = entries::slot_place(size, 0);
+    let place = place_in(record);
+    if entries::place_allowed(size, place) {
+        return place;
+    }
+    first
+}
+
+// The deal's commitment: the node that its own entry path at an allowed place leads to.
+fn own_commitment(deal: &[u8], place: u64, own_path: &[u8]) -> [u8; 32]
+    requires { ⌜ (lentSizeAllowed (length (now deal)) ≡ true) × (placeAllowed (length (now deal)) place ≡ true) × (now «own_path» ≡ entryPathOf (lentDeal (now deal)) place) ⌝ }
+    ensures { λ r. ⌜ r ≡ termsOf (lentDeal (now (deal .entry))) .commitment ⌝ }
+{
+    let own_entry = octets::pair_at(deal, place as usize);
+    paths::path_root(node::node_hash(own_entry), place / 64, own_path)
+}
+
 // Compares the entry strings of an accepted record with those of the deal: the 64 bytes at the entry place, and the pairs of nodes above.
-fn compare_deal_entry(deal: &[u8], record: &[u8]) -> Compared
-    requires { ⌜ (lentSizeAllowed (length (now deal)) ≡ true) × (checkOf (termsOf (lentDeal (now deal))) (now «record») ≡ 0) ⌝ }
+// The deal's own entry path at that place is in hand.
+fn compare_deal_entry(deal: &[u8], own_path: &[u8], record: &[u8]) -> Compared
+    requires { ⌜ (lentSizeAllowed (length (now deal)) ≡ true) × (checkOf (termsOf (lentDeal (now deal))) (now «record») ≡ 0) × (now «own_path» ≡ entryPathOf (lentDeal (now deal)) (fieldsOf (now «record») .place)) ⌝ }
     ensures { λ r. ⌜ r ≡ entryWithDeal (lentDeal (now (deal .entry))) (fieldsOf (now («record» .entry))) ⌝ }
 {
     let place = place_in(record);
-    let levels = entries::deal_level(deal.len() as u64) - 1;
-    let mut path = [0u8; LONGEST_PATH];
-    paths::write_path(deal, levels, 1, (place / 64) as usize, &mut path, 0);
-    let end = 32 * levels;
-    let own_path = &path[..end];
     let own_entry = octets::pair_at(deal, place as usize);
     let entry = entry_in(record);
     let entry_path = entry_path_in(record);
@@ -63,6 +81,7 @@ fn compare_deal_segment(deal: &[u8], record: &[u8]) -> Compared
 
 // Settles a record with a deal: 2 for a deal size that is not allowed, 11 for a deal with stray bits, the refusal of the check against
 // the deal's own commitment and length, then 0 where no string differs, else 17 and the two strings at the first difference.
+// The deal's own entry path is written once: it leads to the commitment, and for an accepted record it is the one to compare.
 pub fn settle_with_deal(deal: &[u8], record: &[u8]) -> Settled
     ensures { λ r. ⌜ r ≡ settleWithDeal (lentDeal (now (deal .entry))) (now («record» .entry)) ⌝ }
 {
@@ -73,12 +92,18 @@ pub fn settle_with_deal(deal: &[u8], record: &[u8]) -> Settled
         return not_settled(11);
     }
     let size = deal.len() as u64;
-    let commitment = merkle::root(deal, entries::deal_level(size));
+    let place = allowed_place(size, record);
+    let levels = entries::deal_level(size) - 1;
+    let mut path = [0u8; LONGEST_PATH];
+    paths::write_path(deal, levels, 1, (place / 64) as usize, &mut path, 0);
+    let end = 32 * levels;
+    let own_path = &path[..end];
+    let commitment = own_commitment(deal, place, own_path);
     let refusal = record::check(&commitment, size, record);
     if refusal != 0 {
         return not_settled(refusal);
     }
-    let found = compare_deal_entry(deal, record);
+    let found = compare_deal_entry(deal, own_path, record);
     if found.differs {
         return settled_from(found);
     }

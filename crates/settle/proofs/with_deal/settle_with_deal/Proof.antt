@@ -1,18 +1,24 @@
--- 2, 11, the check against the deal's own commitment; then the entry parts decide where they differ, and else the segment parts.
+-- 2, 11, the check against the commitment that the deal's own entry path leads to; then the entry parts decide where they differ, and else the segment
+-- parts.
 use mathlib.Core.Path.{_≡_, sym, ap, _∙_}
 use mathlib.Core.Bool.{true}
-use Prim.Native.Nat.{ℕ}
+use Prim.Native.Nat.{ℕ, _-_, _*_}
+use native.Mathlib.Omega.{arith}
 use mathlib.Core.List.{List}
-use lib.ListN.{length}
+use lib.ListN.{length, take}
 use denote.Ref.{now}
 use borrow.Author.Tests.{not-true, not-false}
-use Rattle.merkle.specs.Tree.{commitmentOf}
+use Rattle.merkle.specs.Tree.{nodeAt}
 use Rattle.merkle.specs.StrayBits.{noStrayBits}
-use Rattle.entries.specs.Sizes.{lentSizeAllowed}
+use Rattle.paths.specs.NodeSource.{siblings}
+use Rattle.entries.specs.Sizes.{lentSizeAllowed, entryPosition}
 use Rattle.entries.specs.SizesLaws.{lent-size}
 use Rattle.record.specs.Check.{dealTerms, checkOf}
-use Rattle.build.specs.Build.{lentDeal, termsOf}
-use Rattle.settle.proofs.DealCases.{size-refused, stray-refused, own-commitment, check-refused, entries-differ, entries-same}
+use Rattle.build.specs.Build.{lentDeal, termsOf, entryPathOf}
+use Rattle.settle.specs.FieldsOf.{fieldsOf}
+use Rattle.settle.proofs.OwnPath.{OwnPath, path-room, path-written, written-length, written-fits}
+use Rattle.settle.proofs.OwnEntryPath.{entry-path}
+use Rattle.settle.proofs.DealCases.{size-refused, stray-refused, check-refused, accepted-place, entries-differ, entries-same}
 use borrow.Author.Needs.{needs}
 use Rattle.settle.proofs.with_deal.settle_with_deal.Statement.{statement}
 use Rattle.settle.proofs.with_deal.settle_with_deal.Tie as tie
@@ -30,27 +36,55 @@ start1 c = c .before .before .before .before
 abbrev else1 : tie.Else2 → tie.Else1
 else1 c = c .before .before
 
--- the tests that were passed, and the check against the deal's own terms
+-- the tests that were passed
 size-passed : (c : tie.Else1) → lentSizeAllowed (length (deal (start1 c))) ≡ true
 size-passed c = sym (c .before .lent-size-allowed .ensures) ∙ not-false _ (c .if1 .left)
 
 clear-passed : (c : tie.Else2) → noStrayBits (deal (start1 (else1 c))) ≡ true
 clear-passed c = sym (c .before .no-stray-bits .ensures) ∙ not-false _ (c .if2 .left)
 
-abbrev else2 : tie.After-check → tie.Else2
-else2 c = c .before .before .before .before
+abbrev else2 : tie.After-deal-level → tie.Else2
+else2 c = c .before .before
 
-checked : (c : tie.After-check) → let s = start1 (else1 (else2 c)) in c .check .result ≡ checkOf (termsOf (lentDeal (deal s))) (lent s)
+abbrev start : tie.After-deal-level → tie.Start
+start c = start1 (else1 (else2 c))
+
+-- the deal's own entry path at the allowed place, and the buffer that it was written into
+abbrev place : tie.After-deal-level → ℕ
+place c = c .before .allowed-place .result
+
+own : (c : tie.After-deal-level) → OwnPath (deal (start c)) (c .deal-level .result - 1) 1 (entryPosition (place c))
+own c = entry-path (deal (start c)) (size-passed (else1 (else2 c))) (place c) (c .before .allowed-place .ensures .0) (c .deal-level .ensures)
+
+abbrev out : tie.After-write-path → List ℕ
+out c = c .write-path .last .1 .1 .1 .1 .0
+
+own-path : (c : tie.After-write-path) → let k = c .before .before in take (32 * (k .deal-level .result - 1)) (out c) ≡ entryPathOf (lentDeal (deal (start k))) (place k)
+own-path c =
+    let k = c .before .before in
+    path-written (own k) (out c) (c .write-path .ensures) ∙ (λ i. siblings (nodeAt (deal (start k))) (k .deal-level .ensures i - 1) 1 (entryPosition (place k)))
+
+-- the check against the deal's own terms
+abbrev written : tie.After-check → tie.After-write-path
+written c = c .before .before .before .before .before
+
+abbrev level : tie.After-check → tie.After-deal-level
+level c = written c .before .before
+
+checked : (c : tie.After-check) → let s = start (level c) in c .check .result ≡ checkOf (termsOf (lentDeal (deal s))) (lent s)
 checked c =
-    let h = c .before .before in
-    let e = else1 (else2 c) in
-    let s = start1 e in
-    c .check .ensures
-    ∙ ap (λ (node : List ℕ). checkOf (dealTerms node (length (deal s))) (lent s))
-    (h .root .ensures ∙ ap (λ (level : ℕ). commitmentOf level (deal s)) (h .before .deal-level .ensures) ∙ own-commitment (deal s) (lent s) (size-passed e))
+    let s = start (level c) in
+    c .check .ensures ∙ ap (λ (node : List ℕ). checkOf (dealTerms node (length (deal s))) (lent s)) (c .before .before .own-commitment .ensures)
 
-accepted : (c : tie.Else3) → let s = start1 (else1 (else2 (c .before))) in checkOf (termsOf (lentDeal (deal s))) (lent s) ≡ 0
+accepted : (c : tie.Else3) → let s = start (level (c .before)) in checkOf (termsOf (lentDeal (deal s))) (lent s) ≡ 0
 accepted c = sym (checked (c .before)) ∙ c .if3 .left
+
+-- an accepted record's place is the one chosen
+place-is : (c : tie.Else3) → place (level (c .before)) ≡ fieldsOf (lent (start (level (c .before)))) .place
+place-is c =
+    let l = level (c .before) in
+    let s = start l in
+    l .before .allowed-place .ensures .1 (accepted-place (deal s) (lent s) (size-passed (else1 (else2 l))) (accepted c))
 
 lent-size-allowed-requires : tie.Need-lent-size-allowed-requires
 lent-size-allowed-requires c κs = search needs
@@ -76,13 +110,35 @@ returns-2 c =
     let s = start1 (n .before) in
     c .not-settled2 .ensures ∙ stray-refused (deal s) (lent s) (size-passed (n .before)) (sym (n .no-stray-bits .ensures) ∙ not-true _ (c .before .if2 .taken))
 
-deal-level-requires : tie.Need-deal-level-requires
-deal-level-requires c κs = lent-size (length (deal (start1 (else1 c)))) (size-passed (else1 c)) .allowed
+allowed-place-requires : tie.Need-allowed-place-requires
+allowed-place-requires c κs = lent-size (length (deal (start1 (else1 c)))) (size-passed (else1 c)) .allowed
 
-root-requires : tie.Need-root-requires
-root-requires c κs =
-    let e = else1 (c .before) in
-    rw (c .deal-level .ensures) (lent-size (length (deal (start1 e))) (size-passed e) .deal .is-power)
+deal-level-requires : tie.Need-deal-level-requires
+deal-level-requires c κs = let e = else1 (c .before) in lent-size (length (deal (start1 e))) (size-passed e) .allowed
+
+sub-levels : tie.Need-sub-levels
+sub-levels c = omega (arith, own c .up)
+
+slice-aggregate-write-path : tie.Need-slice-aggregate-write-path
+slice-aggregate-write-path c = search needs
+
+write-path-requires : tie.Need-write-path-requires
+write-path-requires c κs = path-room (own (c .before))
+
+mul-end : tie.Need-mul-end
+mul-end c = omega (arith, path-room (own (c .before .before .before)) .3)
+
+array-share-prefix-path : tie.Need-array-share-prefix-path
+array-share-prefix-path c = let w = c .before in written-fits (own (w .before .before)) (out w) (w .write-path .ensures)
+
+slice-aggregate-own-path : tie.Need-slice-aggregate-own-path
+slice-aggregate-own-path c = let w = c .before .before in written-length (own (w .before .before)) (out w) (w .write-path .ensures)
+
+own-commitment-requires : tie.Need-own-commitment-requires
+own-commitment-requires c κs =
+    let w = c .before .before in
+    let l = w .before .before in
+    (size-passed (else1 (else2 l)), l .before .allowed-place .ensures .0, own-path w)
 
 slice-aggregate-check : tie.Need-slice-aggregate-check
 slice-aggregate-check c = search needs
@@ -96,12 +152,14 @@ not-settled-requires-3 c κs = search needs
 returns-3 : tie.Need-returns-3
 returns-3 c =
     let k = c .before .before in
-    let e = else2 k in
+    let e = else2 (level k) in
     let s = start1 (else1 e) in
     c .not-settled3 .ensures ∙ check-refused (deal s) (lent s) (size-passed (else1 e)) (clear-passed e) (checked k) (c .before .if3 .taken)
 
 compare-deal-entry-requires : tie.Need-compare-deal-entry-requires
-compare-deal-entry-requires c κs = (size-passed (else1 (else2 (c .before))), accepted c)
+compare-deal-entry-requires c κs =
+    let l = level (c .before) in
+    (size-passed (else1 (else2 l)), accepted c, own-path (written (c .before)) ∙ ap (entryPathOf (lentDeal (deal (start l)))) (place-is c))
 
 settled-from-requires : tie.Need-settled-from-requires
 settled-from-requires c κs = search needs
@@ -109,13 +167,13 @@ settled-from-requires c κs = search needs
 returns-4 : tie.Need-returns-4
 returns-4 c =
     let f = c .before .before in
-    let e = else2 (f .before .before) in
+    let e = else2 (level (f .before .before)) in
     let s = start1 (else1 e) in
     c .settled-from .ensures
     ∙ entries-differ (deal s) (lent s) (size-passed (else1 e)) (accepted (f .before)) (clear-passed e) (f .compare-deal-entry .result) (f .compare-deal-entry .ensures) (c .before .if4 .taken)
 
 compare-deal-segment-requires : tie.Need-compare-deal-segment-requires
-compare-deal-segment-requires c κs = let k = c .before .before in (size-passed (else1 (else2 (k .before))), accepted k)
+compare-deal-segment-requires c κs = let k = c .before .before in (size-passed (else1 (else2 (level (k .before)))), accepted k)
 
 settled-from-requires-2 : tie.Need-settled-from-requires-2
 settled-from-requires-2 c κs = search needs
@@ -124,7 +182,7 @@ returns-5 : tie.Need-returns-5
 returns-5 c =
     let n = c .before .before in
     let f = n .before in
-    let e = else2 (f .before .before) in
+    let e = else2 (level (f .before .before)) in
     let s = start1 (else1 e) in
     c .settled-from2 .ensures
     ∙ entries-same (deal s) (lent s) (size-passed (else1 e)) (accepted (f .before)) (clear-passed e) (f .compare-deal-entry .result) (f .compare-deal-entry .ensures) (n .if4 .left) (c .before .compare-deal-segment .ensures)
@@ -139,8 +197,15 @@ settle-with-deal-spec =
     no-stray-bits-requires
     not-settled-requires-2
     returns-2
+    allowed-place-requires
     deal-level-requires
-    root-requires
+    sub-levels
+    slice-aggregate-write-path
+    write-path-requires
+    mul-end
+    array-share-prefix-path
+    slice-aggregate-own-path
+    own-commitment-requires
     slice-aggregate-check
     check-requires
     not-settled-requires-3

@@ -1,0 +1,49 @@
+-- A lent deal's own entry path at an allowed place: its numbers, and the commitment that it leads to.
+use mathlib.Core.Path.{_≡_, refl, ap, _∙_}
+use mathlib.Core.Bool.{true}
+use Prim.Native.Nat.{ℕ, _+_, _-_, _*_, _/_, _≤_}
+use native.Mathlib.Omega.{arith}
+use mathlib.Core.List.{List}
+use lib.ListN.{length}
+use Rattle.node.specs.Node.{nodeHash}
+use Rattle.merkle.specs.Tree.{nodeAt}
+use Rattle.paths.specs.Path.{pathRoot}
+use Rattle.paths.specs.IsTree.{IsTree}
+use Rattle.paths.specs.NodeSourceLaws.{run-tree, path-length, own-leads}
+use Rattle.entries.specs.Sizes.{lentSizeAllowed, placeAllowed, dealLevel, entryPathLevels, entryPosition}
+use Rattle.entries.specs.SizesLaws.{lent-size, EntryPlace, entry-place}
+use Rattle.index.specs.Slots.{entryAt}
+use Rattle.build.specs.Build.{lentDeal, termsOf, entryPathOf}
+use Rattle.build.specs.BuildLaws.{entry-node}
+use Rattle.settle.proofs.OwnPath.{OwnPath, same-among}
+
+module _ (deal : List ℕ) (lent : lentSizeAllowed (length deal) ≡ true) (place : ℕ) (allowed : placeAllowed (length deal) place ≡ true) where
+  pub there : EntryPlace (length deal) place
+  there = entry-place (length deal) place (lent-size (length deal) lent .deal) allowed
+
+  high : 4 ≤ dealLevel (length deal)
+  high = lent-size (length deal) lent .deal .level-low
+
+  -- its numbers, from the deal's level
+  pub entry-path : {level : ℕ} → level ≡ dealLevel (length deal) → OwnPath deal (level - 1) 1 (entryPosition place)
+  entry-path e =
+      let l = high in
+      record { lent = lent; up = omega (arith, e); low = omega arith; among = same-among refl (λ i. e i - 1) (there .position-in) }
+
+  tree : IsTree (nodeAt deal) deal (dealLevel (length deal))
+  tree = run-tree deal (dealLevel (length deal)) (lent-size (length deal) lent .deal .is-power)
+
+  up : 1 + entryPathLevels (length deal) ≡ dealLevel (length deal)
+  up = let l = high in omega arith
+
+  own-node : nodeHash (entryAt deal place) ≡ nodeAt deal 1 (entryPosition place)
+  own-node = let l = high in entry-node (nodeAt deal) deal (dealLevel (length deal)) place tree (there .at-position) (omega arith) (there .position-in)
+
+  -- it leads from the 64 bytes at the place to the deal's commitment
+  pub entry-leads : (path : List ℕ) → path ≡ entryPathOf (lentDeal deal) place
+      → pathRoot (length path / 32) (nodeHash (entryAt deal place)) (entryPosition place) path ≡ termsOf (lentDeal deal) .commitment
+  entry-leads path e =
+      let l : length path ≡ 32 * entryPathLevels (length deal) = ap length e ∙ path-length (nodeAt deal) deal (dealLevel (length deal)) tree (entryPathLevels (length deal)) 1 (entryPosition place) up (there .position-in) in
+      let n : length path / 32 ≡ entryPathLevels (length deal) = omega arith in
+      (λ i. pathRoot (n i) (own-node i) (entryPosition place) (e i))
+      ∙ own-leads (nodeAt deal) deal (dealLevel (length deal)) tree (entryPathLevels (length deal)) 1 (entryPosition place) up (there .position-in)
