@@ -36,7 +36,8 @@ enum {
   VZ_ALREADY_KEPT = 15,      /* the segment is kept already */
   VZ_NOT_KEPT = 16,          /* no kept entry at that place, or with that commitment */
   VZ_COLLISION = 17,         /* two different 64-byte strings with one node hash are shown */
-  VZ_OTHER_PLACE = 18        /* the two records name different entry places */
+  VZ_OTHER_PLACE = 18,       /* the two records name different entry places */
+  VZ_PATH_BITS = 19          /* a node of a path has stray bits */
 };
 
 /* SHA-256 of a message of 0 to 2^24 bytes. digest: 32 bytes. Codes: 2. */
@@ -75,7 +76,7 @@ uint32_t vz_book(uint8_t *deal, size_t deal_len, const uint8_t *segment, size_t 
  * hold any record. Codes: 2, 11, 6, 16, 12. */
 uint32_t vz_build(const uint8_t *deal, size_t deal_len, uint64_t place, uint8_t *record, size_t record_len, uint64_t *length);
 
-/* Checks a record against a deal's commitment and size. Codes: 1 to 10, in this order. */
+/* Checks a record against a deal's commitment and size. Codes, in this order: 1 to 8, 19, 9, 10. */
 uint32_t vz_check(const uint8_t *commitment, size_t commitment_len, uint64_t size, const uint8_t *record, size_t record_len);
 
 /* Settles two records for one deal commitment and size: 0 exactly where both are accepted and the same bytes; 17 with two

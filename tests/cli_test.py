@@ -212,7 +212,8 @@ class Refusals(Calls):
         self.refused(2, "check", root, 1 << 37, "record")
         self.put("cut", record[:-1])
         self.refused(3, "check", root, 512, "cut")
-        cases = ((4, 49, 0), (5, 38, 64), (6, 60, 1), (7, 50, 1), (8, 34, 255), (9, 72, record[72] ^ 1), (10, 233, record[233] ^ 1))
+        cases = ((4, 49, 0), (5, 38, 64), (6, 60, 1), (7, 50, 1), (8, 34, 255), (9, 72, record[72] ^ 1), (10, 233, record[233] ^ 1),
+                 (19, 102, 255), (19, 233, 64))
         for code, at, value in cases:
             self.changed(record, at, value)
             if code == 7:  # a segment of 256 bytes with the path of one of 128

@@ -28,8 +28,8 @@ BATCH = 2000
 
 # The codes that a run of the default length must meet. 17 needs a collision of SHA-256, and 2 of sha256 a long message (--large).
 CODES = {SHA256: {0}, COMMITMENT: {0, 2, 11}, NUMBERS: {0, 2}, MAKE: {0, 1, 8}, READ: {0, 2}, FIND: {0, 1, 2, 11, 16},
-         BOOK: {0, 2, 4, 11, 13, 14, 15}, BUILD: {0, 2, 6, 11, 12, 16}, CHECK: set(range(11)), SETTLE: set(range(11)) | {18},
-         SETTLE_DEAL: {0, *range(2, 12)}, FIELDS: {0}, INSPECT: {0, 2, 6, 11}}
+         BOOK: {0, 2, 4, 11, 13, 14, 15}, BUILD: {0, 2, 6, 11, 12, 16}, CHECK: {*range(11), 19}, SETTLE: {*range(11), 18, 19},
+         SETTLE_DEAL: {0, *range(2, 12), 19}, FIELDS: {0}, INSPECT: {0, 2, 6, 11}}
 ENOUGH = 50_000
 
 

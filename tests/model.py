@@ -254,6 +254,8 @@ class Model:
             return 7
         if c[31] >= 64:
             return 8
+        if stray(b"".join(u)) or stray(b"".join(v)):
+            return 19
         if self.path_root(c, o // s, u) != commitment:
             return 9
         if self.path_root(self.h.node(self.entry(c, o, s)), p // 64, v) != commitment:

@@ -80,6 +80,23 @@ def large_deals(rng):
         yield CHECK, r, bytes(32), d, 0
 
 
+def stray_paths(rng):
+    """Records for 512 bytes whose paths lead to the commitment: without stray bits in a path, and with them in one of its nodes."""
+    h = MODEL.h
+    for strayed in (None, 0, 1, 2):
+        c, *free = (node(rng) for _ in range(4))
+        if strayed is not None:
+            free[strayed] = free[strayed][:31] + bytes([rng.randrange(64, 256)])
+        sibling, *below = free
+        p = 256 + 64 * rng.randrange(4)
+        left, right = h.node(c + sibling), MODEL.path_root(h.node(MODEL.entry(c, 0, 128)), p // 64, below)
+        record = MODEL.encode(c, 0, 128, p, [sibling, right], [*below, left])
+        root = h.node(left + right)
+        yield CHECK, record, root, 512, 0
+        yield SETTLE, record, root + record, 512, 32
+        yield CHECK_INPUT, root + le(512) + record, b"", 0, 0
+
+
 def compared_paths(rng):
     """Two paths from one position that differ in the start node, in one sibling, in several, or not at all; from the top, the first
     difference is the highest string that differs."""
@@ -111,6 +128,7 @@ def all_cases():
     yield from large_deals(rng)
     yield from inputs(rng)
     yield from compared_paths(random.Random(17))
+    yield from stray_paths(random.Random(19))
     yield COMMITMENT, run(rng, 8192), b"", 0, 0
     for i in range(720):
         yield case(rng, 1 + i % len(NAMES), (512, 512, 1024))

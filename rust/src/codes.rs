@@ -2,8 +2,8 @@
 use std::error::Error;
 use std::fmt;
 
-/// The meanings of the codes 0 to 18, in order.
-const MEANINGS: [&str; 19] = [
+/// The meanings of the codes 0 to 19, in order.
+const MEANINGS: [&str; 20] = [
     "done, accepted, or both records the same",
     "a commitment is not 32 bytes long",
     "a deal, run, message or entry size is not allowed",
@@ -23,6 +23,7 @@ const MEANINGS: [&str; 19] = [
     "no kept entry at that place, or with that commitment",
     "two different 64-byte strings with one node hash are shown",
     "the two records name different entry places",
+    "a node of a path has stray bits",
 ];
 
 /// What a code means, in words.
@@ -53,6 +54,7 @@ impl Refusal {
     pub const NOT_KEPT: Refusal = Refusal(16);
     pub const COLLISION: Refusal = Refusal(17);
     pub const OTHER_PLACE: Refusal = Refusal(18);
+    pub const PATH_BITS: Refusal = Refusal(19);
 
     pub fn code(self) -> u32 {
         self.0
@@ -92,11 +94,11 @@ mod tests {
 
     #[test]
     fn every_code_has_a_meaning_of_its_own() {
-        for code in 0..=18 {
+        for code in 0..=19 {
             assert_ne!(meaning(code), "unknown code");
             assert!((0..code).all(|other| meaning(other) != meaning(code)), "code {code}");
         }
-        assert_eq!(meaning(19), "unknown code");
+        assert_eq!(meaning(20), "unknown code");
         assert_eq!(meaning(u32::MAX), "unknown code");
     }
 
@@ -130,6 +132,7 @@ mod tests {
             ("NOT_KEPT", Refusal::NOT_KEPT),
             ("COLLISION", Refusal::COLLISION),
             ("OTHER_PLACE", Refusal::OTHER_PLACE),
+            ("PATH_BITS", Refusal::PATH_BITS),
         ];
         for (name, refusal) in named {
             let line = format!("  VZ_{name} = {}", refusal.code());

@@ -42,7 +42,7 @@ pub fn build(deal: &[u8], place: u64) -> Result<Vec<u8>, Refusal> {
     Ok(record)
 }
 
-/// Checks a record against a deal's commitment and size. Refusals: 1 to 10, in this order.
+/// Checks a record against a deal's commitment and size. Refusals, in this order: 1 to 8, 19, 9, 10.
 pub fn check(commitment: &[u8], size: u64, record: &[u8]) -> Result<(), Refusal> {
     // SAFETY: both slices are live, and nothing is written.
     let code = unsafe { ffi::vz_check(commitment.as_ptr(), commitment.len(), size, record.as_ptr(), record.len()) };
@@ -195,8 +195,10 @@ mod tests {
         assert_eq!(check(&root, 512, &changed(60, 1)), Err(Refusal::PLACE));
         assert_eq!(check(&root, 1024, &first), Err(Refusal::PLACE));
         assert_eq!(check(&root, 512, &changed(34, 0xff)), Err(Refusal::COMMITMENT_BITS));
+        assert_eq!(check(&root, 512, &changed(102, 0xff)), Err(Refusal::PATH_BITS));
+        assert_eq!(check(&root, 512, &changed(233, 0x40)), Err(Refusal::PATH_BITS));
         assert_eq!(check(&root, 512, &changed(72, !first[72])), Err(Refusal::SEGMENT_PATH));
-        assert_eq!(check(&root, 512, &changed(233, !first[233])), Err(Refusal::ENTRY_PATH));
+        assert_eq!(check(&root, 512, &changed(232, !first[232])), Err(Refusal::ENTRY_PATH));
     }
 
     #[test]

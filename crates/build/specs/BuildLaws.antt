@@ -16,9 +16,9 @@ use Rattle.node.specs.Node.{nodeHash}
 use Rattle.merkle.specs.StrayBits.{clearNode, noStrayBits}
 use Rattle.merkle.specs.StrayBitsLaws.{clear-at}
 use Rattle.paths.specs.Path.{pathRoot}
-use Rattle.paths.specs.NodeSource.{NodeSource}
+use Rattle.paths.specs.NodeSource.{NodeSource, siblings}
 use Rattle.paths.specs.IsTree.{IsTree}
-use Rattle.paths.specs.NodeSourceLaws.{path-length, own-leads}
+use Rattle.paths.specs.NodeSourceLaws.{path-length, path-clear, own-leads}
 use Rattle.entries.specs.Sizes.{lentSizeAllowed, segmentSizeAllowed, offsetAllowed, placeAllowed, area, indexStart, dealLevel, segmentLevel, segmentPathLevels, entryPathLevels, segmentPosition, entryPosition}
 use Rattle.entries.specs.SizesLaws.{LentSize, lent-size, SegmentSize, segment-size, SegmentPlace, segment-place, EntryPlace, entry-place, index-start-le}
 use Rattle.entries.specs.Entry.{entryOf, commitmentIn, offsetIn, sizeIn}
@@ -116,6 +116,19 @@ module _ (deal : LentDeal) (t : IsTree (deal .nodes) (deal .bytes) (dealLevel (d
     entry-path-length =
         path-length (deal .nodes) (deal .bytes) (dealLevel (dealSize deal)) t (entryPathLevels (dealSize deal)) 1 (entryPosition place) (w .entry-up) (w .place-is .position-in)
 
+    pub segment-path-clear : noStrayBits (segmentPathOf deal offset size) ≡ true
+    segment-path-clear =
+        let l : 2 ≤ segmentLevel size = w .size-is .level-low in
+        let k : suc (segmentLevel size - 1) ≡ segmentLevel size = omega arith in
+        ap (λ (i : ℕ). noStrayBits (siblings (deal .nodes) (segmentPathLevels (dealSize deal) size) i (segmentPosition offset size))) (sym k)
+        ∙ path-clear (deal .nodes) (deal .bytes) (dealLevel (dealSize deal)) t (segmentPathLevels (dealSize deal) size) (segmentLevel size - 1) (segmentPosition offset size)
+        (ap (λ (i : ℕ). i + segmentPathLevels (dealSize deal) size) k ∙ w .segment-up)
+        (w .segment-is .position-in)
+
+    pub entry-path-clear : noStrayBits (entryPathOf deal place) ≡ true
+    entry-path-clear =
+        path-clear (deal .nodes) (deal .bytes) (dealLevel (dealSize deal)) t (entryPathLevels (dealSize deal)) 0 (entryPosition place) (w .entry-up) (w .place-is .position-in)
+
     pub segment-path-leads :
         pathRoot (segmentPathLevels (dealSize deal) size) (deal .nodes (segmentLevel size) (segmentPosition offset size)) (segmentPosition offset size) (segmentPathOf deal offset size)
         ≡ termsOf deal .commitment
@@ -190,6 +203,8 @@ module _ (deal : LentDeal) (t : IsTree (deal .nodes) (deal .bytes) (dealLevel (d
           segment-path-length = segment-path-length place o z w;
           entry-path-length = entry-path-length place o z w;
           commitment-clear = entry-clear (deal .bytes) place (w .place-is .at-position) (w .place-is .in-deal) (m .clean);
+          segment-path-clear = segment-path-clear place o z w;
+          entry-path-clear = entry-path-clear place o z w;
           segment-path-leads =
               ap (λ (x : List ℕ). pathRoot (segmentPathLevels (dealSize deal) z) x (segmentPosition o z) (segmentPathOf deal o z)) (sym (m .is-kept .node-is))
               ∙ segment-path-leads place o z w;

@@ -1,17 +1,22 @@
--- A source that is a tree: its own paths lead to its top node, and their strings are its pairs. Once over the height.
-use mathlib.Core.Path.{_≡_, refl, sym, ap, ap₂, _∙_}
+-- A source that is a tree: its own paths lead to its top node, their strings are its pairs, and no sibling above the lowest level has
+-- stray bits. Once over the height.
+use mathlib.Core.Path.{_≡_, refl, sym, ap, ap₂, subst, _∙_}
+use mathlib.Core.Bool.{true}
 use Prim.Native.Nat.{ℕ, zero, suc, _+_, _-_, _*_, _/_, _%_, _^_, _<_}
 use native.Mathlib.Nat.{pow-suc, le-trans, le-of-eq}
 use native.Mathlib.Omega.{arith}
 use mathlib.Core.List.{List, _∷_, _++_}
-use lib.ListN.{length, take, drop, length-append}
+use lib.ListN.{length, getD, take, drop, length-append}
 use lib.Seq.{take-at, drop-at}
 use lib.Dec.{eqb}
 use borrow.Author.Tests.{eq-eqb, ne-eqb}
 use Rattle.octets.specs.Choice.{choose}
-use Rattle.node.specs.Node.{nodeHash}
+use Rattle.octets.specs.RefusalLaws.{and-both}
+use Rattle.node.specs.Node.{nodeHash, node-hash-clear}
 use Rattle.merkle.specs.Tree.{nodeAt}
 use Rattle.merkle.specs.TreeLaws.{node-split, node-at-length, node-leaf, within}
+use Rattle.merkle.specs.StrayBits.{clearNode, clearNodes, noStrayBits}
+use Rattle.merkle.specs.StrayBitsLaws.{clear-node}
 use Rattle.paths.specs.Path.{pairOf, pathRoot}
 use Rattle.paths.specs.Strings.{pathStrings}
 use Rattle.paths.specs.NodeSource.{NodeSource, siblingOf, siblings, nodePairs}
@@ -56,6 +61,31 @@ module _ (nodes : NodeSource) (run : List ℕ) (top : ℕ) (t : IsTree nodes run
       let a = sibling-length n i q e h in
       let r = path-length n (suc i) (q / 2) (omega arith) (half-in n q h) in
       length-append (nodes i (siblingOf q)) (siblings nodes n (suc i) (q / 2)) ∙ omega arith
+
+  -- above the lowest level a sibling is a node hash, so that it has no stray bits
+  sibling-clear : (n i q : ℕ) → suc i + suc n ≡ top → q < 2 ^ suc n → clearNode (nodes (suc i) (siblingOf q)) ≡ true
+  sibling-clear n i q e h =
+      let w = pow-suc 2 n in
+      let s = siblingOf q in
+      clear-node (nodes (suc i) s)
+      (subst (λ (x : List ℕ). getD x 31 0 < 64) (sym (t .split (suc n) i s e (omega arith))) (node-hash-clear (nodes i (s * 2) ++ nodes i (s * 2 + 1))))
+
+  siblings-clear : (n i q : ℕ) → suc i + n ≡ top → q < 2 ^ n → clearNodes n (siblings nodes n (suc i) q) ≡ true
+  unfolding siblings clearNodes
+  siblings-clear zero i q e h = refl
+  siblings-clear (suc n) i q e h =
+      let a = nodes (suc i) (siblingOf q) in
+      let r = siblings nodes n (suc (suc i)) (q / 2) in
+      let l = sibling-length n (suc i) q e h in
+      and-both (clearNode (take 32 (a ++ r))) (clearNodes n (drop 32 (a ++ r)))
+      (ap clearNode (take-at a r 32 l) ∙ sibling-clear n i q e h)
+      (ap (clearNodes n) (drop-at a r 32 l) ∙ siblings-clear n (suc i) (q / 2) (omega arith) (half-in n q h))
+
+  pub path-clear : (n i q : ℕ) → suc i + n ≡ top → q < 2 ^ n → noStrayBits (siblings nodes n (suc i) q) ≡ true
+  path-clear n i q e h =
+      let l = path-length n (suc i) q e h in
+      let k : length (siblings nodes n (suc i) q) / 32 ≡ n = omega arith in
+      ap (λ (m : ℕ). clearNodes m (siblings nodes n (suc i) q)) k ∙ siblings-clear n i q e h
 
   -- one step along the source's own path
   step : (n i q : ℕ) → i + suc n ≡ top → q < 2 ^ suc n → pairOf q (nodes i q) (take 32 (siblings nodes (suc n) i q)) ≡ nodes i (q / 2 * 2) ++ nodes i (q / 2 * 2 + 1)

@@ -1,4 +1,4 @@
--- The check of a record (document 01, "Codes and their order": check, 1 to 10 as numbered).
+-- The check of a record (document 01, "Codes and their order": check, 1 to 10 as numbered; document 02, request (v): 19 after 8).
 use mathlib.Core.Bool.{Bool, true, false, _&&_}
 use Prim.Native.Nat.{ℕ, _*_}
 use mathlib.Core.List.{List, [], _∷_}
@@ -7,7 +7,7 @@ use lib.Dec.{eqb}
 use Rattle.octets.specs.Refusals.{Rule, rule, firstRefusal}
 use Rattle.octets.specs.Equality.{sameBytes}
 use Rattle.node.specs.Node.{nodeHash}
-use Rattle.merkle.specs.StrayBits.{clearNode}
+use Rattle.merkle.specs.StrayBits.{clearNode, noStrayBits}
 use Rattle.paths.specs.Path.{pathRoot}
 use Rattle.entries.specs.Sizes.{dealSizeAllowed, segmentSizeAllowed, offsetAllowed, placeAllowed, segmentPathLevels, entryPathLevels, segmentPosition, entryPosition}
 use Rattle.entries.specs.Entry.{entryOf}
@@ -36,6 +36,10 @@ entryPathRoot d x = pathRoot (entryPathLevels d) (nodeHash (entryFor x)) (entryP
 abbrev pub pathsSized : ℕ → Fields → Bool
 pathsSized d x = eqb (length (x .segmentPath)) (32 * segmentPathLevels d (x .size)) && eqb (length (x .entryPath)) (32 * entryPathLevels d)
 
+-- no node of either path has stray bits
+abbrev pub pathsClear : Fields → Bool
+pathsClear x = noStrayBits (x .segmentPath) && noStrayBits (x .entryPath)
+
 abbrev pub wellFormed : Parsed → Bool
 wellFormed (parsed x) = true
 wellFormed broken = false
@@ -49,6 +53,7 @@ judgement terms (parsed x) =
     ∷ rule (placeAllowed (terms .size) (x .place)) 6
     ∷ rule (pathsSized (terms .size) x) 7
     ∷ rule (clearNode (x .commitment)) 8
+    ∷ rule (pathsClear x) 19
     ∷ rule (sameBytes (segmentPathRoot (terms .size) x) (terms .commitment)) 9
     ∷ rule (sameBytes (entryPathRoot (terms .size) x) (terms .commitment)) 10
     ∷ []

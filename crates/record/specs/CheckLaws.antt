@@ -10,7 +10,7 @@ use borrow.Author.Tests.{eqb-true, eq-eqb}
 use Rattle.octets.specs.Refusals.{rule, firstRefusal}
 use Rattle.octets.specs.RefusalLaws.{Codes, first-passed, none-refused, all-passed, and-left, and-right, and-both}
 use Rattle.octets.specs.EqualityLaws.{same-true, same-of}
-use Rattle.merkle.specs.StrayBits.{clearNode}
+use Rattle.merkle.specs.StrayBits.{clearNode, noStrayBits}
 use Rattle.entries.specs.Sizes.{dealSizeAllowed, segmentSizeAllowed, offsetAllowed, placeAllowed, segmentPathLevels, entryPathLevels}
 use Rattle.record.specs.Form.{Fields, Parsed, parsed, broken, parse}
 use Rattle.record.specs.Check.{DealTerms, wellFormed, segmentPathRoot, entryPathRoot, judgement, checkOf}
@@ -23,11 +23,13 @@ pub record Accepted (terms : DealTerms) (x : Fields) : Type 0 where
   pub segment-path-length : length (x .segmentPath) ≡ 32 * segmentPathLevels (terms .size) (x .size)
   pub entry-path-length : length (x .entryPath) ≡ 32 * entryPathLevels (terms .size)
   pub commitment-clear : clearNode (x .commitment) ≡ true
+  pub segment-path-clear : noStrayBits (x .segmentPath) ≡ true
+  pub entry-path-clear : noStrayBits (x .entryPath) ≡ true
   pub segment-path-leads : segmentPathRoot (terms .size) x ≡ terms .commitment
   pub entry-path-leads : entryPathRoot (terms .size) x ≡ terms .commitment
 
 codes : (terms : DealTerms) (x : Fields) → Codes (judgement terms (parsed x))
-codes terms x = (omega arith, (omega arith, (omega arith, (omega arith, (omega arith, (omega arith, (omega arith, tt)))))))
+codes terms x = (omega arith, (omega arith, (omega arith, (omega arith, (omega arith, (omega arith, (omega arith, (omega arith, tt))))))))
 
 judged : (terms : DealTerms) (x : Fields) → firstRefusal (judgement terms (parsed x)) ≡ 0 → Accepted terms x
 judged terms x e =
@@ -41,8 +43,10 @@ judged terms x e =
       segment-path-length = eqb-true (length (x .segmentPath)) (32 * segmentPathLevels (terms .size) (x .size)) (and-left u v (a .1 .1 .1 .0));
       entry-path-length = eqb-true (length (x .entryPath)) (32 * entryPathLevels (terms .size)) (and-right u v (a .1 .1 .1 .0));
       commitment-clear = a .1 .1 .1 .1 .0;
-      segment-path-leads = same-true (segmentPathRoot (terms .size) x) (terms .commitment) (a .1 .1 .1 .1 .1 .0);
-      entry-path-leads = same-true (entryPathRoot (terms .size) x) (terms .commitment) (a .1 .1 .1 .1 .1 .1 .0);
+      segment-path-clear = and-left (noStrayBits (x .segmentPath)) (noStrayBits (x .entryPath)) (a .1 .1 .1 .1 .1 .0);
+      entry-path-clear = and-right (noStrayBits (x .segmentPath)) (noStrayBits (x .entryPath)) (a .1 .1 .1 .1 .1 .0);
+      segment-path-leads = same-true (segmentPathRoot (terms .size) x) (terms .commitment) (a .1 .1 .1 .1 .1 .1 .0);
+      entry-path-leads = same-true (entryPathRoot (terms .size) x) (terms .commitment) (a .1 .1 .1 .1 .1 .1 .1 .0);
     }
 
 judges : (terms : DealTerms) (x : Fields) → Accepted terms x → firstRefusal (judgement terms (parsed x)) ≡ 0
@@ -60,10 +64,13 @@ judges terms x a =
             (
               a .commitment-clear,
               (
-                same-of (segmentPathRoot (terms .size) x) (terms .commitment) (a .segment-path-leads),
+                and-both (noStrayBits (x .segmentPath)) (noStrayBits (x .entryPath)) (a .segment-path-clear) (a .entry-path-clear),
                 (
-                  same-of (entryPathRoot (terms .size) x) (terms .commitment) (a .entry-path-leads),
-                  tt,
+                  same-of (segmentPathRoot (terms .size) x) (terms .commitment) (a .segment-path-leads),
+                  (
+                    same-of (entryPathRoot (terms .size) x) (terms .commitment) (a .entry-path-leads),
+                    tt,
+                  ),
                 ),
               ),
             ),

@@ -6,6 +6,7 @@ ghost use lib.Dec.{eqb};
 ghost use lib.ListN.{length};
 ghost use Rattle.octets.specs.Equality.{sameBytes};
 ghost use Rattle.octets.specs.Refusals.{firstRefusal};
+ghost use Rattle.merkle.specs.StrayBits.{noStrayBits};
 ghost use Rattle.paths.specs.Path.{pathRoot};
 ghost use Rattle.entries.specs.Sizes.{dealSizeAllowed, segmentSizeAllowed, segmentPathLevels, entryPathLevels};
 ghost use Rattle.record.specs.Form.{fields, parsed};
@@ -21,6 +22,13 @@ fn paths_sized(d: u64, size: u64, segment_path_length: usize, entry_path_length:
         && entry_path_length == 32 * (level - 1)
 }
 
+// Whether no node of either path has stray bits.
+fn paths_clear(segment_path: &[u8], entry_path: &[u8]) -> bool
+    ensures { λ r. ⌜ r ≡ (noStrayBits (now («segment_path» .entry)) && noStrayBits (now («entry_path» .entry))) ⌝ }
+{
+    merkle::no_stray_bits(segment_path) && merkle::no_stray_bits(entry_path)
+}
+
 // Whether a path leads from a node at a position to a commitment.
 fn leads_to(commitment: &[u8], node: [u8; 32], position: u64, path: &[u8]) -> bool
     ensures { λ r. ⌜ r ≡ sameBytes (pathRoot (length (now (path .entry)) / 32) node position (now (path .entry))) (now (commitment .entry)) ⌝ }
@@ -29,7 +37,7 @@ fn leads_to(commitment: &[u8], node: [u8; 32], position: u64, path: &[u8]) -> bo
     octets::same(&root, commitment)
 }
 
-// The code of the fields of a well-formed record, 4 to 10 as numbered.
+// The code of the fields of a well-formed record: 4 to 8 as numbered, 19, 9, 10.
 pub(crate) fn judge(
     commitment: &[u8],
     d: u64,
@@ -57,6 +65,9 @@ pub(crate) fn judge(
     }
     if segment[31] >= 64 {
         return 8;
+    }
+    if !paths_clear(segment_path, entry_path) {
+        return 19;
     }
     let position = entries::segment_position(offset, size);
     if !leads_to(commitment, segment, position, segment_path) {

@@ -1,6 +1,6 @@
 // Inclusion records: their fields, and the check.
 mod form; // form.rt: the fields of a record, from its bytes alone
-mod judgement; // judgement.rt: the judgement over the fields, codes 4 to 10
+mod judgement; // judgement.rt: the judgement over the fields, codes 4 to 10 and 19
 
 pub use form::places_of;
 pub use form::read_field;
@@ -32,7 +32,7 @@ pub enum Places {
     Malformed,
 }
 
-// The code of the check of a record against a deal's commitment and size: 1 to 10 as numbered, 0 for a record that is accepted.
+// The code of the check of a record against a deal's commitment and size: 1 to 8 as numbered, 19, 9, 10; 0 for a record that is accepted.
 pub fn check(commitment: &[u8], size: u64, record: &[u8]) -> u8
     ensures { λ r. ⌜ r ≡ checkOf (dealTerms (now (commitment .entry)) size) (now («record» .entry)) ⌝ }
 {

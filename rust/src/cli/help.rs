@@ -114,7 +114,7 @@ Options:
   -V, --version      print the version
 
 Exit status:
-  0 with code 0; with any other code that code, 1 to 18, and the line `code N: meaning` on standard output;
+  0 with code 0; with any other code that code, 1 to 19, and the line `code N: meaning` on standard output;
   64 wrong usage; 74 reading or writing failed, with a message on standard error.
 ";
 

@@ -47,7 +47,10 @@ abbrev start5 : tie.Else5 → tie.Start
 start5 c = start4 (c .before)
 
 abbrev start6 : tie.Else6 → tie.Start
-start6 c = start5 (c .before .before .before)
+start6 c = start5 (c .before .before)
+
+abbrev start7 : tie.Else7 → tie.Start
+start7 c = start6 (c .before .before .before)
 
 size-allowed : (c : tie.Else1) → segmentSizeAllowed (start1 c .args .d) (start1 c .args .size) ≡ true
 size-allowed c = passed (c .before .segment-size-allowed .ensures) (c .if1 .left)
@@ -72,24 +75,27 @@ after-lengths c = after-place (c .before .before) ∙ rw (passed (c .before .pat
 after-clear : (c : tie.Else5) → Left (start5 c) 5
 after-clear c = after-lengths (c .before) ∙ rw (clear (start5 c .args .t3) (c .if5 .left))
 
+after-paths-clear : (c : tie.Else6) → Left (start6 c) 6
+after-paths-clear c = after-clear (c .before .before) ∙ rw (passed (c .before .paths-clear .ensures) (c .if6 .left))
+
 -- where the two paths lead
-segment-path-leads : (c : tie.After-leads-to) → let s = start5 (c .before .before) in c .leads-to .result ≡ sameBytes (segmentPathRoot (s .args .d) (judged s)) (now (s .args .commitment))
+segment-path-leads : (c : tie.After-leads-to) → let s = start6 (c .before .before) in c .leads-to .result ≡ sameBytes (segmentPathRoot (s .args .d) (judged s)) (now (s .args .commitment))
 segment-path-leads c =
-    let a = start5 (c .before .before) .args in
-    leads (segmentPathLevels (a .d) (a .size)) (now (a .segment-path)) (now (a .commitment)) (lengths (c .before .before .before) .0) refl
+    let a = start6 (c .before .before) .args in
+    leads (segmentPathLevels (a .d) (a .size)) (now (a .segment-path)) (now (a .commitment)) (lengths (c .before .before .before .before .before) .0) refl
     (c .before .segment-position .ensures)
     (c .leads-to .ensures)
 
-entry-path-leads : (c : tie.After-leads-to2) → let s = start6 (c .before .before .before) in c .leads-to2 .result ≡ sameBytes (entryPathRoot (s .args .d) (judged s)) (now (s .args .commitment))
+entry-path-leads : (c : tie.After-leads-to2) → let s = start7 (c .before .before .before) in c .leads-to2 .result ≡ sameBytes (entryPathRoot (s .args .d) (judged s)) (now (s .args .commitment))
 entry-path-leads c =
-    let a = start6 (c .before .before .before) .args in
-    leads (entryPathLevels (a .d)) (now (a .entry-path)) (now (a .commitment)) (lengths (c .before .before .before .before .before .before .before) .1)
+    let a = start7 (c .before .before .before) .args in
+    leads (entryPathLevels (a .d)) (now (a .entry-path)) (now (a .commitment)) (lengths (c .before .before .before .before .before .before .before .before .before) .1)
     (c .before .node-hash .ensures ∙ ap nodeHash (c .before .before .entry-of .ensures))
     refl
     (c .leads-to2 .ensures)
 
-after-segment-path : (c : tie.Else6) → Left (start6 c) 6
-after-segment-path c = after-clear (c .before .before .before) ∙ rw (passed (segment-path-leads (c .before)) (c .if6 .left))
+after-segment-path : (c : tie.Else7) → Left (start7 c) 7
+after-segment-path c = after-paths-clear (c .before .before .before) ∙ rw (passed (segment-path-leads (c .before)) (c .if7 .left))
 
 segment-size-allowed-requires : tie.Need-segment-size-allowed-requires
 segment-size-allowed-requires c κs = search needs
@@ -121,17 +127,23 @@ array-read-if5 c = search needs
 returns-5 : tie.Need-returns-5
 returns-5 c = sym (after-lengths (c .before) ∙ rw (stray (start4 (c .before) .args .t3) (c .if5 .taken)))
 
+paths-clear-requires : tie.Need-paths-clear-requires
+paths-clear-requires c κs = search needs
+
+returns-6 : tie.Need-returns-6
+returns-6 c = sym (after-clear (c .before .before) ∙ rw (failed (c .before .paths-clear .ensures) (c .if6 .taken)))
+
 segment-position-requires : tie.Need-segment-position-requires
 segment-position-requires c κs =
-    let s = start5 c in
-    let z = segment-size (s .args .d) (s .args .size) (deal-size (s .args .d) (s .pre)) (size-allowed (c .before .before .before .before .before .before .before)) in
+    let s = start6 c in
+    let z = segment-size (s .args .d) (s .args .size) (deal-size (s .args .d) (s .pre)) (size-allowed (c .before .before .before .before .before .before .before .before .before)) in
     omega arith
 
 leads-to-requires : tie.Need-leads-to-requires
 leads-to-requires c κs = search needs
 
-returns-6 : tie.Need-returns-6
-returns-6 c = sym (after-clear (c .before .before .before) ∙ rw (failed (segment-path-leads (c .before)) (c .if6 .taken)))
+returns-7 : tie.Need-returns-7
+returns-7 c = sym (after-paths-clear (c .before .before .before) ∙ rw (failed (segment-path-leads (c .before)) (c .if7 .taken)))
 
 entry-of-requires : tie.Need-entry-of-requires
 entry-of-requires c κs = search needs
@@ -142,11 +154,11 @@ node-hash-requires c κs = search needs
 leads-to-requires-2 : tie.Need-leads-to-requires-2
 leads-to-requires-2 c κs = search needs
 
-returns-7 : tie.Need-returns-7
-returns-7 c = sym (after-segment-path (c .before .before .before .before) ∙ rw (failed (entry-path-leads (c .before)) (c .if7 .taken)))
-
 returns-8 : tie.Need-returns-8
-returns-8 c = sym (after-segment-path (c .before .before .before .before) ∙ rw (passed (entry-path-leads (c .before)) (c .if7 .left)))
+returns-8 c = sym (after-segment-path (c .before .before .before .before) ∙ rw (failed (entry-path-leads (c .before)) (c .if8 .taken)))
+
+returns-9 : tie.Need-returns-9
+returns-9 c = sym (after-segment-path (c .before .before .before .before) ∙ rw (passed (entry-path-leads (c .before)) (c .if8 .left)))
 
 pub judge-spec : {M : Type 1} → statement M
 judge-spec =
@@ -162,11 +174,13 @@ judge-spec =
     returns-4
     array-read-if5
     returns-5
+    paths-clear-requires
+    returns-6
     segment-position-requires
     leads-to-requires
-    returns-6
+    returns-7
     entry-of-requires
     node-hash-requires
     leads-to-requires-2
-    returns-7
-    returns-8)
+    returns-8
+    returns-9)
