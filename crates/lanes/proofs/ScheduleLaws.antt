@@ -1,13 +1,14 @@
--- Four schedules side by side, lane by lane.
+-- The words of four schedules, lane by lane.
 use mathlib.Core.Path.{_≡_, refl, sym, ap, ap₂, _∙_}
-use mathlib.Core.List.{List, _++_}
-use Prim.Native.Nat.{ℕ, _+_, _-_, _*_, _≤_, _<_}
+use mathlib.Core.List.{List, _++_, append-assoc}
+use Prim.Native.Nat.{ℕ, suc, _+_, _-_, _*_, _≤_, _<_}
 use native.Mathlib.Omega.{arith}
 use borrow.Author.Count.{below-more}
 use lib.ListN.{length, getD, set, take, drop, length-drop, List·getD-append}
-use lib.Seq.{getD-set-same, getD-set-other, getD-take, getD-append-add, take-at, take-all, take-add, take-set-le, drop-set-add, drop-set-lt}
+use lib.Seq.{getD-set-same, getD-set-other, getD-take, getD-drop, getD-append-add, take-at, take-all, take-add, take-set-le, take-suc-set, drop-at, drop-set-add, drop-set-lt}
 use Rattle.sha256.specs.Table.{table}
-use Rattle.sha256.specs.Fips.{scheduleWord, schedule}
+use Rattle.sha256.specs.Fips.{scheduleWord, scheduleTo}
+use Rattle.sha256.specs.Window.{window}
 use Rattle.sha256.specs.TableLaws.{length-table, getD-table, table-ext, table-append, table-more, as-table}
 use Rattle.sha256.specs.BlockLaws.{schedule-of}
 use Rattle.lanes.specs.Lanes.{lane}
@@ -64,29 +65,56 @@ lane-join a b l e h =
 back : (t d l : ℕ) → d ≤ t → 4 * t + l - 4 * d ≡ 4 * (t - d) + l
 back t d l h = omega arith
 
--- a lane of the four schedules is the schedule of the lane's block
-pub lane-schedule : (w left right : List ℕ) (l : ℕ) → l < 4 → length left ≡ 32 → take 64 w ≡ left ++ right
-    → ((p : ℕ) → p < 256 → 64 ≤ p → getD w p 0 ≡ word4 w p)
-    → lane 64 w l ≡ schedule (lane 8 left l ++ lane 8 right l)
-lane-schedule w left right l h sized e all =
+-- the words after the first sixteen of each lane follow from them
+pub lane-after : (w first next : List ℕ) (l : ℕ) → l < 4 → take 64 w ≡ take 64 first → next ≡ drop 64 w
+    → ((p : ℕ) → p < 96 → 64 ≤ p → getD w p 0 ≡ word4 w p)
+    → lane 16 first l ++ lane 8 next l ≡ scheduleTo (lane 16 first l) 8
+lane-after w first next l h e en all =
     let f : ℕ → ℕ = λ t. getD w (4 * t + l) 0 in
-    let n : length (table f 64) ≡ 64 = length-table f 64 in
-    let a : take 16 (table f 64) ≡ table f 16 = rw (table-append f 16 48) (take-at (table f 16) _ 16 (length-table f 16)) in
-    let b : table f 16 ≡ lane 16 (left ++ right) l
-    = table-ext f (λ t. getD (left ++ right) (4 * t + l) 0) 16 (λ t g. sym (rw (← e) (getD-take 64 w (4 * t + l) 0 (omega arith)))) in
+    let n : length (table f 24) ≡ 24 = length-table f 24 in
+    let a : take 16 (table f 24) ≡ table f 16 = rw (table-append f 16 8) (take-at (table f 16) _ 16 (length-table f 16)) in
+    let b : table f 16 ≡ lane 16 first l
+    = table-ext f (λ t. getD first (4 * t + l) 0) 16
+    (λ t g. sym (getD-take 64 w (4 * t + l) 0 (omega arith)) ∙ rw e (getD-take 64 first (4 * t + l) 0 (omega arith))) in
+    let c : table (λ t. f (16 + t)) 8 ≡ lane 8 next l
+    = table-ext (λ t. f (16 + t)) (λ t. getD next (4 * t + l) 0) 8
+    (λ t g. let k : 4 * (16 + t) + l ≡ 64 + (4 * t + l) = omega arith in rw (k, en, getD-drop 64 w (4 * t + l) 0)) in
     sym
-    (schedule-of (lane 8 left l ++ lane 8 right l) (table f 64) 48 (omega arith) (a ∙ b ∙ lane-join left right l sized h)
+    (schedule-of (lane 16 first l) (table f 24) 8 (omega arith) (a ∙ b)
     (λ i g.
     rw (
-      getD-table f 64 (16 + i) (omega arith),
-      getD-table f 64 (16 + i - 2) (omega arith),
-      getD-table f 64 (16 + i - 7) (omega arith),
-      getD-table f 64 (16 + i - 15) (omega arith),
-      getD-table f 64 (16 + i - 16) (omega arith),
+      getD-table f 24 (16 + i) (omega arith),
+      getD-table f 24 (16 + i - 2) (omega arith),
+      getD-table f 24 (16 + i - 7) (omega arith),
+      getD-table f 24 (16 + i - 15) (omega arith),
+      getD-table f 24 (16 + i - 16) (omega arith),
       ← back (16 + i) 2 l (omega arith),
       ← back (16 + i) 7 l (omega arith),
       ← back (16 + i) 15 l (omega arith),
       ← back (16 + i) 16 l (omega arith),
     )
     (all (4 * (16 + i) + l) (omega arith) (omega arith)))
-    ∙ take-all 64 (table f 64) (omega arith))
+    ∙ take-all 24 (table f 24) (omega arith)
+    ∙ table-append f 16 8
+    ∙ ap₂ _++_ b c)
+
+-- one turn of a loop that stores a word and copies it: the words from 64 on are copied
+pub copied-more : (w next : List ℕ) (i j k v x : ℕ) → i ≡ 64 + j → k ≡ suc j → i < length w → j < length next → x ≡ v
+    → take j next ≡ take j (drop 64 w)
+    → take k (set next j x) ≡ take k (drop 64 (set w i v))
+copied-more w next i j k v x e ek hw hn ex h =
+    rw (e, ek, ex, drop-set-add 64 w j v, take-suc-set next j v hn, take-suc-set (drop 64 w) j v (simp length-drop (omega arith)), h)
+
+-- sixteen words of a lane, and the eight after them: the next window
+pub lane-window : (w left right next : List ℕ) (l : ℕ) → l < 4 → length left ≡ 32 → take 64 w ≡ left ++ right
+    → lane 16 w l ++ lane 8 next l ≡ scheduleTo (lane 16 w l) 8
+    → lane 8 right l ++ lane 8 next l ≡ window (lane 8 left l ++ lane 8 right l) 8
+unfolding window
+lane-window w left right next l h sized e after =
+    let a : lane 16 w l ≡ lane 8 left l ++ lane 8 right l
+    = table-ext (λ t. getD w (4 * t + l) 0) (λ t. getD (left ++ right) (4 * t + l) 0) 16
+    (λ t g. sym (rw (← e) (getD-take 64 w (4 * t + l) 0 (omega arith))))
+    ∙ lane-join left right l sized h in
+    let b : (lane 8 left l ++ lane 8 right l) ++ lane 8 next l ≡ scheduleTo (lane 8 left l ++ lane 8 right l) 8 = rw a at after in
+    rw (← b, append-assoc (lane 8 left l) (lane 8 right l) (lane 8 next l))
+    (sym (drop-at (lane 8 left l) (lane 8 right l ++ lane 8 next l) 8 (length-table (λ t. getD left (4 * t + l) 0) 8)))

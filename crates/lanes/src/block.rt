@@ -2,7 +2,7 @@
 use crate::lane::lane_of;
 use crate::lane::put_lane;
 use crate::padding_sums::PADDING_SUMS4;
-use crate::schedule::schedule4;
+use crate::schedule::next_words4;
 use sha256::K;
 use sha256::add;
 use sha256::round;
@@ -16,24 +16,6 @@ ghost use Rattle.sha256.specs.Fips as F;
 ghost use Rattle.node.specs.PaddingBlock.{paddingBlock};
 ghost use Rattle.lanes.specs.Lanes.{lane};
 
-// The words of four schedules, each with its constant added: the sums that the rounds take.
-fn with_constants(w: [u32; 256]) -> [u32; 256]
-    ensures { λ r. ⌜ r ≡ table (λ j. getD F.constants (j / 4) 0 ⊞ getD w j 0) 256 ⌝ }
-{
-    let k = K;
-    let mut sums = [0u32; 256];
-    let mut t = 0;
-    while t < 64 {
-        let j = 4 * t;
-        sums[j] = add(k[t], w[j]);
-        sums[j + 1] = add(k[t], w[j + 1]);
-        sums[j + 2] = add(k[t], w[j + 2]);
-        sums[j + 3] = add(k[t], w[j + 3]);
-        t += 1;
-    }
-    sums
-}
-
 // Eight words of each lane from a place on.
 fn eight_of_each(sums: &[u32; 256], at: usize) -> [u32; 32]
     requires { ⌜ at + 32 ≤ 256 ⌝ }
@@ -46,6 +28,24 @@ fn eight_of_each(sums: &[u32; 256], at: usize) -> [u32; 32]
         j += 1;
     }
     words
+}
+
+// Eight words of each lane with the constants from `t` on added: the sums that the rounds take.
+fn with_constants(k: &[u32; 64], t: usize, w: [u32; 32]) -> [u32; 32]
+    requires { ⌜ t + 8 ≤ 64 ⌝ }
+    ensures { λ r. ⌜ r ≡ table (λ j. getD (now (k .entry)) (t + j / 4) 0 ⊞ getD w j 0) 32 ⌝ }
+{
+    let mut sums = [0u32; 32];
+    let mut i = 0;
+    while i < 8 {
+        let j = 4 * i;
+        sums[j] = add(k[t + i], w[j]);
+        sums[j + 1] = add(k[t + i], w[j + 1]);
+        sums[j + 2] = add(k[t + i], w[j + 2]);
+        sums[j + 3] = add(k[t + i], w[j + 3]);
+        i += 1;
+    }
+    sums
 }
 
 // Eight rounds, with the sums as constants and no schedule.
@@ -79,14 +79,37 @@ fn eight_rounds4(s: [u32; 32], sums: [u32; 32]) -> [u32; 32]
     next
 }
 
-// The 64 rounds in each lane, with the sums as constants and no schedule.
-fn rounds4(hash: [u32; 32], sums: &[u32; 256]) -> [u32; 32]
-    ensures { λ r. ⌜ ((l : ℕ) → l < 4 → lane 8 r l ≡ F.rounds (lane 64 (now (sums .entry)) l) [] (lane 8 hash l) 64) ⌝ }
+// The 64 rounds in each lane of a block, of which the first eight words and the last are given. Of each schedule only the
+// latest sixteen words are kept, in `left` and `right`; the last sixteen rounds need no further ones.
+fn rounds4(hash: [u32; 32], first: [u32; 32], second: [u32; 32]) -> [u32; 32]
+    ensures { λ r. ⌜ ((l : ℕ) → l < 4 → lane 8 r l ≡ F.rounds F.constants (F.schedule (lane 8 first l ++ lane 8 second l)) (lane 8 hash l) 64) ⌝ }
 {
+    let k = K;
+    let mut s = hash;
+    let mut left = first;
+    let mut right = second;
+    let mut t = 0;
+    while t < 48 {
+        let next = eight_rounds4(s, with_constants(&k, t, left));
+        s = next;
+        let words = next_words4(left, right);
+        left = right;
+        right = words;
+        t += 8;
+    }
+    let s56 = eight_rounds4(s, with_constants(&k, 48, left));
+    eight_rounds4(s56, with_constants(&k, 56, right))
+}
+
+// The 64 rounds of the padding block in each lane, with the sums as constants and no schedule.
+fn padding_rounds4(hash: [u32; 32]) -> [u32; 32]
+    ensures { λ r. ⌜ ((l : ℕ) → l < 4 → lane 8 r l ≡ F.rounds F.constants (F.schedule paddingBlock) (lane 8 hash l) 64) ⌝ }
+{
+    let sums = PADDING_SUMS4;
     let mut s = hash;
     let mut t = 0;
     while t < 64 {
-        let next = eight_rounds4(s, eight_of_each(sums, 4 * t));
+        let next = eight_rounds4(s, eight_of_each(&sums, 4 * t));
         s = next;
         t += 8;
     }
@@ -110,14 +133,12 @@ fn sums4(hash: [u32; 32], s: [u32; 32]) -> [u32; 32]
 pub fn compress4(hash: [u32; 32], left: [u32; 32], right: [u32; 32]) -> [u32; 32]
     ensures { λ r. ⌜ ((l : ℕ) → l < 4 → lane 8 r l ≡ F.compress (lane 8 hash l) (lane 8 left l ++ lane 8 right l)) ⌝ }
 {
-    let sums = with_constants(schedule4(left, right));
-    sums4(hash, rounds4(hash, &sums))
+    sums4(hash, rounds4(hash, left, right))
 }
 
 // The hash value of each lane after the padding block of a message of 64 bytes.
 pub fn finish4(hash: [u32; 32]) -> [u32; 32]
     ensures { λ r. ⌜ ((l : ℕ) → l < 4 → lane 8 r l ≡ F.compress (lane 8 hash l) paddingBlock) ⌝ }
 {
-    let sums = PADDING_SUMS4;
-    sums4(hash, rounds4(hash, &sums))
+    sums4(hash, padding_rounds4(hash))
 }

@@ -7,8 +7,10 @@ use crate::words::maj;
 use crate::words::small_sigma0;
 use crate::words::small_sigma1;
 ghost use mathlib.Core.Path.{_≡_};
-ghost use lib.ListN.{take};
+ghost use Prim.Native.Nat.{_+_, _≤_};
+ghost use lib.ListN.{drop};
 ghost use Rattle.sha256.specs.Fips as F;
+ghost use Rattle.sha256.specs.Window.{window};
 
 // The constants (4.2.2).
 pub const K: [u32; 64] = [
@@ -97,32 +99,36 @@ pub fn schedule_word(w2: u32, w7: u32, w15: u32, w16: u32) -> u32
     add(add(add(small_sigma1(w2), w7), small_sigma0(w15)), w16)
 }
 
-// The first sixteen words of a schedule, which are the block's.
-fn first_words(block: [u32; 16]) -> [u32; 64]
-    ensures { λ r. ⌜ take 16 r ≡ block ⌝ }
+// Sixteen words of a schedule, eight words on: the last eight of `w`, and the next eight (step 1).
+fn slide(w: [u32; 16]) -> [u32; 16]
+    ensures { λ r. ⌜ r ≡ window w 8 ⌝ }
 {
-    let mut w = [0u32; 64];
-    let mut i = 0;
-    while i < 16 {
-        w[i] = block[i];
-        i += 1;
-    }
-    w
-}
-
-// The schedule of a block (step 1), two words a turn.
-fn schedule(block: [u32; 16]) -> [u32; 64]
-    ensures { λ r. ⌜ r ≡ F.schedule block ⌝ }
-{
-    let mut w = first_words(block);
-    let mut t = 16;
-    while t < 64 {
-        w[t] = schedule_word(w[t - 2], w[t - 7], w[t - 15], w[t - 16]);
-        let u = t + 1;
-        w[u] = schedule_word(w[u - 2], w[u - 7], w[u - 15], w[u - 16]);
-        t += 2;
-    }
-    w
+    let a = schedule_word(w[14], w[9], w[1], w[0]);
+    let b = schedule_word(w[15], w[10], w[2], w[1]);
+    let c = schedule_word(a, w[11], w[3], w[2]);
+    let d = schedule_word(b, w[12], w[4], w[3]);
+    let e = schedule_word(c, w[13], w[5], w[4]);
+    let f = schedule_word(d, w[14], w[6], w[5]);
+    let g = schedule_word(e, w[15], w[7], w[6]);
+    let h = schedule_word(f, a, w[8], w[7]);
+    [
+        w[8],
+        w[9],
+        w[10],
+        w[11],
+        w[12],
+        w[13],
+        w[14],
+        w[15],
+        a,
+        b,
+        c,
+        d,
+        e,
+        f,
+        g,
+        h,
+    ]
 }
 
 // One round on the eight working variables a to h (step 3).
@@ -146,24 +152,39 @@ pub fn round(s: [u32; 8], k: u32, w: u32) -> [u32; 8]
     ]
 }
 
-// The 64 rounds with the constants k and the schedule w (steps 2 and 3), eight a turn.
-fn rounds(hash: [u32; 8], k: [u32; 64], w: [u32; 64]) -> [u32; 8]
-    ensures { λ r. ⌜ r ≡ F.rounds k w hash 64 ⌝ }
+// Eight rounds, with the constants from `t` on and the words from `from` on.
+fn eight_rounds(s: [u32; 8], k: &[u32; 64], t: usize, w: [u32; 16], from: usize) -> [u32; 8]
+    requires { ⌜ (t + 8 ≤ 64) × (from + 8 ≤ 16) ⌝ }
+    ensures { λ r. ⌜ r ≡ F.rounds (drop t (now (k .entry))) (drop from w) s 8 ⌝ }
 {
+    let s1 = round(s, k[t], w[from]);
+    let s2 = round(s1, k[t + 1], w[from + 1]);
+    let s3 = round(s2, k[t + 2], w[from + 2]);
+    let s4 = round(s3, k[t + 3], w[from + 3]);
+    let s5 = round(s4, k[t + 4], w[from + 4]);
+    let s6 = round(s5, k[t + 5], w[from + 5]);
+    let s7 = round(s6, k[t + 6], w[from + 6]);
+    round(s7, k[t + 7], w[from + 7])
+}
+
+// The 64 rounds of a block (steps 1 to 3), eight a turn. Of the schedule only the latest sixteen words are kept; the last
+// sixteen rounds need no further ones.
+fn rounds(hash: [u32; 8], block: [u32; 16]) -> [u32; 8]
+    ensures { λ r. ⌜ r ≡ F.rounds F.constants (F.schedule block) hash 64 ⌝ }
+{
+    let k = K;
     let mut s = hash;
+    let mut w = block;
     let mut t = 0;
-    while t < 64 {
-        let s1 = round(s, k[t], w[t]);
-        let s2 = round(s1, k[t + 1], w[t + 1]);
-        let s3 = round(s2, k[t + 2], w[t + 2]);
-        let s4 = round(s3, k[t + 3], w[t + 3]);
-        let s5 = round(s4, k[t + 4], w[t + 4]);
-        let s6 = round(s5, k[t + 5], w[t + 5]);
-        let s7 = round(s6, k[t + 6], w[t + 6]);
-        s = round(s7, k[t + 7], w[t + 7]);
+    while t < 48 {
+        let next = eight_rounds(s, &k, t, w, 0);
+        s = next;
+        let words = slide(w);
+        w = words;
         t += 8;
     }
-    s
+    let s56 = eight_rounds(s, &k, 48, w, 0);
+    eight_rounds(s56, &k, 56, w, 8)
 }
 
 // The hash value and the working variables added, word by word (step 4).
@@ -183,6 +204,5 @@ pub fn sums(hash: [u32; 8], s: [u32; 8]) -> [u32; 8]
 pub fn compress(hash: [u32; 8], block: [u32; 16]) -> [u32; 8]
     ensures { λ r. ⌜ r ≡ F.compress hash block ⌝ }
 {
-    let k = K;
-    sums(hash, rounds(hash, k, schedule(block)))
+    sums(hash, rounds(hash, block))
 }

@@ -1,11 +1,8 @@
--- `compress4`: in each lane, rounds over the schedule with its constants, and the sums.
+-- `compress4`: in each lane, the rounds, and the sums.
 use mathlib.Core.Path.{ap, _∙_}
-use Prim.Native.Nat.{ℕ}
-use mathlib.Core.List.{List}
-use Rattle.sha256.specs.Fips.{constants, rounds, sums, compress}
+use Rattle.sha256.specs.Fips.{sums, compress}
 use Rattle.lanes.specs.Lanes.{lane}
 use Rattle.lanes.proofs.RoundLaws.{lane-sums}
-use Rattle.lanes.proofs.ConstantsLaws.{sums-rounds}
 use borrow.Author.Needs.{needs}
 use Rattle.lanes.proofs.block.compress4.Statement.{statement}
 use Rattle.lanes.proofs.block.compress4.Tie as tie
@@ -13,14 +10,8 @@ use Rattle.lanes.proofs.block.compress4.Tie as tie
 returns : tie.Need-returns
 unfolding compress
 returns c = λ l b.
-    let w = c .before .before .before in
-    let hash = w .before .before .args .hash in
-    rw (c .sums4 .ensures)
-    (lane-sums hash (c .before .rounds4 .result) l b
-    ∙ ap (sums (lane 8 hash l))
-    (c .before .rounds4 .ensures l b
-    ∙ sums-rounds (w .before .schedule4 .result) (w .with-constants .result) (lane 8 hash l) l b (w .with-constants .ensures)
-    ∙ ap (λ (m : List ℕ). rounds constants m (lane 8 hash l) 64) (w .before .schedule4 .ensures l b)))
+    let hash = c .before .before .args .hash in
+    rw (c .sums4 .ensures) (lane-sums hash (c .before .rounds4 .result) l b ∙ ap (sums (lane 8 hash l)) (c .before .rounds4 .ensures l b))
 
 pub compress4-spec : {M : Type 1} → statement M
-compress4-spec = tie.close (tie.spec (λ c κs. search needs) (λ c κs. search needs) (λ c κs. search needs) (λ c κs. search needs) returns)
+compress4-spec = tie.close (tie.spec (λ c κs. search needs) (λ c κs. search needs) returns)
