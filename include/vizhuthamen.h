@@ -5,7 +5,8 @@
  * may be dangling only where its length is 0, and is never NULL. Memory that is written must not overlap any other argument.
  *
  * An output that has one fixed length is refused with 12, before all else, where it has another. Outputs are written with
- * code 0 (also with 15 in vz_book, and with 17 in the two settlings) and left as they were with every other code.
+ * code 0 (also with 15 in vz_book, and with 17 in the two settlings) and left as they were with every other code. A stream's
+ * state is written by vz_stream_take with every code but 12.
  */
 #ifndef VIZHUTHAMEN_H
 #define VIZHUTHAMEN_H
@@ -20,7 +21,7 @@ extern "C" {
 enum {
   VZ_OK = 0,                 /* done, accepted, or both records the same */
   VZ_COMMITMENT_LENGTH = 1,  /* a lent commitment is not 32 bytes long */
-  VZ_SIZE = 2,               /* a deal, run, message or lent entry size is not allowed */
+  VZ_SIZE = 2,               /* a deal, run, stream, message or lent entry size is not allowed */
   VZ_FORM = 3,               /* a record's tags, order, lengths or end are wrong */
   VZ_SEGMENT_SIZE = 4,       /* segment size not allowed for this deal size */
   VZ_OFFSET = 5,             /* offset not a multiple of the segment size, or segment beyond the index start */
@@ -29,7 +30,7 @@ enum {
   VZ_COMMITMENT_BITS = 8,    /* the segment commitment has stray bits */
   VZ_SEGMENT_PATH = 9,       /* the segment path does not lead to the deal commitment */
   VZ_ENTRY_PATH = 10,        /* the entry path does not lead to it */
-  VZ_STRAY_BITS = 11,        /* a node of a lent run, deal or segment has stray bits */
+  VZ_STRAY_BITS = 11,        /* a node of a lent run, deal, stream or segment has stray bits */
   VZ_OUTPUT = 12,            /* a lent output is too short, or not of its one length */
   VZ_NO_SLOT = 13,           /* no slot is free */
   VZ_NO_PLACE = 14,          /* no free place */
@@ -45,6 +46,22 @@ uint32_t vz_sha256(const uint8_t *message, size_t message_len, uint8_t *digest, 
 
 /* The commitment of a run, a power of two from 32 to 2^24 bytes. node: 32 bytes. Codes: 2, 11. */
 uint32_t vz_commitment(const uint8_t *run, size_t run_len, uint8_t *node, size_t node_len);
+
+/* The length of a stream's state. The caller keeps the state, and hands it on as it came back. Any bytes of this length are
+ * answered: a code in them that is none of a stream's sticks too, and counts as 2 at the end. */
+#define VZ_STREAM_STATE 1072
+
+/* The commitment of bytes that arrive in pieces: a new start. state: VZ_STREAM_STATE bytes. Codes: 12. */
+uint32_t vz_stream_new(uint8_t *state, size_t state_len);
+
+/* Takes one more piece, of any length, and answers the state's code: 0, or 2 or 11, which stick until vz_stream_new. Bytes are
+ * judged in turn: 11 where a node is completed that has stray bits, 2 at the first byte past 2^36. Codes: 12 (the state is left as
+ * it was), 11, 2. */
+uint32_t vz_stream_take(uint8_t *state, size_t state_len, const uint8_t *piece, size_t piece_len);
+
+/* The commitment of all bytes taken so far, and their number, a power of two from 32 to 2^36. The state stays: more pieces may be
+ * taken. node: 32 bytes. Codes: 12, 11, 2. */
+uint32_t vz_stream_end(const uint8_t *state, size_t state_len, uint8_t *node, size_t node_len, uint64_t *count);
 
 /* The number of index entries and the index start for a deal size, a power of two from 512 to 2^36. Codes: 2. */
 uint32_t vz_index_numbers(uint64_t size, uint64_t *entries, uint64_t *start);

@@ -15,6 +15,7 @@ NAMES = {SHA256: "sha256", COMMITMENT: "commitment", NUMBERS: "index_numbers", M
 CHECK_INPUT = 13  # of the program check_record; no routine of its own
 COMPARE = 15  # of the code that settling shares: two paths from one position
 INSPECT = 14  # of the C interface: what stands at an entry place
+STREAM = 16  # bytes that arrive in pieces
 
 MODEL = Model()
 
@@ -84,7 +85,19 @@ def answer(case):
         return line(*m.settled(m.path_strings(a[:32], x, nodes(a)), m.path_strings(b[:32], x, nodes(b))))
     if op == INSPECT:  # a is the deal, x the place
         return line(*m.inspect(a, x))
+    if op == STREAM:  # a are the bytes, b the lengths of the pieces but the last; after the answer the code that sticks after each
+        code, node, count, codes = m.stream(pieces(a, b))
+        return line(code, node, count, *codes)
     raise ValueError(op)
+
+
+def pieces(data, lengths):
+    """Pieces of these lengths, as far as the bytes go, and then the rest in one piece."""
+    out, at = [], 0
+    for n in lengths:
+        out.append(data[at : at + n])
+        at += n
+    return [*out, data[at:]]
 
 
 def check_input(data):
@@ -100,6 +113,9 @@ def check_input(data):
 
 # ---- what the calls are made of
 
+TOTALS = (0, 1, 31, 32, 33, 63, 64, 65, 96, 127, 128, 256, 1000, 1024, 2048, 4064, 4096)
+
+
 def node(rng):
     return rng.randbytes(31) + bytes([rng.randrange(64)])
 
@@ -112,6 +128,44 @@ def run(rng, size):
     if kind == 1:
         return (node(rng) * (size // 32 + 1))[:size]
     return b"".join(node(rng) for _ in range(size // 32)) + bytes(size % 32)
+
+
+def strayed(data, at, bits):
+    """The bytes with these bits set in one of them."""
+    return data[:at] + bytes([data[at] | bits]) + data[at + 1:]
+
+
+def maybe_strayed(rng, data):
+    """One run of five has stray bits in a node."""
+    if len(data) < 32 or rng.randrange(5):
+        return data
+    at = rng.randrange(len(data) // 32) * 32 + 31
+    return strayed(data, at, rng.choice((64, 128)))
+
+
+def cuts(rng, total):
+    """The lengths of pieces but the last: none, of one length, or any; zeros among them."""
+    kind = rng.randrange(4)
+    if kind == 0:
+        return b""
+    if kind == 1:
+        n = rng.choice((1, 7, 16, 31, 32, 33, 64, 255))
+        return bytes([n]) * rng.randrange(min(total // n, 200) + 1)
+    return bytes(rng.choice((0, 1, 31, 32, 33, rng.randrange(256))) for _ in range(rng.randrange(40)))
+
+
+def streams(rng, totals=TOTALS):
+    """Streams of these totals, cut in several ways, without stray bits and with them: in the first, a middle and the last whole node,
+    and in the last byte of a node that is cut short, where they are none."""
+    for total in totals:
+        data = b"".join(node(rng) for _ in range(total // 32)) + rng.randbytes(total % 32)
+        whole = total // 32
+        runs = [data] + [strayed(data, 32 * k + 31, rng.choice((64, 128))) for k in sorted({0, whole // 2, whole - 1}) if 0 <= k < whole]
+        if total % 32:
+            runs.append(strayed(data, total - 1, 192))
+        for data in runs:
+            for lengths in (b"", b"\0\0", bytes([31, 1, 0, 33]), bytes([1]) * min(total, 70), cuts(rng, total)):
+                yield STREAM, data, lengths, 0, 0
 
 
 def any_number(rng):
@@ -258,10 +312,7 @@ def case(rng, op, sizes):
         return op, rng.randbytes(rng.choice((0, 1, 55, 56, 63, 64, 65, 119, 120, 128, rng.randrange(2000)))), b"", 0, 0
     if op == COMMITMENT:
         data = run(rng, rng.choice((32, 64, 128, 256, 512, 1024, 2048, 4096, 0, 31, 33, 96, rng.randrange(3000))))
-        if len(data) >= 32 and not rng.randrange(5):
-            data = bytearray(data)
-            data[rng.randrange(len(data) // 32) * 32 + 31] |= rng.choice((64, 128))
-        return op, bytes(data), b"", 0, 0
+        return op, maybe_strayed(rng, data), b"", 0, 0
     if op == NUMBERS:
         return op, b"", b"", rng.choice((any_number(rng), 1 << rng.randrange(40))), 0
     if op == MAKE:
@@ -271,6 +322,9 @@ def case(rng, op, sizes):
         if rng.randrange(2):
             e[rng.randrange(64)] ^= 1 << rng.randrange(8)
         return op, rng.choice((bytes(e), bytes(e), bytes(e), bytes(64), bytes(e)[:63], bytes(e) + b"0", b"")), b"", 0, 0
+    if op == STREAM:
+        data = run(rng, rng.choice((*TOTALS, 1 << rng.randrange(5, 13), rng.randrange(3000))))
+        return op, maybe_strayed(rng, data), cuts(rng, len(data)), 0, 0
     data = odd_deal(rng, sizes)
     if op == FIND:
         return op, data, commitment_for(rng, data), 0, 0

@@ -21,7 +21,7 @@ from model import Model
 
 ROOT = Path(__file__).resolve().parent.parent
 BINARY = Path(os.environ.get("VIZHUTHAMEN", ROOT / "rust" / "target" / "release" / "vizhuthamen"))
-COMMANDS = ("new", "commit", "book", "list", "find", "build", "check", "settle", "settle-deal", "show")
+COMMANDS = ("new", "commit", "stream", "book", "list", "find", "build", "check", "settle", "settle-deal", "show")
 MODEL = Model()
 USAGE, IO = 64, 74
 
@@ -151,6 +151,55 @@ class MainJob(Calls):
         self.assertEqual(self.answer("list", "deal").splitlines()[1].split()[:5], ["0", "256", "standing", "0", "128"])
 
 
+class Streams(Calls):
+    def test_as_commit(self):
+        for size in (32, 64, 4096, 1 << 18, 1 << 22):
+            data = self.put("file", self.segment(min(size, 4096)) * max(1, size // 4096))
+            expected = self.answer("commit", "file")
+            self.assertEqual(self.answer("stream", "file"), expected)
+            self.assertEqual(self.answer("stream", "-", stdin=data), expected)
+
+    def test_pieces_as_they_come(self):
+        data = self.segment(256)
+        call = subprocess.Popen([self.program, "stream", "-"], cwd=self.folder, stdin=subprocess.PIPE, stdout=subprocess.PIPE)
+        for i in range(0, 256, 30):
+            call.stdin.write(data[i : i + 30])
+            call.stdin.flush()
+            time.sleep(0.01)
+        out, _ = call.communicate(timeout=60)
+        self.assertEqual((call.returncode, out.decode()), (0, MODEL.commitment(data)[1].hex() + "\n"))
+
+    def test_more_bytes_than_may_be_held(self):
+        size = 1 << 26
+        with open(self.path("file"), "wb") as file:
+            file.truncate(size)
+        node = bytes(32)
+        for _ in range(21):
+            node = MODEL.h.node(node + node)
+        bound = {"preexec_fn": lambda: resource.setrlimit(resource.RLIMIT_AS, (size // 2, size // 2))}
+        self.assertEqual(self.answer("stream", "file", **bound), node.hex() + "\n")
+
+    def test_refusals(self):
+        for size in (0, 1, 31, 33, 96, (1 << 20) + 32):
+            self.put("file", bytes(size))
+            out, err = self.call("stream", "file", status=2)
+            self.assertTrue(out.startswith("code 2: "), out)
+            self.assertEqual(err, f"vizhuthamen: file has {size} bytes; a stream has a power of two from 32 to {1 << 36} bytes\n")
+        # 11 stands before 2, and nothing after the node is read.
+        self.put("file", bytes(31) + b"\x40\0")
+        self.refused(2, "commit", "file")
+        self.refused(11, "stream", "file")
+        self.put("file", bytes(4095) + b"\x80")
+        self.refused(11, "stream", "file")
+        self.refused(11, "stream", "-", stdin=b"\xff" * 33)
+        with open("/dev/zero", "rb") as zeros:
+            endless = subprocess.Popen(["tr", "\\0", "\\377"], stdin=zeros, stdout=subprocess.PIPE)
+            ran = subprocess.run([self.program, "stream", "-"], stdin=endless.stdout, capture_output=True, timeout=60)
+            endless.stdout.close()
+            endless.wait(timeout=60)
+        self.assertEqual(ran.returncode, 11)
+
+
 class Json(Calls):
     def object(self, *words, status=0):
         out = self.answer(*words, "--json", status=status)
@@ -166,7 +215,9 @@ class Json(Calls):
         root, commitment = MODEL.commitment(deal)[1].hex(), deal[places[0] : places[0] + 32].hex()
         new = self.object("new", "other", 512)
         self.assertEqual((new["size"], new["entries"], new["start"]), (512, 4, 256))
-        self.assertEqual(self.object("commit", "deal")["commitment"], root)
+        for command in ("commit", "stream"):
+            hashed = self.object(command, "deal")
+            self.assertEqual((hashed["commitment"], hashed["size"]), (root, 1024))
         self.put("segment", deal[:256])
         again = self.object("book", "deal", "segment", status=15)
         self.assertEqual((again["offset"], again["place"], again["commitment"]), (0, places[0], commitment))
@@ -324,7 +375,7 @@ class Usage(Calls):
             for _ in range(self.rng.randrange(4) if data else 0):
                 data[self.rng.randrange(len(data))] = self.rng.randrange(256)
             self.put("file", bytes(data))
-            for words in (("show", "file"), ("list", "file"), ("commit", "file"), ("settle-deal", "file", "file")):
+            for words in (("show", "file"), ("list", "file"), ("commit", "file"), ("stream", "file"), ("settle-deal", "file", "file")):
                 ran = subprocess.run([self.program, *words], capture_output=True, cwd=self.folder)
                 self.assertIn(ran.returncode, range(19), words)
                 self.assertNotIn(b"panicked", ran.stderr, words)
@@ -334,9 +385,10 @@ class Failures(Calls):
     def test_files_that_cannot_be_read(self):
         self.booked()
         self.path("folder").mkdir()
-        for words in (("commit", "missing"), ("commit", "folder"), ("list", "missing"), ("list", "folder"), ("book", "missing", "deal"),
-                      ("book", "folder", "deal"), ("book", "deal", "missing"), ("show", "missing"), ("settle-deal", "deal", "missing"),
-                      ("check", "00" * 32, 512, "missing"), ("build", "missing", 0), ("find", "missing", "00" * 32)):
+        for words in (("commit", "missing"), ("commit", "folder"), ("stream", "missing"), ("stream", "folder"), ("list", "missing"),
+                      ("list", "folder"), ("book", "missing", "deal"), ("book", "folder", "deal"), ("book", "deal", "missing"),
+                      ("show", "missing"), ("settle-deal", "deal", "missing"), ("check", "00" * 32, 512, "missing"),
+                      ("build", "missing", 0), ("find", "missing", "00" * 32)):
             self.assertIn("missing" if "missing" in words else "folder", self.failed(IO, *words))
         self.path("deal").chmod(0)
         self.failed(IO, "list", "deal", **nobody())
@@ -448,15 +500,16 @@ class Failures(Calls):
 
     def test_progress_is_for_terminals_alone(self):
         self.put("file", bytes(1 << 23))
-        out, err = self.call("commit", "file")
-        self.assertEqual(err, "")
-        parent, child = pty.openpty()
-        ran = subprocess.run([self.program, "commit", "file"], cwd=self.folder, stdout=subprocess.PIPE, stderr=child)
-        os.close(child)
-        shown = os.read(parent, 4096)
-        os.close(parent)
-        self.assertEqual((ran.returncode, ran.stdout.decode()), (0, out))
-        self.assertIn(b"hashing: 8 MiB", shown)
+        for command in ("commit", "stream"):
+            out, err = self.call(command, "file")
+            self.assertEqual(err, "")
+            parent, child = pty.openpty()
+            ran = subprocess.run([self.program, command, "file"], cwd=self.folder, stdout=subprocess.PIPE, stderr=child)
+            os.close(child)
+            shown = os.read(parent, 4096)
+            os.close(parent)
+            self.assertEqual((ran.returncode, ran.stdout.decode()), (0, out))
+            self.assertIn(b"hashing: 8 MiB", shown)
 
 
 if __name__ == "__main__":

@@ -1,4 +1,4 @@
-"""An independent model of the rules (document 01, FRC-0058, FIPS 180-4), written from the papers alone.
+"""An independent model of the rules (documents 01 and 02, FRC-0058, FIPS 180-4), written from the papers alone.
 
 SHA-256 is Python's hashlib. Nothing here is shared with the library under test. The node hash and the checksum can be
 replaced by weak ones (see `weak`), so that code 17 can be seen to occur.
@@ -78,6 +78,24 @@ class Model:
         if stray(run):
             return 11, ZERO32
         return 0, self.tree(run)[-1][0]
+
+    def stream(self, pieces):
+        """Code, commitment and count at the end, and the code that sticks after each piece. Bytes are judged in turn."""
+        taken, sticks, codes = bytearray(), 0, []
+        for piece in pieces:
+            for byte in piece:
+                if sticks:
+                    break
+                if len(taken) == 1 << 36:
+                    sticks = 2
+                    break
+                taken.append(byte)
+                if len(taken) % 32 == 0 and byte >= 64:
+                    sticks = 11
+            codes.append(sticks)
+        total = len(taken)
+        code = sticks or (0 if power(total) and 32 <= total <= 1 << 36 else 2)
+        return code, ZERO32 if code else self.tree(bytes(taken))[-1][0], 0 if code else total, codes
 
     def path_root(self, node, p, path):
         for s in path:

@@ -29,6 +29,21 @@ def published_values():
         expect(f"index of {d}", index_numbers(d), (2, 0, 0))
 
 
+def streams():
+    """However the bytes are cut the answer is that of the run, but that 11 stands before 2."""
+    m, rng = Model(), random.Random(3)
+    for total in (31, 32, 33, 64, 96, 1024):
+        data = segment(rng, total - total % 32) + bytes(total % 32)
+        code, c = m.commitment(data)
+        for n in (1, 7, 32, 33, total):
+            pieces = [data[i : i + n] for i in range(0, total, n)] + [b""]
+            expect(f"{total} bytes by {n}", m.stream(pieces), (code, c, 0 if code else total, [0] * len(pieces)))
+    stray = bytes(31) + b"\x40"
+    expect("33 bytes as a run", m.commitment(stray + b"\0"), (2, ZERO32))
+    expect("33 bytes as a stream", m.stream([stray[:31], stray[31:], b"\0", bytes(31)]), (11, ZERO32, 0, [0, 11, 11, 11]))
+    expect("no piece", m.stream([]), (2, ZERO32, 0, []))
+
+
 def worked_runs():
     m, rng = Model(), random.Random(1)
     a, b, c = (segment(rng, 128) for _ in range(3))
@@ -80,6 +95,7 @@ def collisions():
 
 
 published_values()
+streams()
 worked_runs()
 records()
 print(f"model_test: the papers' values hold in the model; with a weak node hash {collisions()} collisions were shown")

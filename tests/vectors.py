@@ -8,7 +8,7 @@ import sys
 from pathlib import Path
 
 from cases import (BOOK, BUILD, CHECK, CHECK_INPUT, COMMITMENT, COMPARE, FIELDS, FIND, MODEL, NAMES, NUMBERS, READ, SETTLE, SETTLE_DEAL,
-                   answer, case, encode, node, run)
+                   answer, case, encode, node, run, streams)
 from model import index_numbers, le
 
 ROOT = Path(__file__).resolve().parent.parent
@@ -129,6 +129,7 @@ def all_cases():
     yield from inputs(rng)
     yield from compared_paths(random.Random(17))
     yield from stray_paths(random.Random(19))
+    yield from streams(random.Random(36), (0, 1, 31, 32, 33, 64, 96, 1024, 4096))
     yield COMMITMENT, run(rng, 8192), b"", 0, 0
     for i in range(720):
         yield case(rng, 1 + i % len(NAMES), (512, 512, 1024))

@@ -6,7 +6,7 @@ use std::fmt;
 const MEANINGS: [&str; 20] = [
     "done, accepted, or both records the same",
     "a commitment is not 32 bytes long",
-    "a deal, run, message or entry size is not allowed",
+    "a deal, run, stream, message or entry size is not allowed",
     "the record's tags, order, lengths or end are wrong",
     "segment size not allowed for this deal size",
     "offset not a multiple of the segment size, or segment beyond the index start",
@@ -15,7 +15,7 @@ const MEANINGS: [&str; 20] = [
     "the segment commitment has stray bits",
     "the segment path does not lead to the deal commitment",
     "the entry path does not lead to the deal commitment",
-    "a node of a run, deal or segment has stray bits",
+    "a node of a run, deal, stream or segment has stray bits",
     "an output is too short, or not of its one length",
     "no slot is free",
     "no free place",

@@ -7,6 +7,12 @@ extern "C" {
 
     pub fn vz_commitment(run: *const u8, run_len: usize, node: *mut u8, node_len: usize) -> u32;
 
+    pub fn vz_stream_new(state: *mut u8, state_len: usize) -> u32;
+
+    pub fn vz_stream_take(state: *mut u8, state_len: usize, piece: *const u8, piece_len: usize) -> u32;
+
+    pub fn vz_stream_end(state: *const u8, state_len: usize, node: *mut u8, node_len: usize, count: *mut u64) -> u32;
+
     pub fn vz_index_numbers(size: u64, entries: *mut u64, start: *mut u64) -> u32;
 
     pub fn vz_make_entry(
@@ -118,7 +124,7 @@ mod tests {
     use super::*;
     use crate::testing::segment;
 
-    const LENGTHS: [usize; 5] = [0, 31, 33, 63, 65];
+    const LENGTHS: [usize; 8] = [0, 31, 32, 33, 63, 65, 1071, 1073];
     const PATTERN: u8 = 0xa5;
     const NUMBER: u64 = 0xa5a5_a5a5_a5a5_a5a5;
 
@@ -185,6 +191,32 @@ mod tests {
         refuses_lengths(64, |out| records(&mut [0; 64], out));
         refuses_lengths(64, |out| with_deal(out, &mut [0; 64]));
         refuses_lengths(64, |out| with_deal(&mut [0; 64], out));
+    }
+
+    #[test]
+    fn the_state_of_a_stream() {
+        // A state of another length is neither read nor written, whatever the piece.
+        for piece in [&[][..], &[0xff; 32]] {
+            refuses_lengths(1072, |state| unsafe {
+                vz_stream_take(state.as_mut_ptr(), state.len(), piece.as_ptr(), piece.len())
+            });
+        }
+        refuses_lengths(1072, |state| unsafe { vz_stream_new(state.as_mut_ptr(), state.len()) });
+        let end = |state: &[u8], node: &mut [u8]| {
+            let mut count = NUMBER;
+            let code = unsafe {
+                let (node, len) = (node.as_mut_ptr(), node.len());
+                vz_stream_end(state.as_ptr(), state.len(), node, len, &mut count)
+            };
+            assert!(code == 0 || count == NUMBER);
+            code
+        };
+        refuses_lengths(1072, |state| end(state, &mut [0; 32]));
+        refuses_lengths(32, |node| end(&[0; 1072], node));
+        let mut node = [PATTERN; 32];
+        assert_eq!(end(&[0; 1071], &mut node), 12);
+        assert_eq!(end(&[0; 1072], &mut node), 2);
+        assert_eq!(node, [PATTERN; 32]);
     }
 
     #[test]

@@ -24,6 +24,7 @@ pub mod ffi;
 pub mod hex;
 mod node;
 mod record;
+mod streaming;
 mod tree;
 
 pub use codes::{meaning, Refusal};
@@ -33,6 +34,7 @@ pub use node::{Node, NotANode};
 pub use record::{
     build, build_into, check, fields, read_field, settle_records, settle_with_deal, Field, Fields, Settled, MAX_RECORD,
 };
+pub use streaming::{Streamed, Streaming, MAX_STREAM, STREAM_STATE};
 pub use tree::{commitment, sha256};
 
 #[cfg(test)]

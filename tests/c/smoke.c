@@ -36,6 +36,25 @@ static void hashing(void) {
   answer("commitment of 96 bytes", vz_commitment(first_segment, 96, deal_commitment, 32), VZ_SIZE);
 }
 
+/* The first segment in two pieces, cut inside a node; then a node with stray bits. */
+static void streaming(void) {
+  uint8_t state[VZ_STREAM_STATE], node[32], stray[32];
+  uint64_t count = 0;
+  memset(stray, 0xff, 32);
+  answer("stream, new start", vz_stream_new(state, sizeof state), VZ_OK);
+  answer("stream, 50 bytes", vz_stream_take(state, sizeof state, first_segment, 50), VZ_OK);
+  answer("stream, end after 50 bytes", vz_stream_end(state, sizeof state, node, 32, &count), VZ_SIZE);
+  answer("stream, 78 bytes more", vz_stream_take(state, sizeof state, first_segment + 50, 78), VZ_OK);
+  answer("stream, end", vz_stream_end(state, sizeof state, node, 32, &count), VZ_OK);
+  answer("stream, commitment", memcmp(node, commitment, 32) == 0, 1);
+  answer("stream, count", count, 128);
+  answer("stream, stray bits", vz_stream_take(state, sizeof state, stray, 32), VZ_STRAY_BITS);
+  answer("stream, nothing more", vz_stream_take(state, sizeof state, stray, 0), VZ_STRAY_BITS);
+  answer("stream, end after stray bits", vz_stream_end(state, sizeof state, node, 32, &count), VZ_STRAY_BITS);
+  answer("stream, count left as it was", count, 128);
+  answer("stream, state of 1071 bytes", vz_stream_new(state, sizeof state - 1), VZ_OUTPUT);
+}
+
 static void index_entries(void) {
   uint8_t read[32];
   answer("index numbers", vz_index_numbers(512, &entries, &start), VZ_OK);
@@ -98,6 +117,7 @@ int main(void) {
   memset(second_segment, 2, 128);
   memset(third_segment, 3, 128);
   hashing();
+  streaming();
   index_entries();
   booking();
   looking();

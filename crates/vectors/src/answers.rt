@@ -1,9 +1,11 @@
 // The calls. Each prints its answer, and `answer` the end of the line.
+ghost use Prim.Native.Nat.{_≤_};
 use crate::show;
 use entries::EntryKind;
 use paths::Compared;
 use record::Field;
 use settle::Settled;
+use stream::Stream;
 
 fn hash(message: &[u8]) {
     let hashed = sha256::sha256(message);
@@ -17,6 +19,49 @@ fn commit(run: &[u8]) {
     let node = committed.node;
     show::code(committed.code);
     show::bytes(&node);
+}
+
+// Where a piece ends that starts at `at` and has a length, as far as the bytes go.
+fn piece_end(at: usize, length: u8, total: usize) -> usize
+    requires { ⌜ at ≤ total ⌝ }
+    ensures { λ r. ⌜ (at ≤ r) × (r ≤ total) ⌝ }
+{
+    if total - at < length as usize {
+        return total;
+    }
+    at + length as usize
+}
+
+// A stream after pieces of these lengths, and the rest of the bytes in one piece. The code that sticks after each may be shown.
+fn take_pieces(bytes: &[u8], lengths: &[u8], shown: bool) -> Stream {
+    let mut state = Stream::new();
+    let mut at: usize = 0;
+    let mut i: usize = 0;
+    while i < lengths.len() {
+        let end = piece_end(at, lengths[i], bytes.len());
+        let next = state.take(&bytes[at..end]);
+        state = next;
+        if shown {
+            show::number(state.code as u64);
+        }
+        at = end;
+        i += 1;
+    }
+    let last = state.take(&bytes[at..]);
+    if shown {
+        show::number(last.code as u64);
+    }
+    last
+}
+
+// Bytes that arrive in pieces; then the code that sticks after each piece.
+fn stream(bytes: &[u8], lengths: &[u8]) {
+    let answer = take_pieces(bytes, lengths, false).end();
+    let node = answer.node;
+    show::code(answer.code);
+    show::bytes(&node);
+    show::number(answer.count);
+    take_pieces(bytes, lengths, true);
 }
 
 fn index_numbers(size: u64) {
@@ -159,6 +204,7 @@ fn answer_reading(operation: u64, a: &[u8], b: &[u8], x: u64, y: u64) {
         12 => fields(a),
         13 => show::code(check_input::check_input(a)),
         15 => compare(x, a, b),
+        16 => stream(a, b),
         _ => {}
     }
 }

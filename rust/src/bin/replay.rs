@@ -131,6 +131,18 @@ fn no_operation(operation: u64) -> Answer {
     Err(format!("no operation has the number {operation}").into())
 }
 
+/// Pieces of these lengths, as far as the bytes go, and then the rest in one piece.
+fn pieces<'a>(mut bytes: &'a [u8], lengths: &[u8]) -> Vec<&'a [u8]> {
+    let mut pieces = vec![];
+    for length in lengths {
+        let (piece, rest) = bytes.split_at(bytes.len().min(usize::from(*length)));
+        pieces.push(piece);
+        bytes = rest;
+    }
+    pieces.push(bytes);
+    pieces
+}
+
 /// Where the commitment ends in the second argument of settling two records.
 fn commitment_end(b: &[u8], y: u64) -> usize {
     usize::try_from(y).map_or(b.len(), |y| b.len().min(y))

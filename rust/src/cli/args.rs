@@ -17,6 +17,7 @@ pub enum Stream {
 pub enum Command {
     New { deal: Stream, size: u64 },
     Commit { file: Stream },
+    CommitStream { file: Stream },
     Book { deal: Stream, segment: Stream },
     List { deal: Stream },
     Find { deal: Stream, commitment: Vec<u8>, output: Option<Stream> },
@@ -134,6 +135,7 @@ fn operands_of(name: &str, words: &[OsString], output: Option<Stream>) -> Result
     Ok(match (name, words) {
         ("new", [deal, size]) => Command::New { deal: stream(deal)?, size: number(size)? },
         ("commit", [file]) => Command::Commit { file: stream(file)? },
+        ("stream", [file]) => Command::CommitStream { file: stream(file)? },
         ("book", [deal, segment]) => Command::Book { deal: stream(deal)?, segment: stream(segment)? },
         ("list", [deal]) => Command::List { deal: stream(deal)? },
         ("find", [deal, node]) => Command::Find { deal: stream(deal)?, commitment: bytes(node)?, output },
@@ -157,7 +159,7 @@ fn operands_of(name: &str, words: &[OsString], output: Option<Stream>) -> Result
 fn standard_inputs(command: &Command) -> usize {
     let read: &[&Stream] = match command {
         Command::New { .. } => &[],
-        Command::Commit { file } => &[file],
+        Command::Commit { file } | Command::CommitStream { file } => &[file],
         Command::Book { deal, segment } => &[deal, segment],
         Command::List { deal } | Command::Find { deal, .. } | Command::Build { deal, .. } => &[deal],
         Command::Check { record, .. } | Command::Show { record } => &[record],
@@ -212,6 +214,10 @@ mod tests {
     fn commands() {
         let book = Command::Book { deal: file("d"), segment: Stream::Standard };
         assert_eq!(parsed("book d -"), Ok(Request::Run { command: book, json: false }));
+        for (word, file) in [("f", file("f")), ("-", Stream::Standard)] {
+            let stream = Command::CommitStream { file };
+            assert_eq!(parsed(&format!("stream {word}")), Ok(Request::Run { command: stream, json: false }));
+        }
         let check = Command::Check { commitment: vec![0xab, 1], size: 512, record: file("-r") };
         assert_eq!(parsed("--json check AB01 512 -- -r"), Ok(Request::Run { command: check, json: true }));
     }
@@ -249,6 +255,9 @@ mod tests {
             "new d -512",
             "new d 512k",
             "book d",
+            "stream",
+            "stream f f",
+            "stream f --output g",
             "new d 18446744073709551616",
             "find d xyz",
             "find d abc",

@@ -6,12 +6,15 @@ use super::files::{self, Content};
 use super::json::Json;
 use super::progress::Progress;
 use super::table::{table, Column};
-use vizhuthamen::{hex, Booking, Entry, Field, Node, Position, Refusal, Settled, Slot, MAX_DEAL};
+use vizhuthamen::{
+    hex, Booking, Entry, Field, Node, Position, Refusal, Settled, Slot, Streaming, MAX_DEAL, MAX_STREAM,
+};
 
 pub fn run(command: Command) -> Result<Answer, Failure> {
     match command {
         Command::New { deal, size } => new(&deal, size),
         Command::Commit { file } => commit(&file),
+        Command::CommitStream { file } => commit_stream(&file),
         Command::Book { deal, segment } => book(&deal, &segment),
         Command::List { deal } => list(&deal),
         Command::Find { deal, commitment, output } => find(&deal, &commitment, output),
@@ -58,12 +61,40 @@ fn commit(file: &Stream) -> Result<Answer, Failure> {
     let run = files::read(file)?;
     let _progress = Progress::start("hashing", run.bytes.len());
     Ok(match vizhuthamen::commitment(&run.bytes) {
-        Ok(node) => {
-            let members = vec![("commitment", text(node)), ("size", Json::Number(run.bytes.len() as u64))];
-            Answer::done("done").with_text(format!("{node}\n"), members)
-        }
+        Ok(node) => committed(node, run.bytes.len() as u64),
         Err(Refusal::SIZE) => {
             let note = format!("{}; a run has a power of two from 32 to {MAX_DEAL} bytes", run.described());
+            Answer::refused(Refusal::SIZE).with_note(note)
+        }
+        Err(refusal) => Answer::refused(refusal),
+    })
+}
+
+/// A commitment, and the number of bytes that it is of.
+fn committed(node: Node, size: u64) -> Answer {
+    let members = vec![("commitment", text(node)), ("size", Json::Number(size))];
+    Answer::done("done").with_text(format!("{node}\n"), members)
+}
+
+fn commit_stream(file: &Stream) -> Result<Answer, Failure> {
+    let mut pieces = files::pieces(file)?;
+    let mut progress = Progress::arriving("hashing");
+    let mut stream = Streaming::new();
+    let mut taken = Ok(());
+    // A refusal sticks, so nothing after it is read.
+    while taken.is_ok() {
+        let piece = pieces.read_next()?;
+        if piece.is_empty() {
+            break;
+        }
+        taken = stream.take(piece);
+        progress.arrived(pieces.count);
+    }
+    drop(progress);
+    Ok(match taken.and_then(|()| stream.end()) {
+        Ok(answer) => committed(answer.commitment, answer.count),
+        Err(Refusal::SIZE) => {
+            let note = format!("{}; a stream has a power of two from 32 to {MAX_STREAM} bytes", pieces.described());
             Answer::refused(Refusal::SIZE).with_note(note)
         }
         Err(refusal) => Answer::refused(refusal),

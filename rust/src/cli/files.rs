@@ -7,7 +7,10 @@ use std::io::{self, ErrorKind, Read, Write};
 use std::os::fd::AsFd;
 use std::os::unix::fs::{fchown, MetadataExt, OpenOptionsExt};
 use std::path::{Path, PathBuf};
-use vizhuthamen::MAX_DEAL;
+use vizhuthamen::{MAX_DEAL, MAX_STREAM};
+
+/// The largest piece in which a stream is read, in bytes.
+const PIECE: usize = 1 << 20;
 
 /// What was read: the bytes (of a longer file the first 2^24 + 1), the name for messages, and which file it is.
 pub struct Content {
@@ -19,10 +22,15 @@ pub struct Content {
 impl Content {
     /// The name and the size, for messages about sizes.
     pub fn described(&self) -> String {
-        match self.bytes.len() {
-            length if length > MAX_DEAL => format!("{} has more than {MAX_DEAL} bytes", self.name),
-            length => format!("{} has {length} bytes", self.name),
-        }
+        sized(&self.name, self.bytes.len() as u64, MAX_DEAL as u64)
+    }
+}
+
+/// A name and a size; of a size beyond the limit only that it is.
+fn sized(name: &str, size: u64, limit: u64) -> String {
+    match size {
+        _ if size > limit => format!("{name} has more than {limit} bytes"),
+        _ => format!("{name} has {size} bytes"),
     }
 }
 
@@ -55,6 +63,47 @@ fn read_from(source: impl Read, name: String, metadata: Option<Metadata>) -> Res
     let limit = MAX_DEAL as u64 + 1;
     source.take(limit).read_to_end(&mut bytes).map_err(|error| cannot("read", &name, error))?;
     Ok(Content { bytes, name, metadata })
+}
+
+/// A source that is read piece by piece, and never held whole.
+pub struct Pieces {
+    source: Box<dyn Read>,
+    name: String,
+    piece: Vec<u8>,
+    /// The number of bytes read so far.
+    pub count: u64,
+}
+
+/// Opens standard input or a file for reading in pieces.
+pub fn pieces(stream: &Stream) -> Result<Pieces, Failure> {
+    let (source, name): (Box<dyn Read>, _) = match stream {
+        Stream::Standard => (Box::new(io::stdin().lock()), "standard input".to_string()),
+        Stream::File(path) => {
+            let file = File::open(path).map_err(|error| cannot("read", &shown(path), error))?;
+            (Box::new(file), shown(path))
+        }
+    };
+    Ok(Pieces { source, name, piece: vec![0; PIECE], count: 0 })
+}
+
+impl Pieces {
+    /// The next piece, of whatever length the system gives; empty at the end.
+    pub fn read_next(&mut self) -> Result<&[u8], Failure> {
+        let length = loop {
+            match self.source.read(&mut self.piece) {
+                Err(error) if error.kind() == ErrorKind::Interrupted => {}
+                Err(error) => return Err(cannot("read", &self.name, error)),
+                Ok(length) => break length,
+            }
+        };
+        self.count += length as u64;
+        Ok(&self.piece[..length])
+    }
+
+    /// The name and the number of bytes read, for messages about sizes.
+    pub fn described(&self) -> String {
+        sized(&self.name, self.count, MAX_STREAM)
+    }
 }
 
 /// A deal that is to be replaced: its content, and the file that its name leads to.
@@ -240,6 +289,32 @@ mod tests {
         let content = read_from(io::repeat(7), "endless".to_string(), None).unwrap();
         assert_eq!(content.bytes.len(), MAX_DEAL + 1);
         assert_eq!(content.described(), "endless has more than 16777216 bytes");
+    }
+
+    #[test]
+    fn a_file_in_pieces() {
+        let folder = folder("pieces");
+        let path = folder.join("file");
+        fs::write(&path, vec![7; PIECE + 5]).unwrap();
+        let mut pieces = pieces(&Stream::File(path)).unwrap();
+        let mut read = vec![];
+        loop {
+            let piece = pieces.read_next().unwrap();
+            assert!(piece.len() <= PIECE);
+            if piece.is_empty() {
+                break;
+            }
+            read.extend_from_slice(piece);
+        }
+        assert_eq!(read, vec![7; PIECE + 5]);
+        assert!(pieces.described().ends_with("file has 1048581 bytes"));
+        fs::remove_dir_all(folder).unwrap();
+    }
+
+    #[test]
+    fn a_size_beyond_the_limit_is_not_named() {
+        assert_eq!(sized("it", 1 << 36, MAX_STREAM), "it has 68719476736 bytes");
+        assert_eq!(sized("it", (1 << 36) + 1, MAX_STREAM), "it has more than 68719476736 bytes");
     }
 
     #[test]

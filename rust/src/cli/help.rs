@@ -9,7 +9,7 @@ pub struct Topic {
     text: &'static str,
 }
 
-pub const TOPICS: [Topic; 10] = [
+pub const TOPICS: [Topic; 11] = [
     Topic {
         name: "new",
         operands: &["DEAL", "SIZE"],
@@ -24,6 +24,15 @@ A file that is there is never overwritten.",
         takes_output: false,
         summary: "print the commitment of a file",
         text: "Prints the commitment of the bytes of FILE in hex. FILE has a power of two from 32 to 16777216 bytes.",
+    },
+    Topic {
+        name: "stream",
+        operands: &["FILE"],
+        takes_output: false,
+        summary: "print the commitment of a file of up to 2^36 bytes, read in pieces",
+        text: "Prints the commitment of the bytes of FILE in hex, as `commit` does. FILE has a power of two from 32 to
+68719476736 bytes; it is read in pieces and never held whole, so FILE may be - or a pipe that is slow. Bytes
+are judged as they arrive: a node with stray bits gets code 11 at once, whatever the size will be.",
     },
     Topic {
         name: "book",

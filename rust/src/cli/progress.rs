@@ -18,6 +18,17 @@ impl Progress {
         progress
     }
 
+    /// Announces work on bytes whose number is known only as they arrive. It is shown once they are many.
+    pub fn arriving(what: &'static str) -> Progress {
+        Progress { what, shown: false }
+    }
+
+    /// Shows how many bytes have arrived.
+    pub fn arrived(&mut self, bytes: u64) {
+        self.shown = bytes >= LONG as u64 && io::stderr().is_terminal();
+        self.show(&format!("{} MiB", bytes >> 20));
+    }
+
     /// Shows how far the work is.
     pub fn step(&self, done: u64, total: u64) {
         self.show(&format!("{done} of {total}"));

@@ -1,6 +1,6 @@
 //! A case answered by the functions of the C interface. Outputs are lent full of a pattern: with a code that writes none the
 //! pattern must stay, and zeros are shown.
-use super::{commitment_end, digest, no_operation, Answer, Case, Line};
+use super::{commitment_end, digest, no_operation, pieces, Answer, Case, Line};
 use std::fmt::Write;
 use vizhuthamen::ffi;
 
@@ -64,6 +64,7 @@ pub fn answer(case: &mut Case) -> Answer {
         11 => settle_with_deal(a, b),
         12 => fields(a),
         14 => inspect(a, x),
+        16 => stream(a, b),
         _ => no_operation(operation),
     }
 }
@@ -74,6 +75,19 @@ fn hashed(operation: u64, input: &[u8]) -> Answer {
     // SAFETY: here and below, slices are live and outputs are locals or mutably borrowed, so that nothing overlaps.
     let code = unsafe { function(input.as_ptr(), input.len(), out.as_mut_ptr(), out.len()) };
     Written::new(code, &[0]).bytes(out).done()
+}
+
+fn stream(bytes: &[u8], lengths: &[u8]) -> Answer {
+    let mut state = [PATTERN; 1072];
+    unsafe { ffi::vz_stream_new(state.as_mut_ptr(), 1072) };
+    let mut codes = vec![];
+    for piece in pieces(bytes, lengths) {
+        codes.push(unsafe { ffi::vz_stream_take(state.as_mut_ptr(), 1072, piece.as_ptr(), piece.len()) });
+    }
+    let (mut node, mut count) = ([PATTERN; 32], NUMBER);
+    let code = unsafe { ffi::vz_stream_end(state.as_ptr(), 1072, node.as_mut_ptr(), 32, &mut count) };
+    let line = Written::new(code, &[0]).bytes(node).number(count).done()?;
+    Ok(codes.into_iter().fold(line, Line::add))
 }
 
 fn numbers(size: u64) -> Answer {

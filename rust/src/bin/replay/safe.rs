@@ -1,7 +1,7 @@
 //! A case answered by the safe functions.
-use super::{commitment_end, digest, no_operation, Answer, Case, Line};
+use super::{commitment_end, digest, no_operation, pieces, Answer, Case, Line};
 use std::fmt::Write;
-use vizhuthamen::{self as vz, Booking, Node, Position, Refusal, Settled, Slot};
+use vizhuthamen::{self as vz, Booking, Node, Position, Refusal, Settled, Slot, Streaming};
 
 fn code(result: Result<(), Refusal>) -> Line {
     Line::code(result.err().map_or(0, Refusal::code))
@@ -26,12 +26,26 @@ pub fn answer(case: Case) -> Answer {
         11 => Ok(settled(vz::settle_with_deal(&a, &b))),
         12 => fields(&a),
         14 => Ok(inspect(&a, x)),
+        16 => Ok(stream(&a, &b)),
         _ => no_operation(operation),
     }
 }
 
 fn digest_line(result: Result<[u8; 32], Refusal>) -> Line {
     code(result.map(drop)).bytes(&result.unwrap_or_default())
+}
+
+/// After the answer at the end, the code that sticks after each piece. The end is asked after each of them.
+fn stream(bytes: &[u8], lengths: &[u8]) -> Line {
+    let mut state = Streaming::new();
+    let mut end = state.end();
+    let mut codes = vec![];
+    for piece in pieces(bytes, lengths) {
+        codes.push(state.take(piece).err().map_or(0, Refusal::code));
+        end = state.end();
+    }
+    let (node, count) = end.map_or((Node::default(), 0), |answer| (answer.commitment, answer.count));
+    codes.into_iter().fold(code(end.map(drop)).add(node).add(count), Line::add)
 }
 
 fn numbers(size: u64) -> Line {

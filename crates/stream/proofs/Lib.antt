@@ -1,0 +1,3 @@
+pub mod HeightTurns
+pub mod ByteTurns
+mod PackedLaws

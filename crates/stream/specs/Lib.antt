@@ -1,0 +1,10 @@
+pub mod Stream
+pub mod Packed
+pub mod PackedLaws
+pub mod StreamLaws
+pub mod After
+pub mod WaitingLaws
+pub mod AppendLaws
+pub mod AfterLaws
+pub mod EndLaws
+pub mod CutAnywhere

@@ -1,0 +1,65 @@
+// The commitment of bytes that arrive in pieces. The caller keeps the state, as 1,072 bytes.
+use crate::output::WRONG_LENGTH;
+use crate::output::write_32_bytes;
+use crate::output::write_u64;
+use stream::Stream;
+ghost use mathlib.Core.Path.{_≡_};
+ghost use lib.ListN.{length};
+ghost use lib.Dec.{eqb};
+ghost use Rattle.octets.specs.Choice.{choose};
+ghost use Rattle.stream.specs.Stream.{started, takePiece, ending};
+ghost use Rattle.stream.specs.Packed.{packed, unpacked};
+ghost use Rattle.vizhuthamen.specs.Export.{lentCode, lentOutput};
+
+const STATE_LENGTH: usize = 1072;
+
+// A new start.
+#[no_mangle]
+pub extern "C" fn vz_stream_new(state: &mut [u8]) -> u32
+    ensures { λ r. ⌜ r ≡ lentCode 1072 (now (state .entry)) 0 ⌝ }
+    ensures { λ r. ⌜ now (state .exit) ≡ lentOutput r (packed started) (now (state .entry)) ⌝ }
+{
+    if state.len() != STATE_LENGTH {
+        return WRONG_LENGTH;
+    }
+    let start = Stream::new();
+    stream::pack(start, state);
+    0
+}
+
+// One more piece. The answer is the state's code: 0, or the one that sticks.
+#[no_mangle]
+pub extern "C" fn vz_stream_take(state: &mut [u8], piece: &[u8]) -> u32
+    ensures { λ r. ⌜ r ≡ lentCode 1072 (now (state .entry)) (takePiece (unpacked (now (state .entry))) (now (piece .entry)) .code) ⌝ }
+    ensures { λ _. ⌜ now (state .exit) ≡ choose (eqb (length (now (state .entry))) 1072) (packed (takePiece (unpacked (now (state .entry))) (now (piece .entry)))) (now (state .entry)) ⌝ }
+{
+    if state.len() != STATE_LENGTH {
+        return WRONG_LENGTH;
+    }
+    let before = stream::unpack(state);
+    let after = before.take(piece);
+    let code = after.code;
+    stream::pack(after, state);
+    code as u32
+}
+
+// The commitment of all bytes taken so far, and their number.
+#[no_mangle]
+pub extern "C" fn vz_stream_end(state: &[u8], node: &mut [u8], count: &mut u64) -> u32
+    ensures { λ r. ⌜ r ≡ lentCode 1072 (now (state .entry)) (lentCode 32 (now (node .entry)) (ending (unpacked (now (state .entry))) .code)) ⌝ }
+    ensures { λ r. ⌜ now (node .exit) ≡ lentOutput r (ending (unpacked (now (state .entry))) .node) (now (node .entry)) ⌝ }
+    ensures { λ r. ⌜ now (count .exit) ≡ lentOutput r (ending (unpacked (now (state .entry))) .count) (now (count .entry)) ⌝ }
+{
+    if state.len() != STATE_LENGTH {
+        return WRONG_LENGTH;
+    }
+    if node.len() != 32 {
+        return WRONG_LENGTH;
+    }
+    let answer = stream::unpack(state).end();
+    let written = answer.code == 0;
+    let bytes = answer.node;
+    write_32_bytes(written, bytes, node);
+    write_u64(written, answer.count, count);
+    answer.code as u32
+}
