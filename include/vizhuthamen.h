@@ -24,7 +24,7 @@ enum {
   VZ_SIZE = 2,               /* a deal, run, stream, message or lent entry size is not allowed */
   VZ_FORM = 3,               /* a record's tags, order, lengths or end are wrong */
   VZ_SEGMENT_SIZE = 4,       /* segment size not allowed for this deal size */
-  VZ_OFFSET = 5,             /* offset not a multiple of the segment size, or segment beyond the index start */
+  VZ_OFFSET = 5,             /* offset not a multiple of the segment's area, or the area ends beyond the index start */
   VZ_PLACE = 6,              /* entry place not a multiple of 64, or outside the index area */
   VZ_PATH_LENGTH = 7,        /* a path has another number of nodes than it must have */
   VZ_COMMITMENT_BITS = 8,    /* the segment commitment has stray bits */
@@ -80,13 +80,14 @@ uint32_t vz_read_entry(const uint8_t *entry, size_t entry_len, uint32_t *valid, 
 uint32_t vz_inspect(const uint8_t *deal, size_t deal_len, uint64_t place, uint32_t *state, uint8_t *commitment,
                     size_t commitment_len, uint64_t *offset, uint64_t *size);
 
-/* The lowest slot that holds a kept entry with this commitment; the segment is the size bytes of the deal at offset.
- * Codes: 1, 2, 11, 16. */
+/* The lowest slot that holds a kept entry with this commitment; the segment is the size bytes of the deal at offset, without the
+ * zeros after it. Codes: 1, 2, 11, 16. */
 uint32_t vz_find(const uint8_t *deal, size_t deal_len, const uint8_t *commitment, size_t commitment_len, uint64_t *offset,
                  uint64_t *size, uint64_t *place);
 
-/* Books a segment: with 0 the segment and its entry are written into the deal, and no other byte changes. The numbers are
- * written with 0, and with 15 (where the segment is kept). Codes: 2, 4, 11, 15, 13, 14. */
+/* Books a segment of 1 byte to half of the deal. With 0 it is written into the deal with zeros after it to its area's end, and its
+ * entry; no other byte changes. The area is the smallest power of two at or above both the size and 128. The numbers are written
+ * with 0, and with 15 (where the segment is kept). Codes: 2, 4, 11, 15, 13, 14. */
 uint32_t vz_book(uint8_t *deal, size_t deal_len, const uint8_t *segment, size_t segment_len, uint64_t *offset, uint64_t *place);
 
 /* Builds the inclusion record of the entry at a place: it fills the first length bytes of record, the rest stays. 1,962 bytes

@@ -5,7 +5,7 @@ line of text: the code, the numbers in decimal, the bytes in hex. `encode` and `
 """
 import hashlib
 
-from model import Model, index_numbers, le, power, sha256
+from model import Model, area, filled, index_numbers, le, power, sha256
 
 SHA256, COMMITMENT, NUMBERS, MAKE, READ, FIND, BOOK, BUILD, CHECK, SETTLE, SETTLE_DEAL, FIELDS = range(1, 13)
 
@@ -127,7 +127,7 @@ def run(rng, size):
         return bytes(size)
     if kind == 1:
         return (node(rng) * (size // 32 + 1))[:size]
-    return b"".join(node(rng) for _ in range(size // 32)) + bytes(size % 32)
+    return b"".join(node(rng) for _ in range(size // 32)) + rng.randbytes(size % 32)
 
 
 def strayed(data, at, bits):
@@ -174,8 +174,12 @@ def any_number(rng):
 
 
 def segment_size(rng, d):
-    sizes = [128 << k for k in range(24) if 128 << k <= d // 2]
-    return rng.choice(sizes[:4] + sizes[-1:])
+    """A size that is allowed: a power of two, one beside a power of two, or any."""
+    if rng.randrange(2):
+        sizes = [128 << k for k in range(24) if 128 << k <= d // 2]
+        return rng.choice(sizes[:4] + sizes[-1:])
+    sizes = [t for t in (1, 31, 32, 33, 127, 129, 130, 255, 257, 258, d // 4 + 1, d // 2 - 1) if t <= d // 2]
+    return rng.choice((*sizes, rng.randrange(1, min(d // 2, 1024) + 1)))
 
 
 def deal(rng, sizes, steps=6):
@@ -190,7 +194,8 @@ def deal(rng, sizes, steps=6):
         i = rng.randrange(n)
         p = start + 64 * i
         s = segment_size(rng, d)
-        o = rng.randrange(start // s + 1) * s if start >= s else 0
+        a = area(s)
+        o = rng.randrange(start // a + 1) * a if start >= a else 0
         kind = rng.randrange(8)
         if kind == 0:  # a damaged slot
             data[p + rng.randrange(64)] ^= 1 << rng.randrange(5)
@@ -198,17 +203,17 @@ def deal(rng, sizes, steps=6):
             data[p : p + 64] = m.entry(node(rng), any_number(rng), any_number(rng))
         elif kind == 2:  # standing or off by one area, not kept
             data[p : p + 64] = m.entry(node(rng), o, s)
-        elif kind == 3 and o + s <= start:  # kept, perhaps overlapping another
-            data[p : p + 64] = m.entry(m.tree(bytes(data[o : o + s]))[-1][0], o, s)
+        elif kind == 3 and o + a <= start:  # kept, perhaps overlapping another, perhaps with other bytes than zeros after the size
+            data[p : p + 64] = m.entry(m.tree(bytes(data[o : o + a]))[-1][0], o, s)
         elif kind == 4:  # another slot's entry again
             q = start + 64 * rng.randrange(n)
             data[p : p + 64] = data[q : q + 64]
         elif kind == 5:  # a segment's byte changed
             data[rng.randrange(start) // 32 * 32 + rng.randrange(31)] ^= 1
         elif kind == 6:  # an entry with a commitment of other bytes that are there
-            data[p : p + 64] = m.entry(m.tree(run(rng, s))[-1][0], o, s)
+            data[p : p + 64] = m.entry(m.tree(filled(run(rng, s)))[-1][0], o, s)
         else:  # offset that wraps
-            data[p : p + 64] = m.entry(node(rng), (1 << 64) - s, s)
+            data[p : p + 64] = m.entry(node(rng), (1 << 64) - a, s)
     if not rng.randrange(12):
         data[rng.randrange(d // 32) * 32 + 31] |= rng.choice((64, 128, 192))
     return bytes(data)
@@ -248,11 +253,12 @@ def record_of(rng, data):
 
 def made_up(rng, d):
     s = segment_size(rng, d)
+    a = area(s)
     nodes = lambda n: [rng.randbytes(32) for _ in range(n)]
-    u, v = (d // s).bit_length() - 1, (d // 64).bit_length() - 1
-    o = rng.choice((0, s, 2 * s, s // 2, d, any_number(rng)))
+    u, v = (d // a).bit_length() - 1, (d // 64).bit_length() - 1
+    o = rng.choice((0, a, 2 * a, a // 2, s, d, any_number(rng)))
     p = place(rng, d)
-    size = rng.choice((s, s, s, d, 64, 0, 129, any_number(rng)))
+    size = rng.choice((s, s, s, a, d, d // 2 + 1, 64, 0, 129, any_number(rng)))
     u, v = rng.choice(((u, v), (u, v), (u + 1, v - 1), (u, v + 1), (0, 0)))
     return MODEL.encode(rng.choice((node(rng), rng.randbytes(32))), o, size, p, nodes(u), nodes(v))
 
@@ -333,12 +339,12 @@ def case(rng, op, sizes):
         if rng.randrange(4):
             seg = run(rng, segment_size(rng, d if d >= 512 else 512))
         else:
-            seg = run(rng, rng.choice((0, 1, 64, 127, 130, d, 96)))
+            seg = run(rng, rng.choice((0, 1, 64, 127, 130, d // 2 + 1, d, 96)))
         places = kept_places(data)
         if places and not rng.randrange(3):  # one that is there
             p = rng.choice(places)
             _, _, _, o, s = MODEL.read_entry(data[p : p + 64])
-            seg = data[o : o + s]
+            seg = data[o : o + rng.choice((s, s, s, s - 1, s + 1))]
         if len(seg) >= 32 and not rng.randrange(15):
             seg = seg[:31] + b"\xff" + seg[32:]
         return op, data, seg, 0, 0

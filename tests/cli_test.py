@@ -17,7 +17,7 @@ import unittest
 from pathlib import Path
 
 from cases import node
-from model import Model
+from model import Model, filled
 
 ROOT = Path(__file__).resolve().parent.parent
 BINARY = Path(os.environ.get("VIZHUTHAMEN", ROOT / "rust" / "target" / "release" / "vizhuthamen"))
@@ -108,6 +108,21 @@ class MainJob(Calls):
         self.found(ca, a)
         self.settled(kept)
         self.assertEqual(self.files(), ["a", "b", "deal", "found", "record", "record2"])
+
+    def test_a_segment_whose_size_is_no_power_of_two(self):
+        segment = self.put("segment", self.segment(128) + b"xy")
+        code, offset, place, deal = MODEL.book(self.put("deal", b"0" * 768 + bytes(256)), segment)
+        self.assertEqual((code, deal[:256]), (0, filled(segment)))
+        commitment = deal[place : place + 32].hex()
+        self.assertEqual(self.answer("book", "deal", "segment"), f"offset 0\nplace 768\nsize 130\ncommitment {commitment}\n")
+        self.assertEqual(self.get("deal"), deal)
+        again = self.refused(15, "book", "deal", "segment")
+        self.assertEqual(again.splitlines()[1:], ["offset 0", "place 768", "size 130", f"commitment {commitment}"])
+        self.assertEqual(self.answer("find", "deal", commitment, "--output", "found"), "offset 0\nsize 130\nplace 768\n")
+        self.assertEqual(self.get("found"), segment)
+        for size in (0, 513):
+            self.put("none", bytes(size))
+            self.assertIn("a segment here has 1 to 512 bytes", self.call("book", "deal", "none", status=4)[1])
 
     def listed(self, ca, cb):
         rows = [line.split() for line in self.answer("list", "deal").splitlines()]

@@ -18,7 +18,7 @@ from pathlib import Path
 
 from cases import (BOOK, BUILD, CHECK, CHECK_INPUT, COMMITMENT, FIELDS, FIND, INSPECT, MAKE, MODEL, NAMES, NUMBERS, READ, SETTLE,
                    SETTLE_DEAL, SHA256, STREAM, answer, cases, deal, encode, node, place, run, spoil, strayed, streams)
-from model import index_numbers
+from model import area, index_numbers
 from vectors import large_deals
 
 ROOT = Path(__file__).resolve().parent.parent
@@ -93,8 +93,8 @@ def false_entries(rng, count):
         data = bytearray(deal(rng, (512, 1024, 4096)))
         _, n, start = index_numbers(len(data))
         p = start + 64 * rng.randrange(n)
-        s = rng.choice((128, 256))
-        o = s * rng.randrange(start // s)
+        s = rng.choice((1, 100, 128, 130, 256))
+        o = area(s) * rng.randrange(start // area(s))
         data[p : p + 64] = MODEL.entry(node(rng), o, s)
         data = bytes(data)
         yield FIND, data, data[p : p + 32], 0, 0

@@ -51,6 +51,16 @@ def stray(data):
     return any(data[i + 31] >= 64 for i in range(0, len(data) - 31, 32))
 
 
+def area(t):
+    """The smallest power of two at or above both a segment size and 128."""
+    return max(128, 1 << (t - 1).bit_length())
+
+
+def filled(segment):
+    """The bytes of the segment's area: the segment, and zeros after it."""
+    return segment + bytes(area(len(segment)) - len(segment))
+
+
 def index_numbers(d):
     if not (power(d) and 512 <= d <= 1 << 36):
         return 2, 0, 0
@@ -134,11 +144,11 @@ class Model:
 
     @staticmethod
     def size_allowed(d, s):
-        return power(s) and 128 <= s <= d // 2
+        return 1 <= s <= d // 2
 
     @staticmethod
     def offset_allowed(d, o, s):
-        return o % s == 0 and o + s <= index_numbers(d)[2]
+        return o % area(s) == 0 and o + area(s) <= index_numbers(d)[2]
 
     def standing(self, deal, i):
         """What stands in slot i: (commitment, offset, size) or None."""
@@ -155,7 +165,7 @@ class Model:
         if row is None:
             return None
         c, o, s = row
-        return row if self.tree(deal[o : o + s])[-1][0] == c else None
+        return row if self.tree(deal[o : o + area(s)])[-1][0] == c else None
 
     @staticmethod
     def lent_allowed(d):
@@ -201,26 +211,27 @@ class Model:
             return 2, 0, 0, deal
         if not self.size_allowed(d, s):
             return 4, 0, 0, deal
-        if stray(deal) or stray(segment):
+        whole, a = filled(segment), area(s)
+        if stray(deal) or stray(whole):
             return 11, 0, 0, deal
         _, n, start = index_numbers(d)
         rows = [self.standing(deal, i) for i in range(n)]
         for i, row in enumerate(rows):
-            if row and row[2] == s and deal[row[1] : row[1] + s] == segment and self.kept(deal, i):
+            if row and row[2] == s and deal[row[1] : row[1] + a] == whole and self.kept(deal, i):
                 return 15, row[1], start + 64 * i, deal
         slots = [i for i, row in enumerate(rows) if row is None]
         if not slots:
             return 13, 0, 0, deal
-        used = [(row[1], row[1] + row[2]) for row in rows if row]
-        for o in range(0, start - s + 1, s):
-            if all(b <= o or o + s <= a for a, b in used):
+        used = [(row[1], row[1] + area(row[2])) for row in rows if row]
+        for o in range(0, start - a + 1, a):
+            if all(end <= o or o + a <= first for first, end in used):
                 break
         else:
             return 14, 0, 0, deal
         out = bytearray(deal)
-        out[o : o + s] = segment
+        out[o : o + a] = whole
         p = start + 64 * slots[0]
-        out[p : p + 64] = self.entry(self.tree(segment)[-1][0], o, s)
+        out[p : p + 64] = self.entry(self.tree(whole)[-1][0], o, s)
         return 0, o, p, bytes(out)
 
     # ---- records
@@ -268,13 +279,13 @@ class Model:
             return 5
         if p % 64 or not start <= p < d:
             return 6
-        if len(u) != (d // s).bit_length() - 1 or len(v) != (d // 64).bit_length() - 1:
+        if len(u) != (d // area(s)).bit_length() - 1 or len(v) != (d // 64).bit_length() - 1:
             return 7
         if c[31] >= 64:
             return 8
         if stray(b"".join(u)) or stray(b"".join(v)):
             return 19
-        if self.path_root(c, o // s, u) != commitment:
+        if self.path_root(c, o // area(s), u) != commitment:
             return 9
         if self.path_root(self.h.node(self.entry(c, o, s)), p // 64, v) != commitment:
             return 10
@@ -295,7 +306,7 @@ class Model:
             return 16, b""
         c, o, s = row
         tree = self.tree(deal)
-        return 0, self.encode(c, o, s, place, self.path(tree, s, o // s), self.path(tree, 64, place // 64))
+        return 0, self.encode(c, o, s, place, self.path(tree, area(s), o // area(s)), self.path(tree, 64, place // 64))
 
     @staticmethod
     def path(tree, size, q):
@@ -310,7 +321,7 @@ class Model:
     def strings(self, record):
         c, o, s, p, u, v = self.parse(record)
         e = self.entry(c, o, s)
-        return self.path_strings(self.h.node(e), p // 64, v) + [e] + self.path_strings(c, o // s, u)
+        return self.path_strings(self.h.node(e), p // 64, v) + [e] + self.path_strings(c, o // area(s), u)
 
     @staticmethod
     def settled(vs, ws):
@@ -340,7 +351,7 @@ class Model:
             return code, ZERO64, ZERO64
         c, o, s, p, u, v = self.parse(record)
         pairs = lambda size, q: self.pairs(tree, size, q)
-        return self.settled(self.strings(record), pairs(64, p // 64) + [deal[p : p + 64]] + pairs(s, o // s))
+        return self.settled(self.strings(record), pairs(64, p // 64) + [deal[p : p + 64]] + pairs(area(s), o // area(s)))
 
     @staticmethod
     def pairs(tree, size, q):

@@ -3,7 +3,7 @@ import hashlib
 import random
 import sys
 
-from model import Hashes, Model, Weak, index_numbers, le, sha256, stray, ZERO32
+from model import Hashes, Model, Weak, area, index_numbers, le, sha256, stray, ZERO32
 
 
 def expect(what, got, want):
@@ -25,6 +25,8 @@ def published_values():
     for d, n, start in ((512, 4, 256), (524288, 4, 524032), (1048576, 8, 1048064), (16777216, 128, 16769024),
                         (34359738368, 262144, 34342961152), (68719476736, 524288, 68685922304)):
         expect(f"index of {d}", index_numbers(d), (0, n, start))
+    for raw, t, a in ((127, 128, 128), (128, 130, 256), (255, 258, 512)):
+        expect(f"size of {raw} raw bytes", (-(-raw * 128 // 127), area(t)), (t, a))
     for d in (0, 256, 513, 1 << 37):
         expect(f"index of {d}", index_numbers(d), (2, 0, 0))
 

@@ -9,7 +9,7 @@ from pathlib import Path
 
 from cases import (BOOK, BUILD, CHECK, CHECK_INPUT, COMMITMENT, COMPARE, FIELDS, FIND, MODEL, NAMES, NUMBERS, READ, SETTLE, SETTLE_DEAL,
                    answer, case, encode, node, run, streams)
-from model import index_numbers, le
+from model import area, filled, index_numbers, le
 
 ROOT = Path(__file__).resolve().parent.parent
 
@@ -39,6 +39,51 @@ def worked_runs(rng):
     yield READ, bytes(64), b"", 0, 0
 
 
+def sizes_in_deals(rng):
+    """Sizes at and beside powers of two (document 02, request (iii)): booked in zeros, booked over old bytes, booked again, found."""
+    for size, d in ((1, 512), (31, 512), (127, 512), (128, 512), (129, 512), (130, 512), (255, 1024), (256, 512), (257, 1024), (258, 1024),
+                    (512, 1024), (513, 2048), (1000, 2048)):
+        _, n, start = index_numbers(d)
+        segment = node(rng) * (size // 32) + rng.randbytes(size % 32)
+        shorter, longer = segment[:-1] or bytes(2), segment + b"\0"
+        for deal in (bytes(d), run(rng, start) + bytes(d - start)):
+            code, o, p, after = MODEL.book(deal, segment)
+            yield BOOK, deal, segment, 0, 0
+            yield from ((BOOK, after, s, 0, 0) for s in (segment, shorter, longer))
+            yield FIND, after, after[p : p + 32], 0, 0
+            yield BUILD, after, bytes(2000), p, 0
+            record = MODEL.build(after, p)[1]
+            yield CHECK, record, MODEL.commitment(after)[1], d, 0
+            yield SETTLE_DEAL, after, record, 0, 0
+    for size in (0, 257, 512):
+        yield BOOK, bytes(512), bytes(size), 0, 0
+
+
+def other_trailer(rng):
+    """A kept entry whose size ends before other bytes than zeros: kept by its area, and not the segment that booking takes."""
+    deal = bytearray(1024)
+    deal[:256] = b"".join(node(rng) for _ in range(8))
+    deal[768:832] = MODEL.entry(MODEL.tree(bytes(deal[:256]))[-1][0], 0, 130)
+    deal = bytes(deal)
+    yield FIND, deal, deal[768:800], 0, 0
+    yield BUILD, deal, bytes(2000), 768, 0
+    record = MODEL.build(deal, 768)[1]
+    yield CHECK, record, MODEL.commitment(deal)[1], 1024, 0
+    yield SETTLE_DEAL, deal, record, 0, 0
+    yield BOOK, deal, deal[:130], 0, 0
+
+
+def two_places(rng):
+    """Two records of one deal for two entry places."""
+    deal = bytes(1024)
+    for size in (100, 130):
+        deal = MODEL.book(deal, run(rng, size))[3]
+    r, s = (MODEL.build(deal, p)[1] for p in (768, 832))
+    root = MODEL.commitment(deal)[1]
+    for a, b in ((r, s), (s, r), (r, r), (r, s[:-1])):
+        yield SETTLE, a, root + b, 1024, 32
+
+
 def sparse_record(rng, d, size):
     """The record and the commitment of a deal of d bytes that is zero but for one segment and its entry."""
     h = MODEL.h
@@ -46,26 +91,28 @@ def sparse_record(rng, d, size):
     for _ in range(40):
         zero.append(h.node(zero[-1] + zero[-1]))
     _, n, start = index_numbers(d)
-    segment = run(rng, size)
-    o = rng.randrange(start // size) * size
+    taken = area(size)
+    segment = filled(run(rng, size))
+    o = rng.randrange(start // taken) * taken
     p = start + 64 * rng.randrange(n)
     commitment = MODEL.tree(segment)[-1][0]
     entry = MODEL.entry(commitment, o, size)
-    levels = [{(o + 32 * i) // 32: segment[32 * i : 32 * i + 32] for i in range(size // 32)}]
+    levels = [{(o + 32 * i) // 32: segment[32 * i : 32 * i + 32] for i in range(taken // 32)}]
     levels[0][p // 32], levels[0][p // 32 + 1] = entry[:32], entry[32:]
     top = d.bit_length() - 6
     for k in range(top):
         at = lambda i: levels[k].get(i, zero[k])
         levels.append({i // 2: h.node(at(i & ~1) + at(i | 1)) for i in levels[k]})
     path = lambda k, q: [levels[k + j].get((q >> j) ^ 1, zero[k + j]) for j in range(top - k)]
-    k = (size // 32).bit_length() - 1
-    record = MODEL.encode(commitment, o, size, p, path(k, o // size), path(1, p // 64))
+    k = (taken // 32).bit_length() - 1
+    record = MODEL.encode(commitment, o, size, p, path(k, o // taken), path(1, p // 64))
     return levels[top][0], record
 
 
 def large_deals(rng):
     """Records for deals up to 2^36 bytes, whole and damaged in one byte of each kind of field."""
-    for d, size in ((512, 128), (512, 256), (1 << 20, 1024), (1 << 24, 128), (1 << 30, 1 << 12), (1 << 36, 128), (1 << 36, 1 << 20)):
+    for d, size in ((512, 128), (512, 256), (1 << 20, 1024), (1 << 20, 258), (1 << 24, 128), (1 << 24, 1),
+                    (1 << 30, 1 << 12), (1 << 36, 128), (1 << 36, 130), (1 << 36, 1 << 20)):
         root, r = sparse_record(rng, d, size)
         yield CHECK, r, root, d, 0
         yield SETTLE, r, root + r, d, 32
@@ -130,6 +177,9 @@ def all_cases():
     yield from compared_paths(random.Random(17))
     yield from stray_paths(random.Random(19))
     yield from streams(random.Random(36), (0, 1, 31, 32, 33, 64, 96, 1024, 4096))
+    yield from sizes_in_deals(random.Random(128))
+    yield from other_trailer(random.Random(130))
+    yield from two_places(random.Random(18))
     yield COMMITMENT, run(rng, 8192), b"", 0, 0
     for i in range(720):
         yield case(rng, 1 + i % len(NAMES), (512, 512, 1024))

@@ -9,7 +9,7 @@ const MEANINGS: [&str; 20] = [
     "a deal, run, stream, message or entry size is not allowed",
     "the record's tags, order, lengths or end are wrong",
     "segment size not allowed for this deal size",
-    "offset not a multiple of the segment size, or segment beyond the index start",
+    "offset not a multiple of the segment's area, or the area ends beyond the index start",
     "entry place not a multiple of 64, or outside the index area",
     "a path has another number of nodes than it must have",
     "the segment commitment has stray bits",

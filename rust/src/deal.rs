@@ -18,7 +18,7 @@ pub enum Slot {
     Kept(Entry),
 }
 
-/// A segment that was found: where it is, and its bytes, a part of the deal.
+/// A segment that was found: where it is, and its bytes, a part of the deal, without the zeros after them.
 #[derive(Clone, Copy, Debug, PartialEq, Eq)]
 pub struct Found<'d> {
     pub offset: u64,
@@ -37,7 +37,7 @@ pub struct Position {
 /// The answer of a booking that is not refused.
 #[derive(Clone, Copy, Debug, PartialEq, Eq)]
 pub enum Booking {
-    /// The segment and its entry were written.
+    /// The segment, zeros to the end of its area, and its entry were written.
     Booked(Position),
     /// Code 15: the deal has the segment, and was not changed.
     AlreadyKept(Position),
@@ -95,7 +95,8 @@ pub(crate) fn part(bytes: &[u8], start: u64, length: u64) -> &[u8] {
     &bytes[start..start + length]
 }
 
-/// Books a segment: it and its entry are written into the deal, unless the deal has it. Refusals: 2, 4, 11, 13, 14.
+/// Books a segment of 1 byte to half of the deal: it, zeros after it to the end of its area (the smallest power of two at or above
+/// both its size and 128), and its entry are written into the deal, unless the deal has it. Refusals: 2, 4, 11, 13, 14.
 pub fn book(deal: &mut [u8], segment: &[u8]) -> Result<Booking, Refusal> {
     let (mut offset, mut place) = (0, 0);
     // SAFETY: the slices are live and apart, since one is borrowed mutably; the two numbers are locals of their own.
@@ -151,6 +152,22 @@ mod tests {
         let mut deal = [0; 512];
         assert_eq!(book(&mut deal, &[0; 128]), booked(0, 256));
         assert!(matches!(book(&mut deal, &[0; 128]), Ok(Booking::AlreadyKept(_))));
+    }
+
+    #[test]
+    fn zeros_follow_a_segment_in_its_area() {
+        let mut deal = [0; 1024];
+        deal[..768].fill(1);
+        let short = &segment(1, 160)[..130];
+        assert_eq!(book(&mut deal, short), booked(0, 768));
+        assert_eq!(deal[..130], *short);
+        assert_eq!(deal[130..256], [0; 126]);
+        assert_eq!(deal[256..768], [1; 512]);
+        let Ok(Slot::Kept(entry)) = inspect(&deal, 768) else { panic!("the segment is kept") };
+        assert_eq!(entry.commitment, commitment(&deal[..256]).unwrap());
+        assert_eq!(find(&deal, entry.commitment.as_ref()).unwrap().segment, short);
+        assert!(matches!(book(&mut deal, short), Ok(Booking::AlreadyKept(_))));
+        assert_eq!(book(&mut deal, &short[..129]), booked(256, 832));
     }
 
     #[test]

@@ -3,17 +3,20 @@ use mathlib.Core.Path.{_≡_, sym, ap, ap₂, _∙_}
 use mathlib.Core.Bool.{true, false, _&&_}
 use mathlib.Core.Logic.{_≢_}
 use mathlib.Core.List.{List}
-use Prim.Native.Nat.{ℕ, _+_, _*_, _/_, _^_, _≤_}
+use Prim.Native.Nat.{ℕ, _+_, _*_, _/_, _^_, _≤_, _<_}
 use native.Mathlib.Omega.{arith}
 use lib.ListN.{length}
 use Rattle.octets.specs.Search.{found, missing, lowest}
+use Rattle.octets.specs.Fill.{zeroFilled}
 use Rattle.octets.specs.Splice.{splice}
+use Rattle.merkle.specs.Tree.{commitmentOf}
 use Rattle.merkle.specs.StrayBits.{noStrayBits}
+use Rattle.merkle.specs.StrayBitsLaws.{filled-clear}
 use Rattle.entries.specs.Entry.{entryOf}
-use Rattle.entries.specs.Sizes.{lentSizeAllowed, segmentSizeAllowed, area, entryCount, indexStart}
-use Rattle.entries.specs.SizesLaws.{index-start-le}
+use Rattle.entries.specs.Sizes.{lentSizeAllowed, segmentSizeAllowed, area, entryCount, indexStart, segmentLevel}
+use Rattle.entries.specs.SizesLaws.{lent-size, segment-size, index-start-le}
 use Rattle.index.specs.Slots.{slotAt, rowAt}
-use Rattle.booking.specs.Booking.{keepsSegment, refuse, already, place, inRoom, unlessKept, decision, segmentCommitment, answerTo, bookAnswer, bookedDeal}
+use Rattle.booking.specs.Booking.{areaBytes, keepsSegment, refuse, already, place, inRoom, unlessKept, decision, segmentCommitment, answerTo, bookAnswer, bookedDeal}
 use Rattle.booking.specs.BookingLaws.{Bookable, Books, bookable-deal, bookable-segment, books, answer-is, deal-is, code-0}
 use Rattle.booking.specs.FrameLaws.{refused-same}
 use Rattle.booking.specs.Gather.{Gathered, EndBy, emptyAt, roomAt}
@@ -22,6 +25,11 @@ use Rattle.booking.specs.Room.{lowestFreeSlot, lowestPlace}
 use Rattle.booking.specs.declared.Booked.{Booked}
 
 module _ (deal segment : List ℕ) where
+  -- the area of an allowed size has stray bits only where the segment has
+  pub area-clear : lentSizeAllowed (length deal) ≡ true → segmentSizeAllowed (length deal) (length segment) ≡ true → noStrayBits (areaBytes segment) ≡ noStrayBits segment
+  area-clear a b =
+      filled-clear (area (length segment)) segment (segment-size (length deal) (length segment) (lent-size (length deal) a .deal) b .size-area)
+
   -- a size or a stray bit is refused
   pub record Refused (answer : Booked) : Type 0 where
     pub answered : answer ≡ bookAnswer deal segment
@@ -39,12 +47,26 @@ module _ (deal segment : List ℕ) where
     unfolding decision
     refused-4 e a b = refused-by 4 answer e (rw (a, b))
 
-    pub refused-11 : answer ≡ answerTo deal (refuse 11) → lentSizeAllowed (length deal) ≡ true → segmentSizeAllowed (length deal) (length segment) ≡ true → (noStrayBits deal && noStrayBits segment) ≡ false → Refused answer
+    pub refused-11 : answer ≡ answerTo deal (refuse 11) → lentSizeAllowed (length deal) ≡ true → segmentSizeAllowed (length deal) (length segment) ≡ true → (noStrayBits deal && noStrayBits (areaBytes segment)) ≡ false → Refused answer
     unfolding decision
     refused-11 e a b s = refused-by 11 answer e (rw (a, b, s))
 
   -- none is
   module _ (b : Bookable deal segment) where
+    -- the commitment, by the height of the area's tree
+    module _ (level : ℕ) (l : level ≡ segmentLevel (length segment)) where
+      pub level-fits : (level < 32) × (length segment ≤ 32 * 2 ^ level)
+      level-fits =
+          let s = bookable-segment deal segment b in
+          let t = bookable-deal deal segment b in
+          let e : area (length segment) ≡ 32 * 2 ^ level = s .area-is ∙ ap (λ (n : ℕ). 32 * 2 ^ n) (sym l) in
+          (omega (arith, s .below-deal, t .lent-level), omega (arith, s .size-area))
+
+      pub commitment-by : commitmentOf level (zeroFilled (32 * 2 ^ level) segment) ≡ segmentCommitment segment
+      commitment-by =
+          ap (λ (n : ℕ). commitmentOf n (zeroFilled (32 * 2 ^ n) segment)) l
+          ∙ ap (λ (n : ℕ). commitmentOf (segmentLevel (length segment)) (zeroFilled n segment)) (sym (bookable-segment deal segment b .area-is))
+
     searched : decision deal segment
         ≡ unlessKept (lowest (keepsSegment deal segment) 0 (entryCount (length deal)))
         (inRoom (area (length segment))
@@ -97,11 +119,13 @@ module _ (deal segment : List ℕ) (answer : Booked) (e : answer ≡ bookAnswer 
     answer-placed : answer ≡ answerTo deal (place (placed .0) (placed .1))
     answer-placed = e ∙ answer-is deal segment (place (placed .0) (placed .1)) (placed .2)
 
-    pub segment-within : answer .offset + length segment ≤ length deal
-    segment-within =
+    pub size-within : length segment ≤ area (length segment)
+    size-within = bookable-segment deal segment (placed-books .unkept .bookable) .size-area
+
+    pub area-within : answer .offset + area (length segment) ≤ length deal
+    area-within =
         let b = placed-books in
-        let s = bookable-segment deal segment (b .unkept .bookable) in
-        omega (arith, ap (λ (a : Booked). a .offset) answer-placed, b .free-place .ends, s .size-area, index-start-le (length deal))
+        omega (arith, ap (λ (a : Booked). a .offset) answer-placed, b .free-place .ends, index-start-le (length deal))
 
     pub entry-within : answer .place + 64 ≤ length deal
     entry-within =
@@ -110,9 +134,9 @@ module _ (deal segment : List ℕ) (answer : Booked) (e : answer ≡ bookAnswer 
         omega (arith, ap (λ (a : Booked). a .place) answer-placed, slot-within (length deal) (placed .0) t (omega (arith, b .free-slot .below)))
 
     pub deal-written : (commitment : List ℕ) → commitment ≡ segmentCommitment segment
-        → splice (splice deal (answer .offset) segment) (answer .place) (entryOf commitment (answer .offset) (length segment)) ≡ bookedDeal deal segment
+        → splice (splice deal (answer .offset) (areaBytes segment)) (answer .place) (entryOf commitment (answer .offset) (length segment)) ≡ bookedDeal deal segment
     deal-written commitment c =
-        ap₂ (λ (a : Booked) (n : List ℕ). splice (splice deal (a .offset) segment) (a .place) (entryOf n (a .offset) (length segment))) answer-placed c
+        ap₂ (λ (a : Booked) (n : List ℕ). splice (splice deal (a .offset) (areaBytes segment)) (a .place) (entryOf n (a .offset) (length segment))) answer-placed c
         ∙ sym (deal-is deal segment (place (placed .0) (placed .1)) (placed .2))
 
   -- any other code: nothing is written

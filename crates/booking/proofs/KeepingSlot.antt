@@ -21,7 +21,7 @@ use Rattle.entries.specs.SizesLaws.{DealSize, segment-size, segment-place}
 use Rattle.index.specs.KeptLaws.{row-stands, kept-stands, segment-node}
 use Rattle.index.specs.Slots.{slotAt, standing, kept, rowAt}
 use Rattle.index.specs.SlotsLaws.{Stands, stands, keeps}
-use Rattle.booking.specs.Booking.{keepsSegment, segmentCommitment}
+use Rattle.booking.specs.Booking.{areaBytes, keepsSegment, segmentCommitment}
 use Rattle.booking.specs.Gather.{rowOffset, rowArea}
 use Rattle.booking.specs.GatherLaws.{row-some}
 
@@ -35,7 +35,7 @@ module _ (deal segment : List ℕ) (i : ℕ) where
     unfolding keepsSegment
     same-size = eqb-true _ _ (and-left (eqb (sizeIn (slotAt deal i)) (length segment)) _ (and-right (kept (nodeAt deal) (length deal) (slotAt deal i)) _ e))
 
-    same-bytes : part deal (offsetIn (slotAt deal i)) (area (length segment)) ≡ segment
+    same-bytes : part deal (offsetIn (slotAt deal i)) (area (length segment)) ≡ areaBytes segment
     unfolding keepsSegment
     same-bytes =
         same-true _ _ (and-right (eqb (sizeIn (slotAt deal i)) (length segment)) _ (and-right (kept (nodeAt deal) (length deal) (slotAt deal i)) _ e))
@@ -44,8 +44,8 @@ module _ (deal segment : List ℕ) (i : ℕ) where
     pub keeps-offset : rowOffset (rowAt deal i) ≡ offsetIn (slotAt deal i)
     keeps-offset = ap rowOffset (row-stands (length deal) (slotAt deal i) (kept-stands (nodeAt deal) (length deal) (slotAt deal i) is-kept))
 
-  -- the node over a standing entry's segment, where that holds exactly the lent one
-  node-there : DealSize (length deal) → Stands (length deal) (slotAt deal i) → sizeIn (slotAt deal i) ≡ length segment → part deal (offsetIn (slotAt deal i)) (area (length segment)) ≡ segment
+  -- the node over a standing entry's segment, where that holds exactly the lent one and zeros after it
+  node-there : DealSize (length deal) → Stands (length deal) (slotAt deal i) → sizeIn (slotAt deal i) ≡ length segment → part deal (offsetIn (slotAt deal i)) (area (length segment)) ≡ areaBytes segment
       → nodeAt deal (segmentLevel (sizeIn (slotAt deal i))) (segmentPosition (offsetIn (slotAt deal i)) (sizeIn (slotAt deal i))) ≡ segmentCommitment segment
   node-there t s z b =
       let size = segment-size (length deal) (sizeIn (slotAt deal i)) t (s .size-allowed) in
@@ -78,7 +78,7 @@ module _ (deal segment : List ℕ) (i : ℕ) where
       pub offset-there : rowOffset (rowAt deal i) ≡ offsetIn (slotAt deal i)
       offset-there = ap rowOffset (row-stands (length deal) (slotAt deal i) stood)
 
-      keeps-here : part deal (offsetIn (slotAt deal i)) (area (length segment)) ≡ segment → keepsSegment deal segment i ≡ true
+      keeps-here : part deal (offsetIn (slotAt deal i)) (area (length segment)) ≡ areaBytes segment → keepsSegment deal segment i ≡ true
       unfolding keepsSegment kept
       keeps-here b =
           let node = node-there t (stands (length deal) (slotAt deal i) stood) z b in
@@ -89,10 +89,10 @@ module _ (deal segment : List ℕ) (i : ℕ) where
             same-of _ _ b,
           )
 
-      pub bytes-decide : sameBytes (part deal (offsetIn (slotAt deal i)) (area (length segment))) segment ≡ keepsSegment deal segment i
-      bytes-decide = by-test (sameBytes (part deal (offsetIn (slotAt deal i)) (area (length segment))) segment) refl
+      pub bytes-decide : sameBytes (part deal (offsetIn (slotAt deal i)) (area (length segment))) (areaBytes segment) ≡ keepsSegment deal segment i
+      bytes-decide = by-test (sameBytes (part deal (offsetIn (slotAt deal i)) (area (length segment))) (areaBytes segment)) refl
         where
-          by-test : (b : Bool) → sameBytes (part deal (offsetIn (slotAt deal i)) (area (length segment))) segment ≡ b → b ≡ keepsSegment deal segment i
+          by-test : (b : Bool) → sameBytes (part deal (offsetIn (slotAt deal i)) (area (length segment))) (areaBytes segment) ≡ b → b ≡ keepsSegment deal segment i
           by-test true e = sym (keeps-here (same-true _ _ e))
           by-test false e = sym (not-passed (keepsSegment deal segment i) (λ t. same-false _ _ e (same-bytes t)))
 

@@ -10,6 +10,7 @@ use Rattle.octets.specs.Refusals.{Rule, rule, firstRefusal, unlessRefused}
 use Rattle.octets.specs.RefusalLaws.{none-refused, all-passed, and-left, and-right, and-both}
 use Rattle.octets.specs.Search.{Found, found, missing, lowest}
 use Rattle.octets.specs.SearchLaws.{IsLowest, lowest-found, lowest-missing, lowest-is, lowest-none}
+use Rattle.octets.specs.FillLaws.{filled-length}
 use Rattle.merkle.specs.StrayBits.{noStrayBits}
 use Rattle.entries.specs.Sizes.{lentSizeAllowed, segmentSizeAllowed, area, entryCount, indexStart}
 use Rattle.entries.specs.SizesLaws.{LentSize, SegmentSize, lent-size, segment-size}
@@ -17,14 +18,14 @@ use Rattle.index.specs.Slots.{rowAt}
 use Rattle.booking.specs.declared.Booked.{Booked}
 use Rattle.booking.specs.Room.{isFree, fits, lowestFreeSlot, lowestPlace}
 use Rattle.booking.specs.RoomLaws.{multiple, IsPlace, place-found, place-is, place-missing}
-use Rattle.booking.specs.Booking.{keepsSegment, Decision, refuse, already, place, inRoom, unlessKept, decision, answerTo, dealAfter, bookAnswer, bookedDeal}
+use Rattle.booking.specs.Booking.{areaBytes, keepsSegment, Decision, refuse, already, place, inRoom, unlessKept, decision, answerTo, dealAfter, bookAnswer, bookedDeal}
 
 -- nothing refuses before the slots are looked at (codes 2, 4, 11)
 pub record Bookable (deal segment : List ℕ) : Type 0 where
   pub deal-allowed : lentSizeAllowed (length deal) ≡ true
   pub segment-allowed : segmentSizeAllowed (length deal) (length segment) ≡ true
   pub deal-clear : noStrayBits deal ≡ true
-  pub segment-clear : noStrayBits segment ≡ true
+  pub segment-clear : noStrayBits (areaBytes segment) ≡ true
 
 -- nor is the segment kept already (15)
 pub record Unkept (deal segment : List ℕ) : Type 0 where
@@ -60,7 +61,7 @@ abbrev bookRules : List ℕ → List ℕ → List Rule
 bookRules deal segment =
     rule (lentSizeAllowed (length deal)) 2
     ∷ rule (segmentSizeAllowed (length deal) (length segment)) 4
-    ∷ rule (noStrayBits deal && noStrayBits segment) 11
+    ∷ rule (noStrayBits deal && noStrayBits (areaBytes segment)) 11
     ∷ []
 
 refusals-end : (a b c : Bool) → firstRefusal (rule a 2 ∷ rule b 4 ∷ rule c 11 ∷ []) ≤ 11
@@ -125,7 +126,7 @@ module _ (deal segment : List ℕ) where
 
   code-end : code ≤ 11
   unfolding code
-  code-end = refusals-end (lentSizeAllowed (length deal)) (segmentSizeAllowed (length deal) (length segment)) (noStrayBits deal && noStrayBits segment)
+  code-end = refusals-end (lentSizeAllowed (length deal)) (segmentSizeAllowed (length deal) (length segment)) (noStrayBits deal && noStrayBits (areaBytes segment))
 
   not-refused : (code ≡ 0) ↔ Bookable deal segment
   unfolding code
@@ -135,10 +136,10 @@ module _ (deal segment : List ℕ) where
         record {
           deal-allowed = p .0;
           segment-allowed = p .1 .0;
-          deal-clear = and-left (noStrayBits deal) (noStrayBits segment) (p .1 .1 .0);
-          segment-clear = and-right (noStrayBits deal) (noStrayBits segment) (p .1 .1 .0);
+          deal-clear = and-left (noStrayBits deal) (noStrayBits (areaBytes segment)) (p .1 .1 .0);
+          segment-clear = and-right (noStrayBits deal) (noStrayBits (areaBytes segment)) (p .1 .1 .0);
         },
-    λ b. all-passed (bookRules deal segment) (b .deal-allowed, (b .segment-allowed, (and-both (noStrayBits deal) (noStrayBits segment) (b .deal-clear) (b .segment-clear), tt))),
+    λ b. all-passed (bookRules deal segment) (b .deal-allowed, (b .segment-allowed, (and-both (noStrayBits deal) (noStrayBits (areaBytes segment)) (b .deal-clear) (b .segment-clear), tt))),
   )
 
   not-kept : ((code ≡ 0) × (keeping ≡ missing)) ↔ Unkept deal segment
@@ -158,6 +159,10 @@ module _ (deal segment : List ℕ) where
 
   pub bookable-segment : Bookable deal segment → SegmentSize (length deal) (length segment)
   bookable-segment b = segment-size (length deal) (length segment) (bookable-deal b .deal) (b .segment-allowed)
+
+  -- the area is all of its bytes
+  pub area-length : Bookable deal segment → length (areaBytes segment) ≡ area (length segment)
+  area-length b = filled-length (area (length segment)) segment (bookable-segment b .size-area)
 
   area-some : Bookable deal segment → 0 < area (length segment)
   area-some b = omega (arith, bookable-segment b .area-low)

@@ -4,6 +4,7 @@ use mathlib.Core.Path.{_≡_, refl, sym, ap, ap₂, _∙_, subst}
 use mathlib.Core.Bool.{Bool, true, false, _&&_}
 use mathlib.Core.Logic.{_≢_, ⊎-elim}
 use Prim.Native.Nat.{ℕ, _+_, _*_, _/_, _%_, _^_, _≤_, _<_}
+use native.Mathlib.Nat.{add-zero}
 use native.Mathlib.Decide.{decLt, ℕ-discrete}
 use native.Mathlib.Omega.{arith}
 use mathlib.Core.List.{List}
@@ -14,14 +15,15 @@ use Rattle.octets.specs.Bytes.{Bytes}
 use Rattle.octets.specs.RefusalLaws.{and-left, and-right, and-same}
 use Rattle.octets.specs.Equality.{sameBytes}
 use Rattle.octets.specs.EqualityLaws.{same-true, same-of}
+use Rattle.octets.specs.FillLaws.{bytes-filled, filled-head, filled-only}
 use Rattle.octets.specs.Splice.{part, splice}
-use Rattle.octets.specs.SpliceLaws.{length-splice, bytes-splice, part-before, part-after, part-written}
+use Rattle.octets.specs.SpliceLaws.{length-splice, bytes-splice, part-part, part-before, part-after, part-written}
 use Rattle.merkle.specs.Tree.{commitmentOf, nodeAt}
 use Rattle.merkle.specs.TreeLaws.{commitment-length, commitment-clear, commitment-bytes}
 use Rattle.merkle.specs.StrayBits.{clearNode, noStrayBits}
 use Rattle.merkle.specs.StrayBitsLaws.{clear-node, splice-clear}
 use Rattle.entries.specs.Sizes.{lentSizeAllowed, segmentSizeAllowed, area, entryCount, indexStart, offsetAllowed, slotPlace, segmentLevel, segmentPosition}
-use Rattle.entries.specs.SizesLaws.{DealSize, SegmentSize, SegmentPlace, area-own, segment-size, segment-place, index-area}
+use Rattle.entries.specs.SizesLaws.{DealSize, SegmentSize, SegmentPlace, segment-size, segment-place, index-area}
 use Rattle.entries.specs.Entry.{entryOf, commitmentIn, offsetIn, sizeIn}
 use Rattle.entries.specs.EntryLaws.{entry-length, offset-back, size-back}
 use Rattle.entries.specs.MadeLaws.{made-bytes, made-clear}
@@ -30,8 +32,8 @@ use Rattle.index.specs.SlotsLaws.{Stands, stands, made-kept, made-row}
 use Rattle.index.specs.KeptLaws.{row-stands, kept-stands, kept-cong, segment-node}
 use Rattle.booking.specs.Room.{overlap, rowOverlaps}
 use Rattle.booking.specs.RoomLaws.{overlap-false, overlap-sym, multiple, free-row}
-use Rattle.booking.specs.Booking.{keepsSegment, Decision, refuse, already, place, decision, segmentCommitment, answerTo, dealAfter, bookAnswer, bookedDeal}
-use Rattle.booking.specs.BookingLaws.{Bookable, Books, books, bookable-deal, bookable-segment, deal-is, code-0}
+use Rattle.booking.specs.Booking.{areaBytes, keepsSegment, Decision, refuse, already, place, decision, segmentCommitment, answerTo, dealAfter, bookAnswer, bookedDeal}
+use Rattle.booking.specs.BookingLaws.{Bookable, Books, books, bookable-deal, bookable-segment, area-length, deal-is, code-0}
 
 -- the entry that is written
 abbrev newEntry : List ℕ → ℕ → List ℕ
@@ -65,59 +67,71 @@ module _ (deal segment : List ℕ) (i o : ℕ) (e : decision deal segment ≡ pl
         deal-high = bookable-deal deal segment (facts .unkept .bookable) .lent-high;
       }
 
+  area-all : length (areaBytes segment) ≡ area (length segment)
+  area-all = area-length deal segment (facts .unkept .bookable)
+
   commitment-32 : length (segmentCommitment segment) ≡ 32
-  commitment-32 = commitment-length (segmentLevel (length segment)) segment (omega (arith, area-own (length segment), segment-sized .area-is))
+  commitment-32 = commitment-length (segmentLevel (length segment)) (areaBytes segment) (omega (arith, area-all, segment-sized .area-is))
 
   entry-64 : length (newEntry segment o) ≡ 64
   entry-64 = entry-length (segmentCommitment segment) o (length segment) commitment-32
 
-  booked-is : bookedDeal deal segment ≡ splice (splice deal o segment) (slotPlace (length deal) i) (newEntry segment o)
+  booked-is : bookedDeal deal segment ≡ splice (splice deal o (areaBytes segment)) (slotPlace (length deal) i) (newEntry segment o)
   booked-is = deal-is deal segment (place i o) e
 
-  segment-in : o + length segment ≤ length deal
-  segment-in = let l = lies in omega arith
+  area-in : o + length (areaBytes segment) ≤ length deal
+  area-in = let l = lies in omega (arith, area-all)
 
-  half-length : length (splice deal o segment) ≡ length deal
-  half-length = length-splice deal o segment segment-in
+  half-length : length (splice deal o (areaBytes segment)) ≡ length deal
+  half-length = length-splice deal o (areaBytes segment) area-in
 
-  entry-in : slotPlace (length deal) i + length (newEntry segment o) ≤ length (splice deal o segment)
+  entry-in : slotPlace (length deal) i + length (newEntry segment o) ≤ length (splice deal o (areaBytes segment))
   unfolding slotPlace
   entry-in = let l = lies in omega (arith, entry-64, half-length)
 
   placed-length : length (bookedDeal deal segment) ≡ length deal
-  placed-length = ap length booked-is ∙ length-splice (splice deal o segment) (slotPlace (length deal) i) (newEntry segment o) entry-in ∙ half-length
+  placed-length = ap length booked-is ∙ length-splice (splice deal o (areaBytes segment)) (slotPlace (length deal) i) (newEntry segment o) entry-in ∙ half-length
 
   placed-bytes : Bytes deal → Bytes segment → Bytes (bookedDeal deal segment)
   placed-bytes b c =
       subst Bytes (sym booked-is)
-      (bytes-splice (splice deal o segment) (slotPlace (length deal) i) (newEntry segment o) (bytes-splice deal o segment b c)
-      (made-bytes (segmentCommitment segment) o (length segment) (commitment-bytes (segmentLevel (length segment)) segment c)))
+      (bytes-splice (splice deal o (areaBytes segment)) (slotPlace (length deal) i) (newEntry segment o) (bytes-splice deal o (areaBytes segment) b (bytes-filled (area (length segment)) segment c))
+      (made-bytes (segmentCommitment segment) o (length segment) (commitment-bytes (segmentLevel (length segment)) (areaBytes segment) (bytes-filled (area (length segment)) segment c))))
 
-  -- below the index: the segment stands at its offset, and what does not overlap its area is as it was
-  below-index : (at n : ℕ) → at + n ≤ indexStart (length deal) → part (bookedDeal deal segment) at n ≡ part (splice deal o segment) at n
+  -- below the index: the segment and the zeros after it stand at its offset, and what does not overlap its area is as it was
+  below-index : (at n : ℕ) → at + n ≤ indexStart (length deal) → part (bookedDeal deal segment) at n ≡ part (splice deal o (areaBytes segment)) at n
   unfolding slotPlace
   below-index at n h =
       ap (λ (l : List ℕ). part l at n) booked-is
-      ∙ part-before (splice deal o segment) (slotPlace (length deal) i) (newEntry segment o) entry-in at n (omega arith)
+      ∙ part-before (splice deal o (areaBytes segment)) (slotPlace (length deal) i) (newEntry segment o) entry-in at n (omega arith)
 
-  pub segment-written : part (bookedDeal deal segment) o (area (length segment)) ≡ segment
+  pub segment-written : part (bookedDeal deal segment) o (area (length segment)) ≡ areaBytes segment
   segment-written =
       let l = lies in
-      below-index o (area (length segment)) (l .area-ends) ∙ ap (part (splice deal o segment) o) (area-own (length segment)) ∙ part-written deal o segment segment-in
+      below-index o (area (length segment)) (l .area-ends) ∙ ap (part (splice deal o (areaBytes segment)) o) (sym area-all) ∙ part-written deal o (areaBytes segment) area-in
+
+  -- of which the first bytes are the segment itself
+  pub view-written : part (bookedDeal deal segment) o (length segment) ≡ segment
+  view-written =
+      let l = lies in
+      ap (λ (at : ℕ). part (bookedDeal deal segment) at (length segment)) (sym (add-zero o))
+      ∙ sym (part-part (bookedDeal deal segment) o (area (length segment)) 0 (length segment) (omega arith) (omega (arith, placed-length)))
+      ∙ ap (λ (x : List ℕ). part x 0 (length segment)) segment-written
+      ∙ filled-head (area (length segment)) segment
 
   pub part-same : (at n : ℕ) → at + n ≤ indexStart (length deal) → overlap at n o (area (length segment)) ≡ false → part (bookedDeal deal segment) at n ≡ part deal at n
   part-same at n h a =
       let l = lies in
       below-index at n h
-      ∙ ⊎-elim (λ after. part-after deal o segment segment-in at n (omega arith) (omega arith)) (λ before. part-before deal o segment segment-in at n before)
+      ∙ ⊎-elim (λ after. part-after deal o (areaBytes segment) area-in at n (omega (arith, area-all)) (omega arith)) (λ before. part-before deal o (areaBytes segment) area-in at n before)
       (overlap-false at n o (area (length segment)) .0 a)
 
   -- the index: slot i holds the new entry, and every other slot what it held
   pub slot-written : slotAt (bookedDeal deal segment) i ≡ entryOf (segmentCommitment segment) o (length segment)
   slot-written =
       ap₂ (λ (l : List ℕ) (d : ℕ). part l (slotPlace d i) 64) booked-is placed-length
-      ∙ ap (part (splice (splice deal o segment) (slotPlace (length deal) i) (newEntry segment o)) (slotPlace (length deal) i)) (sym entry-64)
-      ∙ part-written (splice deal o segment) (slotPlace (length deal) i) (newEntry segment o) entry-in
+      ∙ ap (part (splice (splice deal o (areaBytes segment)) (slotPlace (length deal) i) (newEntry segment o)) (slotPlace (length deal) i)) (sym entry-64)
+      ∙ part-written (splice deal o (areaBytes segment)) (slotPlace (length deal) i) (newEntry segment o) entry-in
 
   pub slot-same : (j : ℕ) → j < entryCount (length deal) → j ≢ i → slotAt (bookedDeal deal segment) j ≡ slotAt deal j
   unfolding slotPlace
@@ -126,10 +140,10 @@ module _ (deal segment : List ℕ) (i o : ℕ) (e : decision deal segment ≡ pl
       let at : ℕ = slotPlace (length deal) j in
       ap₂ (λ (x : List ℕ) (d : ℕ). part x (slotPlace d j) 64) booked-is placed-length
       ∙ elim (decLt j i) [
-        | yes less ↦ part-before (splice deal o segment) (slotPlace (length deal) i) (newEntry segment o) entry-in at 64 (omega arith)
-        | no more ↦ part-after (splice deal o segment) (slotPlace (length deal) i) (newEntry segment o) entry-in at 64 (omega (arith, entry-64)) (omega (arith, half-length))
+        | yes less ↦ part-before (splice deal o (areaBytes segment)) (slotPlace (length deal) i) (newEntry segment o) entry-in at 64 (omega arith)
+        | no more ↦ part-after (splice deal o (areaBytes segment)) (slotPlace (length deal) i) (newEntry segment o) entry-in at 64 (omega (arith, entry-64)) (omega (arith, half-length))
       ]
-      ∙ part-after deal o segment segment-in at 64 (omega arith) (omega arith)
+      ∙ part-after deal o (areaBytes segment) area-in at 64 (omega (arith, area-all)) (omega arith)
 
   -- the new entry's fields
   offset-8 : o < 256 ^ 8
@@ -160,17 +174,17 @@ module _ (deal segment : List ℕ) (i o : ℕ) (e : decision deal segment ≡ pl
 
   -- no stray bits come in: segment, commitment and checksum have none
   commitment-clean : clearNode (segmentCommitment segment) ≡ true
-  commitment-clean = clear-node (segmentCommitment segment) (commitment-clear (segmentLevel (length segment)) segment (omega (arith, segment-sized .level-low)))
+  commitment-clean = clear-node (segmentCommitment segment) (commitment-clear (segmentLevel (length segment)) (areaBytes segment) (omega (arith, segment-sized .level-low)))
 
-  half-clear : noStrayBits (splice deal o segment) ≡ true
+  half-clear : noStrayBits (splice deal o (areaBytes segment)) ≡ true
   half-clear =
       let n : ℕ = area (length segment) in
       let nodes : ℕ = 2 ^ segmentLevel (length segment) in
       let q : ℕ = o / n * nodes in
-      let size : length segment ≡ nodes * 32 = omega (arith, area-own (length segment), segment-sized .area-is) in
+      let size : length (areaBytes segment) ≡ nodes * 32 = omega (arith, area-all, segment-sized .area-is) in
       let at : o ≡ q * 32 = multiple o n (facts .free-place .aligned) ∙ ap (λ (m : ℕ). o / n * m) (segment-sized .area-is) ∙ omega arith in
-      ap (λ (m : ℕ). noStrayBits (splice deal m segment)) at
-      ∙ splice-clear deal segment q nodes size (omega (arith, segment-in)) (facts .unkept .bookable .deal-clear) (facts .unkept .bookable .segment-clear)
+      ap (λ (m : ℕ). noStrayBits (splice deal m (areaBytes segment))) at
+      ∙ splice-clear deal (areaBytes segment) q nodes size (omega (arith, area-in)) (facts .unkept .bookable .deal-clear) (facts .unkept .bookable .segment-clear)
 
   pub booked-clear : noStrayBits (bookedDeal deal segment) ≡ true
   unfolding slotPlace
@@ -179,8 +193,8 @@ module _ (deal segment : List ℕ) (i o : ℕ) (e : decision deal segment ≡ pl
       let q : ℕ = indexStart (length deal) / 32 + 2 * i in
       let at : slotPlace (length deal) i ≡ q * 32 = omega arith in
       ap noStrayBits booked-is
-      ∙ ap (λ (m : ℕ). noStrayBits (splice (splice deal o segment) m (newEntry segment o))) at
-      ∙ splice-clear (splice deal o segment) (newEntry segment o) q 2 entry-64 (omega (arith, entry-in)) half-clear
+      ∙ ap (λ (m : ℕ). noStrayBits (splice (splice deal o (areaBytes segment)) m (newEntry segment o))) at
+      ∙ splice-clear (splice deal o (areaBytes segment)) (newEntry segment o) q 2 entry-64 (omega (arith, entry-in)) half-clear
       (made-clear (segmentCommitment segment) o (length segment) commitment-32 commitment-clean)
 
   -- a standing entry's area is as it was
@@ -243,8 +257,8 @@ module _ (deal segment : List ℕ) (i o : ℕ) (e : decision deal segment ≡ pl
   keeps-written =
       let new : List ℕ = slotAt (bookedDeal deal segment) i in
       let size : eqb (sizeIn new) (length segment) ≡ true = eq-eqb (sizeIn new) (length segment) size-written in
-      let bytes : sameBytes (part (bookedDeal deal segment) (offsetIn new) (area (length segment))) segment ≡ true =
-      same-of (part (bookedDeal deal segment) (offsetIn new) (area (length segment))) segment
+      let bytes : sameBytes (part (bookedDeal deal segment) (offsetIn new) (area (length segment))) (areaBytes segment) ≡ true =
+      same-of (part (bookedDeal deal segment) (offsetIn new) (area (length segment))) (areaBytes segment)
       (ap (λ (at : ℕ). part (bookedDeal deal segment) at (area (length segment))) offset-written ∙ segment-written) in
       rw (kept-written, size, bytes)
 
@@ -253,17 +267,17 @@ module _ (deal segment : List ℕ) (i o : ℕ) (e : decision deal segment ≡ pl
   keeps-same other j h ne =
       let was : List ℕ = slotAt deal j in
       let n : ℕ = length other in
-      ap₂ (λ (k : Bool) (s : List ℕ). k && (eqb (sizeIn s) n && sameBytes (part (bookedDeal deal segment) (offsetIn s) (area n)) other)) (kept-same j h ne) (slot-same j h ne)
+      ap₂ (λ (k : Bool) (s : List ℕ). k && (eqb (sizeIn s) n && sameBytes (part (bookedDeal deal segment) (offsetIn s) (area n)) (areaBytes other))) (kept-same j h ne) (slot-same j h ne)
       ∙ and-same (kept (nodeAt deal) (length deal) was)
-      (eqb (sizeIn was) n && sameBytes (part (bookedDeal deal segment) (offsetIn was) (area n)) other)
-      (eqb (sizeIn was) n && sameBytes (part deal (offsetIn was) (area n)) other)
+      (eqb (sizeIn was) n && sameBytes (part (bookedDeal deal segment) (offsetIn was) (area n)) (areaBytes other))
+      (eqb (sizeIn was) n && sameBytes (part deal (offsetIn was) (area n)) (areaBytes other))
       (λ k.
-      and-same (eqb (sizeIn was) n) (sameBytes (part (bookedDeal deal segment) (offsetIn was) (area n)) other) (sameBytes (part deal (offsetIn was) (area n)) other)
+      and-same (eqb (sizeIn was) n) (sameBytes (part (bookedDeal deal segment) (offsetIn was) (area n)) (areaBytes other)) (sameBytes (part deal (offsetIn was) (area n)) (areaBytes other))
       (λ t.
       let z : sizeIn was ≡ n = eqb-true (sizeIn was) n t in
       let a : part (bookedDeal deal segment) (offsetIn was) (area (sizeIn was)) ≡ part deal (offsetIn was) (area (sizeIn was)) =
       area-same j h (kept-stands (nodeAt deal) (length deal) was k) in
-      ap (λ (l : List ℕ). sameBytes l other) (rw z at a)))
+      ap (λ (l : List ℕ). sameBytes l (areaBytes other)) (rw z at a)))
 
   -- and keeps no other
   pub keeps-only : (other : List ℕ) → keepsSegment (bookedDeal deal segment) other i ≡ true → segment ≡ other
@@ -272,11 +286,12 @@ module _ (deal segment : List ℕ) (i o : ℕ) (e : decision deal segment ≡ pl
       let new : List ℕ = slotAt (bookedDeal deal segment) i in
       let k : Bool = kept (nodeAt (bookedDeal deal segment)) (length (bookedDeal deal segment)) new in
       let size : Bool = eqb (sizeIn new) (length other) in
-      let bytes : Bool = sameBytes (part (bookedDeal deal segment) (offsetIn new) (area (length other))) other in
+      let bytes : Bool = sameBytes (part (bookedDeal deal segment) (offsetIn new) (area (length other))) (areaBytes other) in
       let both : (size && bytes) ≡ true = and-right k (size && bytes) t in
       let n : length segment ≡ length other = sym size-written ∙ eqb-true (sizeIn new) (length other) (and-left size bytes both) in
-      let b : part (bookedDeal deal segment) (offsetIn new) (area (length other)) ≡ other = same-true (part (bookedDeal deal segment) (offsetIn new) (area (length other))) other (and-right size bytes both) in
-      sym segment-written ∙ ap₂ (λ (at m : ℕ). part (bookedDeal deal segment) at (area m)) (sym offset-written) n ∙ b
+      let b : part (bookedDeal deal segment) (offsetIn new) (area (length other)) ≡ areaBytes other = same-true (part (bookedDeal deal segment) (offsetIn new) (area (length other))) (areaBytes other) (and-right size bytes both) in
+      filled-only (area (length segment)) (area (length other)) segment other n
+      (sym segment-written ∙ ap₂ (λ (at m : ℕ). part (bookedDeal deal segment) at (area m)) (sym offset-written) n ∙ b)
 
   -- what else could be booked can be so afterwards, as far as sizes and stray bits go
   pub bookable-stays : (other : List ℕ) → Bookable deal other → Bookable (bookedDeal deal segment) other

@@ -9,8 +9,9 @@ ghost use mathlib.Core.Path.{_≡_};
 ghost use Prim.Native.Nat.{_+_, _≤_};
 ghost use lib.ListN.{length};
 ghost use Rattle.octets.specs.Splice.{splice};
+ghost use Rattle.entries.specs.Sizes.{area};
 ghost use Rattle.entries.specs.Entry.{entryOf};
-ghost use Rattle.booking.specs.Booking.{segmentCommitment, bookAnswer, bookedDeal};
+ghost use Rattle.booking.specs.Booking.{areaBytes, segmentCommitment, bookAnswer, bookedDeal};
 ghost use Rattle.booking.specs.BookingLaws.{Bookable};
 
 // A refusal.
@@ -55,19 +56,22 @@ fn place_for(deal: &[u8], segment: &[u8], commitment: [u8; 32]) -> Booked
     }
 }
 
-// Writes a segment and its entry.
+// Writes a segment, zeros after it to its area's end, and its entry.
 fn write_segment(deal: &mut [u8], segment: &[u8], commitment: [u8; 32], offset: u64, place: u64)
-    requires { ⌜ (offset + length (now segment) ≤ length (now deal)) × (place + 64 ≤ length (now deal)) ⌝ }
-    ensures { λ _. ⌜ now (deal .exit) ≡ splice (splice (now (deal .entry)) offset (now (segment .entry))) place (entryOf commitment offset (length (now (segment .entry)))) ⌝ }
+    requires { ⌜ (length (now segment) ≤ area (length (now segment))) × (offset + area (length (now segment)) ≤ length (now deal)) × (place + 64 ≤ length (now deal)) ⌝ }
+    ensures { λ _. ⌜ now (deal .exit) ≡ splice (splice (now (deal .entry)) offset (areaBytes (now (segment .entry)))) place (entryOf commitment offset (length (now (segment .entry)))) ⌝ }
 {
-    let entry = entries::entry_of(commitment, offset, segment.len() as u64);
-    octets::put(deal, offset as usize, segment);
+    let size = segment.len() as u64;
+    let entry = entries::entry_of(commitment, offset, size);
+    let area = entries::area(size) as usize;
+    octets::put_filled(deal, offset as usize, segment, area);
     octets::put_pair(deal, place as usize, entry);
 }
 
-// Books a segment in a lent deal: the segment and its entry are written, and no other byte changes. 2 for a deal size that is
-// not allowed, 4 for a segment size that is not allowed in it, 11 for stray bits in either, 15 with offset and entry place of a
-// slot that keeps the segment already, 13 for no free slot, 14 for no free place; on a refusal nothing is written.
+// Books a segment in a lent deal: the segment, zeros after it to its area's end, and its entry are written, and no other byte
+// changes. 2 for a deal size that is not allowed, 4 for a segment size that is not allowed in it, 11 for stray bits in either, 15
+// with offset and entry place of a slot that keeps the segment already, 13 for no free slot, 14 for no free place; on a refusal
+// nothing is written.
 pub fn book(deal: &mut [u8], segment: &[u8]) -> Booked
     ensures { λ r. ⌜ (r ≡ bookAnswer (now (deal .entry)) (now (segment .entry))) × (now (deal .exit) ≡ bookedDeal (now (deal .entry)) (now (segment .entry))) ⌝ }
 {
@@ -84,7 +88,7 @@ pub fn book(deal: &mut [u8], segment: &[u8]) -> Booked
     if !merkle::no_stray_bits(segment) {
         return refused(11);
     }
-    let commitment = merkle::root(segment, entries::segment_level(size));
+    let commitment = merkle::root_of_filled(segment, entries::segment_level(size));
     let answer = place_for(deal, segment, commitment);
     if answer.code == 0 {
         write_segment(deal, segment, commitment, answer.offset, answer.place);

@@ -12,7 +12,8 @@ ghost use Rattle.booking.specs.Booking.{keepsSegment, segmentCommitment}
 ghost use Rattle.booking.specs.Gather.{Gathered, asLowest};
 
 // Whether slot i of a lent deal keeps the segment: its entry stands and has the segment's size and commitment, and exactly the
-// segment's bytes are at its offset. The commitment of those bytes is then the segment's: the deal is not hashed.
+// segment's bytes, with zeros after them to the area's end, are at its offset. The commitment of those bytes is then the segment's:
+// the deal is not hashed.
 fn slot_keeps(deal: &[u8], segment: &[u8], commitment: [u8; 32], ranges: Ranges, i: usize) -> bool
     requires { ⌜ lentSizeAllowed (length (now deal)) ≡ true ⌝ }
     requires { ⌜ segmentSizeAllowed (length (now deal)) (length (now segment)) ≡ true ⌝ }
@@ -22,7 +23,8 @@ fn slot_keeps(deal: &[u8], segment: &[u8], commitment: [u8; 32], ranges: Ranges,
     ensures { λ r. ⌜ r ≡ keepsSegment (now (deal .entry)) (now (segment .entry)) i ⌝ }
 {
     let size = segment.len() as u64;
-    if ranges.areas[i] != entries::area(size) {
+    let area = entries::area(size);
+    if ranges.areas[i] != area {
         return false;
     }
     let place = entries::slot_place(deal.len() as u64, i as u64) as usize;
@@ -33,7 +35,7 @@ fn slot_keeps(deal: &[u8], segment: &[u8], commitment: [u8; 32], ranges: Ranges,
         return false;
     }
     let offset = ranges.offsets[i] as usize;
-    octets::same_at(deal, offset, segment)
+    octets::same_filled(deal, offset, segment, area as usize)
 }
 
 // The lowest slot of a lent deal that keeps the segment.

@@ -4,7 +4,7 @@ use Prim.Native.Nat.{ℕ, _^_}
 use mathlib.Core.List.{[], _∷_}
 use lib.Count.{ones, trailingZeros}
 use Rattle.octets.specs.Refusals.{rule, firstRefusal}
-use Rattle.entries.specs.Sizes.{segmentSizeAllowed, area, entryCount, indexStart, offsetAllowed, placeAllowed, dealLevel, segmentLevel}
+use Rattle.entries.specs.Sizes.{segmentSizeAllowed, area, doubledTo, entryCount, indexStart, offsetAllowed, placeAllowed, dealLevel, segmentLevel}
 use Rattle.build.specs.Encode.{recordLength}
 
 -- rules 4 to 6 of the check, for a deal size, a segment size and offset, and an entry place
@@ -40,5 +40,13 @@ Table =
     × (numbersCode 512 128 0 300 ≡ 6)
 
 pub table : Table
-unfolding Table entryCount indexStart segmentSizeAllowed offsetAllowed placeAllowed area recordLength numbersCode dealLevel segmentLevel ones trailingZeros
+unfolding Table entryCount indexStart segmentSizeAllowed offsetAllowed placeAllowed area doubledTo recordLength numbersCode dealLevel segmentLevel ones trailingZeros
 table = (refl, refl, refl, refl, refl, refl, refl, refl, refl, refl, refl, refl, refl, refl, refl, refl, refl)
+
+-- Document 02, request (iii): 127, 128 and 255 raw bytes have the sizes 128, 130 and 258 before the zero trailer; their areas
+pub Areas : Type 0
+Areas = (area 128 ≡ 128) × (area 130 ≡ 256) × (area 258 ≡ 512)
+
+pub areas : Areas
+unfolding Areas area doubledTo
+areas = (refl, refl, refl)

@@ -1,3 +1,4 @@
 pub mod OffsetTest
 pub mod Written
 pub mod OneNode
+pub mod Doubling

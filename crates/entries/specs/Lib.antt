@@ -1,4 +1,5 @@
 pub mod Sizes
+pub mod AreaLaws
 pub mod Numbers
 pub mod Checksum
 pub mod Entry

@@ -1,7 +1,8 @@
 -- Allowed sizes, offsets and places (document 01, "Numbers that bound the work" and "Entries and the index area").
 use mathlib.Core.Bool.{Bool, _&&_}
-use Prim.Native.Nat.{ℕ, _+_, _-_, _*_, _/_, _%_, _^_, max}
+use Prim.Native.Nat.{ℕ, zero, suc, _+_, _-_, _*_, _/_, _%_, _^_, max}
 use lib.Dec.{eqb, leb, ltb}
+use Rattle.octets.specs.Choice.{choose}
 use Rattle.pow2.specs.Power.{isPower, height}
 
 -- a deal size D that a record may be checked against: a power of two from 512 to 2 ^ 36
@@ -12,13 +13,19 @@ dealSizeAllowed d = leb 512 d && (leb d (2 ^ 36) && isPower d)
 unfoldable pub lentSizeAllowed : ℕ → Bool
 lentSizeAllowed d = leb 512 d && (leb d (2 ^ 24) && isPower d)
 
--- the bytes that a segment of a size takes up in the deal
-unfoldable pub area : ℕ → ℕ
-area size = size
+-- a number doubled until it is at or above the size, at most n times
+unfoldable pub doubledTo : ℕ → ℕ → ℕ → ℕ
+doubledTo zero a size = a
+doubledTo (suc n) a size = choose (leb size a) a (doubledTo n (2 * a) size)
 
--- a segment size S: a power of two from 128 to D / 2
+-- the bytes that a segment of a size takes up in the deal: the smallest power of two at or above both the size and 128 (document 02,
+-- request (iii); SizesLaws.area-least). 28 doublings reach 2 ^ 35, half of the largest deal
+unfoldable pub area : ℕ → ℕ
+area size = doubledTo 28 128 size
+
+-- a segment size T, before the zero trailer: from 1 to D / 2 (document 02, request (iii))
 unfoldable pub segmentSizeAllowed : ℕ → ℕ → Bool
-segmentSizeAllowed d size = leb 128 size && (leb size (d / 2) && isPower size)
+segmentSizeAllowed d size = leb 1 size && leb size (d / 2)
 
 -- the number of index entries
 unfoldable pub entryCount : ℕ → ℕ
@@ -47,7 +54,7 @@ dealLevel d = height d - 5
 unfoldable pub segmentLevel : ℕ → ℕ
 segmentLevel size = height (area size) - 5
 
--- the number of nodes of the two paths: log2 (D / S), and log2 (D / 64)
+-- the number of nodes of the two paths: log2 (D / A) for the segment's area A, and log2 (D / 64)
 abbrev pub segmentPathLevels : ℕ → ℕ → ℕ
 segmentPathLevels d size = dealLevel d - segmentLevel size
 

@@ -1,28 +1,17 @@
--- What allowed sizes, offsets and places say about levels and positions. Only this file opens `area` and the powers of two.
-use mathlib.Core.Path.{_≡_, refl, sym, ap, _∙_, subst}
-use mathlib.Core.Bool.{Bool, true, false, _&&_}
+-- What allowed sizes, offsets and places say about levels and positions. Only this file opens the powers of two.
+use mathlib.Core.Path.{_≡_, sym, ap, _∙_, subst}
+use mathlib.Core.Bool.{true, _&&_}
 use Prim.Native.Nat.{ℕ, suc, _+_, _-_, _*_, _/_, _%_, _^_, _≤_, _<_}
 use native.Mathlib.Nat.{pow-suc, div-add-mod', add-zero}
 use native.Mathlib.Omega.{arith}
 use lib.Dec.{eqb, leb, ltb}
 use lib.Pow.{pow-pos, pow-mono, pow-add, shr-lt}
-use borrow.Author.Tests.{eqb-true, eq-eqb, leb-true, leb-false, ltb-true, le-leb, lt-ltb}
+use borrow.Author.Tests.{eqb-true, eq-eqb, leb-true, ltb-true, le-leb, lt-ltb}
 use Rattle.octets.specs.RefusalLaws.{and-left, and-right}
 use Rattle.pow2.specs.Power.{isPower, height}
-use Rattle.pow2.specs.PowerLaws.{power-is}
+use Rattle.pow2.specs.PowerLaws.{power-is, height-pow}
+use Rattle.entries.specs.AreaLaws.{exponent-le, area-doubled, area-is-doubled}
 use Rattle.entries.specs.Sizes.{dealSizeAllowed, lentSizeAllowed, area, segmentSizeAllowed, entryCount, indexStart, offsetAllowed, placeAllowed, slotPlace, dealLevel, segmentLevel, segmentPathLevels, entryPathLevels, segmentPosition, entryPosition}
-
-exponent-le : (m h : ℕ) → 2 ^ m ≤ 2 ^ h → m ≤ h
-exponent-le m h k = go (leb m h) refl
-  where
-    go : (t : Bool) → leb m h ≡ t → m ≤ h
-    go true e = leb-true m h e
-    go false e =
-        let l : suc h ≤ m = leb-false m h e in
-        let a : 2 ^ suc h ≤ 2 ^ m = pow-mono l in
-        let b = pow-suc 2 h in
-        let c = pow-pos h in
-        absurd (omega arith)
 
 -- a power of two of at least one node
 node-power : (n h : ℕ) → 32 ≤ n → n ≡ 2 ^ h → (n ≡ 32 * 2 ^ (h - 5)) × (5 ≤ h)
@@ -80,6 +69,13 @@ lent-size d e =
     let a : (leb 512 d && (leb d (2 ^ 36) && isPower d)) ≡ true = rw (le-leb 512 d l, le-leb d (2 ^ 36) (omega arith), p) in
     record { allowed = a; deal = deal-size d a; lent-high = u; lent-level = omega (arith, s .2) }
 
+half-power : (d h : ℕ) → 4 ≤ h - 5 → d ≡ 32 * 2 ^ (h - 5) → d / 2 ≡ 2 ^ (h - 1)
+half-power d h l e =
+    let w = power-32 (h - 5) in
+    let v : 2 ^ (5 + (h - 5)) ≡ 2 ^ suc (h - 1) = ap (λ (m : ℕ). 2 ^ m) (omega arith) in
+    let p = pow-suc 2 (h - 1) in
+    omega arith
+
 -- an allowed segment size for a deal size
 pub record SegmentSize (d size : ℕ) : Type 0 where
   pub area-is : area size ≡ 32 * 2 ^ segmentLevel size
@@ -90,26 +86,31 @@ pub record SegmentSize (d size : ℕ) : Type 0 where
   pub size-area : size ≤ area size
 
 pub segment-size : (d size : ℕ) → DealSize d → segmentSizeAllowed d size ≡ true → SegmentSize d size
-unfolding segmentSizeAllowed area segmentLevel dealLevel
+unfolding segmentSizeAllowed segmentLevel dealLevel
 segment-size d size t e =
-    let l : 128 ≤ size = leb-true 128 size (and-left (leb 128 size) (leb size (d / 2) && isPower size) e) in
-    let q = and-right (leb 128 size) (leb size (d / 2) && isPower size) e in
-    let u : size ≤ d / 2 = leb-true size (d / 2) (and-left (leb size (d / 2)) (isPower size) q) in
-    let p : isPower size ≡ true = and-right (leb size (d / 2)) (isPower size) q in
-    let dh : d ≤ 2 ^ 36 = t .size-high in
+    let u : size ≤ d / 2 = leb-true size (d / 2) (and-right (leb 1 size) (leb size (d / 2)) e) in
     let hd : d ≡ 32 * 2 ^ (height d - 5) = t .is-power in
-    let hz : size ≡ 2 ^ height size = power-is size (omega arith) p .0 in
-    let n = node-power size (height size) (omega arith) hz in
-    let n5 : 5 ≤ height size = n .1 in
-    let n7 : 7 ≤ height size = exponent-le 7 (height size) (omega arith) in
-    let two = pow-suc 2 (height size - 5) in
-    let up : suc (height size - 5) ≤ height d - 5 = exponent-le (suc (height size - 5)) (height d - 5) (omega (arith, n .0)) in
-    record { area-is = n .0; level-low = omega arith; below-deal = up; area-low = l; area-half = u; size-area = omega arith }
-
--- a segment takes up its own bytes and no others
-pub area-own : (size : ℕ) → area size ≡ size
-unfolding area
-area-own size = refl
+    let dl : 4 ≤ height d - 5 = t .level-low in
+    let dh : height d - 5 ≤ 31 = t .level-high in
+    let half = half-power d (height d) dl hd in
+    let a = area-doubled size in
+    let j : ℕ = a .exponent in
+    let p : area size ≡ 2 ^ j = area-is-doubled size in
+    let low : 7 ≤ j = a .low in
+    let up : j ≤ height d - 1 = a .least (height d - 1) (omega arith) (omega arith) in
+    let in-half : 2 ^ j ≤ 2 ^ (height d - 1) = pow-mono up in
+    let over-128 : 2 ^ 7 ≤ 2 ^ j = pow-mono low in
+    let in-35 : 2 ^ (height d - 1) ≤ 2 ^ 35 = pow-mono {i = height d - 1} {j = 35} (omega arith) in
+    let h : height (area size) ≡ j = ap height p ∙ height-pow j (omega arith) in
+    let n = node-power (area size) (height (area size)) (omega arith) (p ∙ ap (λ (m : ℕ). 2 ^ m) (sym h)) in
+    record {
+      area-is = n .0;
+      level-low = omega arith;
+      below-deal = omega arith;
+      area-low = omega arith;
+      area-half = omega arith;
+      size-area = omega (arith, a .reaches (omega arith));
+    }
 
 pub index-start-le : (d : ℕ) → indexStart d ≤ d
 unfolding indexStart

@@ -14,7 +14,11 @@ const SMALLEST_LENT_DEAL: usize = 512;
 
 const LARGEST_LENT_DEAL: usize = 16777216; // 2 ^ 24
 
-const SMALLEST_SEGMENT: u64 = 128;
+const SMALLEST_SEGMENT: u64 = 1;
+
+const SMALLEST_AREA: u64 = 128;
+
+const DOUBLINGS: u64 = 28; // from the smallest area to 2 ^ 35, half of the largest deal
 
 // Whether a record may be checked against a deal of d bytes: a power of two from 512 to 2 ^ 36.
 pub fn deal_size_allowed(d: u64) -> bool
@@ -30,18 +34,28 @@ pub fn lent_size_allowed(d: usize) -> bool
     SMALLEST_LENT_DEAL <= d && (d <= LARGEST_LENT_DEAL && pow2::is_power_of_two_usize(d))
 }
 
-// The bytes that a segment of a size takes up in the deal.
+// The bytes that a segment of a size takes up in the deal: the smallest power of two at or above both the size and 128, and for
+// sizes over 2 ^ 35, which are in no deal, 2 ^ 35.
 pub fn area(size: u64) -> u64
     ensures { λ r. ⌜ r ≡ area size ⌝ }
 {
-    size
+    let mut taken = SMALLEST_AREA;
+    let mut i: u64 = 0;
+    while i < DOUBLINGS {
+        if size <= taken {
+            return taken;
+        }
+        taken = 2 * taken;
+        i += 1;
+    }
+    taken
 }
 
-// Whether a segment may have this size in a deal of d bytes: a power of two from 128 to d / 2.
+// Whether a segment may have this size, before its zero trailer, in a deal of d bytes: from 1 to d / 2.
 pub fn segment_size_allowed(d: u64, size: u64) -> bool
     ensures { λ r. ⌜ r ≡ segmentSizeAllowed d size ⌝ }
 {
-    SMALLEST_SEGMENT <= size && (size <= d / 2 && pow2::is_power_of_two(size))
+    SMALLEST_SEGMENT <= size && size <= d / 2
 }
 
 // The number of index entries of a deal of d bytes.

@@ -22,7 +22,8 @@ slotAt deal i = entryAt deal (slotPlace (length deal) i)
 unfoldable pub standing : ℕ → List ℕ → Bool
 standing d entry = checksumRight entry && (segmentSizeAllowed d (sizeIn entry) && offsetAllowed d (offsetIn entry) (sizeIn entry))
 
--- kept: standing, and the commitment is that of the bytes at the offset, by a source of the deal's nodes
+-- kept: standing, and the commitment is that of the whole area at the offset, by a source of the deal's nodes. What stands there after the segment's size
+-- is not asked to be zeros (docs/DECISIONS.md, request (iii))
 unfoldable pub kept : NodeSource → ℕ → List ℕ → Bool
 kept nodes d entry =
     standing d entry && sameBytes (nodes (segmentLevel (sizeIn entry)) (segmentPosition (offsetIn entry) (sizeIn entry))) (commitmentIn entry)

@@ -1,2 +1,3 @@
 mod Cuts
 mod Quarters
+mod FilledParts

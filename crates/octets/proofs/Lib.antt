@@ -1,3 +1,4 @@
 pub mod EqualityLoops
 pub mod CopyLoops
 pub mod NumberLoops
+pub mod Filling

@@ -1,8 +1,9 @@
 -- What the tests on byte strings say.
 use mathlib.Core.Path.{_≡_, refl, sym, ap, ap₂, _∙_}
-use mathlib.Core.Bool.{true, false, _&&_, true≢false}
+use mathlib.Core.Bool.{Bool, true, false, _&&_, true≢false}
 use Prim.Native.Nat.{ℕ}
-use mathlib.Core.List.{List, [], _∷_}
+use mathlib.Core.List.{List, [], _∷_, _++_}
+use native.Mathlib.Omega.{arith}
 use lib.Dec.{eqb}
 use lib.ListN.{length, replicate}
 use borrow.Author.Tests.{eqb-true, eq-eqb}
@@ -32,3 +33,22 @@ pub zero-true : (v : List ℕ) → allZero v ≡ true → v ≡ replicate (lengt
 unfolding allZero
 zero-true [] e = refl
 zero-true (x ∷ xs) e = ap₂ _∷_ (eqb-true x 0 (and-left (eqb x 0) (allZero xs) e)) (zero-true xs (and-right (eqb x 0) (allZero xs) e))
+
+-- zeros, as a comparison
+pub zero-same : (v : List ℕ) → allZero v ≡ sameBytes v (replicate (length v) 0)
+unfolding allZero sameBytes
+zero-same [] = refl
+zero-same (x ∷ xs) = ap (λ (b : Bool). eqb x 0 && b) (zero-same xs)
+
+-- strings in two pieces, the first ones of one length
+and-assoc : (a b c : Bool) → (a && (b && c)) ≡ (a && b && c)
+and-assoc true b c = refl
+and-assoc false b c = refl
+
+pub same-append : (a b x y : List ℕ) → length a ≡ length x → sameBytes (a ++ b) (x ++ y) ≡ (sameBytes a x && sameBytes b y)
+unfolding sameBytes
+same-append [] b [] y l = refl
+same-append [] b (z ∷ x) y l = absurd (omega arith)
+same-append (c ∷ a) b [] y l = absurd (omega arith)
+same-append (c ∷ a) b (z ∷ x) y l =
+    ap (λ (t : Bool). eqb c z && t) (same-append a b x y (omega arith)) ∙ and-assoc (eqb c z) (sameBytes a x) (sameBytes b y)

@@ -8,5 +8,7 @@ pub mod LittleEndian
 pub mod LittleEndianLaws
 pub mod Splice
 pub mod SpliceLaws
+pub mod Fill
+pub mod FillLaws
 pub mod Search
 pub mod SearchLaws

@@ -1,4 +1,9 @@
 // Byte strings: equality, copies, little-endian numbers.
+mod fill; // fill.rt: strings filled with zeros
+
+pub use fill::last_node;
+pub use fill::put_filled;
+pub use fill::same_filled;
 ghost use mathlib.Core.Path.{_≡_};
 ghost use Prim.Native.Nat.{_+_, _≤_};
 ghost use mathlib.Core.List.{_++_};

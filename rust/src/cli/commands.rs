@@ -111,7 +111,7 @@ fn book(deal: &Stream, segment: &Stream) -> Result<Answer, Failure> {
         Ok(Booking::AlreadyKept(position)) => (Answer::refused(Refusal::ALREADY_KEPT), position),
         Err(Refusal::SEGMENT_SIZE) => {
             let half = old.content.bytes.len() / 2;
-            let note = format!("{}; a segment here has a power of two from 128 to {half} bytes", segment.described());
+            let note = format!("{}; a segment here has 1 to {half} bytes", segment.described());
             return Ok(Answer::refused(Refusal::SEGMENT_SIZE).with_note(note));
         }
         Err(refusal) => return Ok(refused(refusal, &old.content)),
@@ -120,18 +120,19 @@ fn book(deal: &Stream, segment: &Stream) -> Result<Answer, Failure> {
         old.replace(&old.content.bytes)?;
     }
     drop(progress);
-    Ok(positioned(answer, position, &segment.bytes))
+    Ok(positioned(answer, position, &old.content.bytes))
 }
 
-/// Adds where a booked segment is, its size and its commitment.
-fn positioned(answer: Answer, position: Position, segment: &[u8]) -> Answer {
+/// Adds where a booked segment is, and its size and commitment as its entry in the deal says them.
+fn positioned(answer: Answer, position: Position, deal: &[u8]) -> Answer {
     let answer = answer
         .with_value("offset", Json::Number(position.offset))
-        .with_value("place", Json::Number(position.place))
-        .with_value("size", Json::Number(segment.len() as u64));
-    match vizhuthamen::commitment(segment) {
-        Ok(node) => answer.with_value("commitment", text(node)),
-        Err(_) => answer,
+        .with_value("place", Json::Number(position.place));
+    match vizhuthamen::inspect(deal, position.place) {
+        Ok(Slot::Kept(entry)) => answer
+            .with_value("size", Json::Number(entry.size))
+            .with_value("commitment", text(entry.commitment)),
+        _ => answer,
     }
 }
 

@@ -40,8 +40,9 @@ are judged as they arrive: a node with stray bits gets code 11 at once, whatever
         takes_output: false,
         summary: "book a segment file into a deal file",
         text: "Books the bytes of SEGMENT, already padded (Fr32), into the file DEAL, and prints offset, entry place, size and
-commitment. The size is a power of two from 128 to half of the deal. A segment that the deal keeps already
-gets code 15, with its offset and entry place; the deal is not changed by any code but 0.
+commitment. The size is from 1 byte to half of the deal; zeros follow up to the segment's area, the smallest
+power of two at or above both the size and 128. A segment that the deal keeps already gets code 15, with its
+offset and entry place; the deal is not changed by any code but 0.
 
 The new deal is written to a file .vizhuthamen.* beside DEAL, flushed to the disk and renamed over DEAL, with
 its permissions. DEAL is the old or the new deal at any moment, never a part of either. A booking that is

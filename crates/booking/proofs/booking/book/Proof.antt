@@ -1,16 +1,12 @@
 use mathlib.Core.Path.{_≡_, sym, ap, _∙_}
 use mathlib.Core.Bool.{Bool, true, false, _&&_}
-use Prim.Native.Nat.{ℕ, _*_, _^_}
-use lib.ListN.{length}
 use denote.Ref.{now}
 use borrow.Author.Tests.{not-true, not-false}
 use borrow.Author.Needs.{needs}
 use Rattle.merkle.specs.StrayBits.{noStrayBits}
-use Rattle.merkle.specs.Tree.{commitmentOf}
-use Rattle.entries.specs.SizesLaws.{area-own}
-use Rattle.booking.specs.Booking.{segmentCommitment}
+use Rattle.booking.specs.Booking.{areaBytes, segmentCommitment}
 use Rattle.booking.specs.BookingLaws.{Bookable, bookable-segment}
-use Rattle.booking.proofs.Deciding.{refused-2, refused-4, refused-11, segment-within, entry-within, deal-written, deal-kept}
+use Rattle.booking.proofs.Deciding.{area-clear, level-fits, commitment-by, refused-2, refused-4, refused-11, size-within, area-within, entry-within, deal-written, deal-kept}
 use Rattle.booking.proofs.booking.book.Statement.{statement}
 use Rattle.booking.proofs.booking.book.Tie as tie
 
@@ -64,7 +60,7 @@ returns-3 c =
     let r = refused-11 deal segment (c .refused3 .result) (c .refused3 .ensures)
     (sym (l .lent-size-allowed .ensures) ∙ not-false _ (z .before .if1 .left))
     (sym (z .segment-size-allowed .ensures) ∙ not-false _ (n .before .before .if2 .left))
-    (ap (λ (b : Bool). b && noStrayBits segment) stray) in
+    (ap (λ (b : Bool). b && noStrayBits (areaBytes segment)) stray) in
     (r .answered, r .unchanged)
 
 no-stray-bits-requires-2 : tie.Need-no-stray-bits-requires-2
@@ -85,12 +81,11 @@ returns-4 c =
     let s = l .before .before .before in
     let deal = now (s .args .deal) in
     let segment = now (s .args .segment) in
+    let deal-fits = sym (l .lent-size-allowed .ensures) ∙ not-false _ (z .before .if1 .left) in
+    let segment-fits = sym (z .segment-size-allowed .ensures) ∙ not-false _ (n .before .before .if2 .left) in
     let clear : noStrayBits deal ≡ true = sym (n .no-stray-bits .ensures) ∙ not-false _ (m .before .if3 .left) in
-    let stray : noStrayBits segment ≡ false = sym (m .no-stray-bits2 .ensures) ∙ not-true _ (c .before .if4 .taken) in
-    let r = refused-11 deal segment (c .refused4 .result) (c .refused4 .ensures)
-    (sym (l .lent-size-allowed .ensures) ∙ not-false _ (z .before .if1 .left))
-    (sym (z .segment-size-allowed .ensures) ∙ not-false _ (n .before .before .if2 .left))
-    (rw (clear, stray)) in
+    let stray : noStrayBits (areaBytes segment) ≡ false = area-clear deal segment deal-fits segment-fits ∙ sym (m .no-stray-bits2 .ensures) ∙ not-true _ (c .before .if4 .taken) in
+    let r = refused-11 deal segment (c .refused4 .result) (c .refused4 .ensures) deal-fits segment-fits (rw (clear, stray)) in
     (r .answered, r .unchanged)
 
 -- nothing is refused
@@ -102,11 +97,14 @@ bookable c =
     let n = m .before .before in
     let z = n .before .before .before in
     let l = z .before .before in
+    let s = l .before .before .before in
+    let deal-fits = sym (l .lent-size-allowed .ensures) ∙ not-false _ (z .before .if1 .left) in
+    let segment-fits = sym (z .segment-size-allowed .ensures) ∙ not-false _ (n .before .before .if2 .left) in
     record {
-      deal-allowed = sym (l .lent-size-allowed .ensures) ∙ not-false _ (z .before .if1 .left);
-      segment-allowed = sym (z .segment-size-allowed .ensures) ∙ not-false _ (n .before .before .if2 .left);
+      deal-allowed = deal-fits;
+      segment-allowed = segment-fits;
       deal-clear = sym (n .no-stray-bits .ensures) ∙ not-false _ (m .before .if3 .left);
-      segment-clear = sym (m .no-stray-bits2 .ensures) ∙ not-false _ (c .if4 .left);
+      segment-clear = area-clear (now (s .args .deal)) (now (s .args .segment)) deal-fits segment-fits ∙ sym (m .no-stray-bits2 .ensures) ∙ not-false _ (c .if4 .left);
     }
 
 segment-level-requires : tie.Need-segment-level-requires
@@ -114,21 +112,19 @@ segment-level-requires c κs =
     let s = c .before .before .before .before .before .before .before .before .before .before .before in
     bookable-segment (now (s .args .deal)) (now (s .args .segment)) (bookable c) .level-low
 
-root-requires : tie.Need-root-requires
-root-requires c κs =
+root-of-filled-requires : tie.Need-root-of-filled-requires
+root-of-filled-requires c κs =
     let f = c .before in
     let s = f .before .before .before .before .before .before .before .before .before .before .before in
-    let segment = now (s .args .segment) in
-    sym (area-own (length segment)) ∙ bookable-segment (now (s .args .deal)) segment (bookable f) .area-is ∙ ap (λ (n : ℕ). 32 * 2 ^ n) (sym (c .segment-level .ensures))
+    level-fits (now (s .args .deal)) (now (s .args .segment)) (bookable f) (c .segment-level .result) (c .segment-level .ensures)
 
-commitment-is : (c : tie.After-root)
+commitment-is : (c : tie.After-root-of-filled)
     → let s = c .before .before .before .before .before .before .before .before .before .before .before .before .before in
-    c .root .result ≡ segmentCommitment (now (s .args .segment))
+    c .root-of-filled .result ≡ segmentCommitment (now (s .args .segment))
 commitment-is c =
     let v = c .before in
     let s = v .before .before .before .before .before .before .before .before .before .before .before .before in
-    let segment = now (s .args .segment) in
-    c .root .ensures ∙ ap (λ (n : ℕ). commitmentOf n segment) (v .segment-level .ensures)
+    c .root-of-filled .ensures ∙ commitment-by (now (s .args .deal)) (now (s .args .segment)) (bookable (v .before)) (v .segment-level .result) (v .segment-level .ensures)
 
 place-for-requires : tie.Need-place-for-requires
 place-for-requires c κs =
@@ -141,7 +137,7 @@ write-segment-requires c κs =
     let s = p .before .before .before .before .before .before .before .before .before .before .before .before .before .before .before in
     let deal = now (s .args .deal) in
     let segment = now (s .args .segment) in
-    (segment-within deal segment (p .place-for .result) (p .place-for .ensures) (c .before .if5 .taken), entry-within deal segment (p .place-for .result) (p .place-for .ensures) (c .before .if5 .taken))
+    (size-within deal segment (p .place-for .result) (p .place-for .ensures) (c .before .if5 .taken), area-within deal segment (p .place-for .result) (p .place-for .ensures) (c .before .if5 .taken), entry-within deal segment (p .place-for .result) (p .place-for .ensures) (c .before .if5 .taken))
 
 same-length-3 : tie.Need-same-length-3
 same-length-3 c = search needs
@@ -154,7 +150,7 @@ returns-5 c =
     let s = r .before .before .before .before .before .before .before .before .before .before .before .before .before in
     let deal = now (s .args .deal) in
     let segment = now (s .args .segment) in
-    (p .place-for .ensures, w .write-segment .ensures ∙ deal-written deal segment (p .place-for .result) (p .place-for .ensures) (w .before .before .if5 .taken) (r .root .result) (commitment-is r))
+    (p .place-for .ensures, w .write-segment .ensures ∙ deal-written deal segment (p .place-for .result) (p .place-for .ensures) (w .before .before .if5 .taken) (r .root-of-filled .result) (commitment-is r))
 
 same-length-4 : tie.Need-same-length-4
 same-length-4 c = search needs
@@ -184,7 +180,7 @@ book-spec =
     same-length-2
     returns-4
     segment-level-requires
-    root-requires
+    root-of-filled-requires
     place-for-requires
     write-segment-requires
     same-length-3

@@ -1,15 +1,16 @@
 use mathlib.Core.Path.{_≡_, sym, ap, ap₂, _∙_}
 use Prim.Native.Nat.{ℕ, _+_, _≤_, _<_}
 use native.Mathlib.Omega.{arith}
-use lib.ListN.{length, getD}
+use lib.ListN.{length}
 use denote.Ref.{now}
 use borrow.Author.Tests.{not-true, not-false}
 use borrow.Author.Needs.{needs}
 use Rattle.octets.specs.Equality.{sameBytes}
+use Rattle.octets.specs.Fill.{zeroFilled}
 use Rattle.octets.specs.Splice.{part}
 use Rattle.entries.specs.Entry.{commitmentIn, sizeIn}
 use Rattle.entries.specs.Sizes.{area}
-use Rattle.entries.specs.SizesLaws.{lent-size, segment-size, index-start-le, area-own}
+use Rattle.entries.specs.SizesLaws.{lent-size, segment-size, index-start-le}
 use Rattle.index.specs.Slots.{slotAt, rowAt}
 use Rattle.booking.specs.Booking.{segmentCommitment}
 use Rattle.booking.specs.Gather.{rowArea}
@@ -21,19 +22,19 @@ use Rattle.booking.proofs.keeping.slot_keeps.Tie as tie
 slot-high : (c : tie.Start) → c .args .i < 128
 slot-high c = omega (arith, slots-high (length (now (c .args .deal))) (c .pre .0), c .pre .1 .1 .1 .1)
 
-mul-if1 : tie.Need-mul-if1
-mul-if1 c = let h = slot-high (c .before .before) in omega arith
-
-element-copy-out-if1 : tie.Need-element-copy-out-if1
-element-copy-out-if1 c = slot-high (c .before .before)
-
 area-requires : tie.Need-area-requires
 area-requires c κs = search needs
 
+mul-if1 : tie.Need-mul-if1
+mul-if1 c = let h = slot-high (c .before .before .before) in omega arith
+
+element-copy-out-if1 : tie.Need-element-copy-out-if1
+element-copy-out-if1 c = slot-high (c .before .before .before)
+
 returns : tie.Need-returns
 returns c =
-    let a = c .before in
-    let s = a .before .before .before .before in
+    let a = c .before .before in
+    let s = a .before .before .before in
     sym (other-area (now (s .args .deal)) (now (s .args .segment)) (s .args .i) (λ e. c .if1 .taken (s .pre .1 .1 .1 .0 .area-at (s .args .i) (s .pre .1 .1 .1 .1) ∙ e ∙ sym (a .area .ensures))))
 
 -- the slot has the segment's area, and so a standing entry
@@ -42,7 +43,7 @@ area-is : (c : tie.Else1)
     rowArea (rowAt (now (s .args .deal)) (s .args .i)) ≡ area (length (now (s .args .segment)))
 area-is c =
     let s = c .before .before .before .before .before in
-    sym (s .pre .1 .1 .1 .0 .area-at (s .args .i) (s .pre .1 .1 .1 .1)) ∙ c .if1 .left ∙ c .before .area .ensures
+    sym (s .pre .1 .1 .1 .0 .area-at (s .args .i) (s .pre .1 .1 .1 .1)) ∙ c .if1 .left ∙ c .before .before .area .ensures
 
 slot-place-requires : tie.Need-slot-place-requires
 slot-place-requires c κs =
@@ -108,15 +109,16 @@ mul-offset c = let h = slot-high (c .before .before .before .before .before .bef
 element-copy-out-offset : tie.Need-element-copy-out-offset
 element-copy-out-offset c = slot-high (c .before .before .before .before .before .before .before .before .before .before .before)
 
-same-at-requires-2 : tie.Need-same-at-requires-2
-same-at-requires-2 c κs =
+same-filled-requires : tie.Need-same-filled-requires
+same-filled-requires c κs =
     let a = c .before .before .before .before .before .before .before in
     let s = a .before .before .before .before .before in
     let deal = now (s .args .deal) in
     let t = lent-size (length deal) (s .pre .0) .deal in
     let z = segment-size (length deal) (length (now (s .args .segment))) t (s .pre .1 .0) in
     let g = s .pre .1 .1 .1 .0 in
-    omega (arith, row-ends (length deal) (slotAt deal (s .args .i)) t, index-start-le (length deal), z .size-area, g .offset-at (s .args .i) (s .pre .1 .1 .1 .1), area-is a)
+    let taken = a .before .before .area .ensures in
+    (omega (arith, z .size-area, taken), omega (arith, row-ends (length deal) (slotAt deal (s .args .i)) t, index-start-le (length deal), g .offset-at (s .args .i) (s .pre .1 .1 .1 .1), area-is a, taken))
 
 returns-4 : tie.Need-returns-4
 returns-4 c =
@@ -131,17 +133,17 @@ returns-4 c =
     let size-is : sizeIn (slotAt deal (s .args .i)) ≡ length segment = sym (size-read r) ∙ m .before .before .if2 .left in
     let named = sym (commitment-read m) ∙ not-false _ (c .before .before .if3 .left) in
     let offset-is = s .pre .1 .1 .1 .0 .offset-at (s .args .i) (s .pre .1 .1 .1 .1) ∙ offset-there deal segment (s .args .i) t some size-is named in
-    c .same-at2 .ensures
-    ∙ ap₂ (λ (at n : ℕ). sameBytes (part deal at n) segment) offset-is (sym (area-own (length segment)))
+    c .same-filled .ensures
+    ∙ ap₂ (λ (at n : ℕ). sameBytes (part deal at n) (zeroFilled n segment)) offset-is (a .before .before .area .ensures)
     ∙ bytes-decide deal segment (s .args .i) t some size-is named
 
 pub slot-keeps-spec : {M : Type 1} → statement M
 slot-keeps-spec =
     tie.close
     (tie.spec
+    area-requires
     mul-if1
     element-copy-out-if1
-    area-requires
     returns
     slot-place-requires
     add-read-u64
@@ -152,5 +154,5 @@ slot-keeps-spec =
     returns-3
     mul-offset
     element-copy-out-offset
-    same-at-requires-2
+    same-filled-requires
     returns-4)

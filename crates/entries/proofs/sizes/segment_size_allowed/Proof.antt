@@ -1,23 +1,15 @@
 use borrow.Author.Tests.{le-leb, lt-leb}
-use borrow.Author.Needs.{needs}
 use Rattle.entries.specs.Sizes.{segmentSizeAllowed}
 use Rattle.entries.proofs.sizes.segment_size_allowed.Statement.{statement}
 use Rattle.entries.proofs.sizes.segment_size_allowed.Tie as tie
 
-is-power-of-two-requires : tie.Need-is-power-of-two-requires
-is-power-of-two-requires c κs = search needs
-
 returns : tie.Need-returns
 unfolding segmentSizeAllowed
-returns c = simp (le-leb _ _ (c .before .before .if1 .taken), le-leb _ _ (c .before .if2 .taken)) (c .is-power-of-two .ensures)
+returns c = simp (le-leb _ _ (c .if1 .taken))
 
 returns-2 : tie.Need-returns-2
 unfolding segmentSizeAllowed
-returns-2 c = simp (le-leb _ _ (c .before .if1 .taken), lt-leb _ _ (c .if2 .left))
-
-returns-3 : tie.Need-returns-3
-unfolding segmentSizeAllowed
-returns-3 c = simp (lt-leb _ _ (c .if1 .left))
+returns-2 c = simp (lt-leb _ _ (c .if1 .left))
 
 pub segment-size-allowed-spec : {M : Type 1} → statement M
-segment-size-allowed-spec = tie.close (tie.spec is-power-of-two-requires returns returns-2 returns-3)
+segment-size-allowed-spec = tie.close (tie.spec returns returns-2)
