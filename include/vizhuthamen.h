@@ -41,6 +41,13 @@ enum {
   VZ_PATH_BITS = 19          /* a node of a path has stray bits */
 };
 
+/* The kind of an index entry. */
+enum {
+  VZ_BLANK = 0,   /* all 64 bytes are zero */
+  VZ_DAMAGED = 1, /* some byte is not zero, and the checksum is wrong */
+  VZ_VALID = 2    /* the checksum is right */
+};
+
 /* SHA-256 of a message of 0 to 2^24 bytes. digest: 32 bytes. Codes: 2. */
 uint32_t vz_sha256(const uint8_t *message, size_t message_len, uint8_t *digest, size_t digest_len);
 
@@ -70,15 +77,18 @@ uint32_t vz_index_numbers(uint64_t size, uint64_t *entries, uint64_t *start);
 uint32_t vz_make_entry(const uint8_t *commitment, size_t commitment_len, uint64_t offset, uint64_t size, uint8_t *entry,
                        size_t entry_len);
 
-/* What the 64 bytes of an entry say: valid is 1 where the checksum is right, with the three fields, else 0 with zeros.
- * commitment: 32 bytes. Codes: 2. */
-uint32_t vz_read_entry(const uint8_t *entry, size_t entry_len, uint32_t *valid, uint8_t *commitment, size_t commitment_len,
+/* What the 64 bytes of an entry say: its kind, VZ_BLANK, VZ_DAMAGED or VZ_VALID, with the three fields where it is valid, and
+ * zeros otherwise. commitment: 32 bytes. Codes: 2. */
+uint32_t vz_read_entry(const uint8_t *entry, size_t entry_len, uint32_t *kind, uint8_t *commitment, size_t commitment_len,
                        uint64_t *offset, uint64_t *size);
 
 /* What stands at an entry place of a deal: state is 0 where the slot is free, 1 where an entry stands, 2 where it is kept; with
  * its commitment (32 bytes), offset and size, zeros where it is free. Codes: 2, 11, 6. */
 uint32_t vz_inspect(const uint8_t *deal, size_t deal_len, uint64_t place, uint32_t *state, uint8_t *commitment,
                     size_t commitment_len, uint64_t *offset, uint64_t *size);
+
+/* How many slots of a deal's index are blank, damaged and valid; together they are the number of entries. Codes: 2, 11. */
+uint32_t vz_tally(const uint8_t *deal, size_t deal_len, uint64_t *blank, uint64_t *damaged, uint64_t *valid);
 
 /* The lowest slot that holds a kept entry with this commitment; the segment is the size bytes of the deal at offset, without the
  * zeros after it. Codes: 1, 2, 11, 16. */

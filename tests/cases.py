@@ -8,9 +8,11 @@ import hashlib
 from model import Model, area, filled, index_numbers, le, power, sha256
 
 SHA256, COMMITMENT, NUMBERS, MAKE, READ, FIND, BOOK, BUILD, CHECK, SETTLE, SETTLE_DEAL, FIELDS = range(1, 13)
+TALLY = 19
 
 NAMES = {SHA256: "sha256", COMMITMENT: "commitment", NUMBERS: "index_numbers", MAKE: "make_entry", READ: "read_entry", FIND: "find",
-         BOOK: "book", BUILD: "build", CHECK: "check", SETTLE: "settle_records", SETTLE_DEAL: "settle_with_deal", FIELDS: "read_field"}
+         BOOK: "book", BUILD: "build", CHECK: "check", SETTLE: "settle_records", SETTLE_DEAL: "settle_with_deal", FIELDS: "read_field",
+         TALLY: "tally"}
 
 CHECK_INPUT = 13  # of the program check_record; no routine of its own
 COMPARE = 15  # of the code that settling shares: two paths from one position
@@ -88,6 +90,8 @@ def answer(case):
     if op == STREAM:  # a are the bytes, b the lengths of the pieces but the last; after the answer the code that sticks after each
         code, node, count, codes = m.stream(pieces(a, b))
         return line(code, node, count, *codes)
+    if op == TALLY:  # a is the deal
+        return line(*m.tally(a))
     raise ValueError(op)
 
 
@@ -327,7 +331,8 @@ def case(rng, op, sizes):
         e = bytearray(MODEL.entry(rng.randbytes(32), any_number(rng), any_number(rng)))
         if rng.randrange(2):
             e[rng.randrange(64)] ^= 1 << rng.randrange(8)
-        return op, rng.choice((bytes(e), bytes(e), bytes(e), bytes(64), bytes(e)[:63], bytes(e) + b"0", b"")), b"", 0, 0
+        one_bit = (1 << rng.randrange(512)).to_bytes(64, "little")
+        return op, rng.choice((bytes(e), bytes(e), bytes(e), bytes(64), one_bit, bytes(e)[:63], bytes(e) + b"0", b"")), b"", 0, 0
     if op == STREAM:
         data = run(rng, rng.choice((*TOTALS, 1 << rng.randrange(5, 13), rng.randrange(3000))))
         return op, maybe_strayed(rng, data), cuts(rng, len(data)), 0, 0
@@ -366,6 +371,8 @@ def case(rng, op, sizes):
         return op, maybe_spoilt(rng, record_of(rng, data)), b"", 0, 0
     if op == INSPECT:
         return op, data, b"", place(rng, len(data)), 0
+    if op == TALLY:
+        return op, data, b"", 0, 0
     raise ValueError(op)
 
 

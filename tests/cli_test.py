@@ -21,7 +21,7 @@ from model import Model, filled
 
 ROOT = Path(__file__).resolve().parent.parent
 BINARY = Path(os.environ.get("VIZHUTHAMEN", ROOT / "rust" / "target" / "release" / "vizhuthamen"))
-COMMANDS = ("new", "commit", "stream", "book", "list", "find", "build", "check", "settle", "settle-deal", "show")
+COMMANDS = ("new", "commit", "stream", "book", "list", "tally", "find", "build", "check", "settle", "settle-deal", "show")
 MODEL = Model()
 USAGE, IO = 64, 74
 
@@ -128,7 +128,8 @@ class MainJob(Calls):
         rows = [line.split() for line in self.answer("list", "deal").splitlines()]
         self.assertEqual(rows[0], ["slot", "place", "state", "offset", "size", "commitment"])
         self.assertEqual(rows[1:], [["0", "768", "kept", "0", "256", ca], ["1", "832", "kept", "256", "128", cb],
-                                    ["2", "896", "free", "-", "-", "-"], ["3", "960", "free", "-", "-", "-"]])
+                                    ["2", "896", "blank", "-", "-", "-"], ["3", "960", "blank", "-", "-", "-"]])
+        self.assertEqual(self.answer("tally", "deal"), "blank 2\ndamaged 0\nvalid 2\n")
 
     def found(self, ca, a):
         self.assertEqual(self.answer("find", "deal", ca), "offset 0\nsize 256\nplace 768\n")
@@ -164,6 +165,19 @@ class MainJob(Calls):
         deal[5] ^= 1
         self.put("deal", bytes(deal))
         self.assertEqual(self.answer("list", "deal").splitlines()[1].split()[:5], ["0", "256", "standing", "0", "128"])
+
+    def test_the_kinds_of_free_slots(self):
+        deal = bytearray(self.booked(1024, (128, 128))[0])
+        deal[832] ^= 1
+        deal[896:960] = MODEL.entry(bytes(32), 64, 128)
+        self.put("deal", bytes(deal))
+        rows = [line.split()[2:] for line in self.answer("list", "deal").splitlines()[1:]]
+        self.assertEqual([row[0] for row in rows], ["kept", "damaged", "valid", "blank"])
+        self.assertEqual(rows[1:], [["damaged", "-", "-", "-"], ["valid", "64", "128", "00" * 32], ["blank", "-", "-", "-"]])
+        self.assertEqual(self.answer("tally", "deal"), "blank 1\ndamaged 1\nvalid 2\n")
+        self.put("segment", self.segment())
+        self.assertIn("place 832\n", self.answer("book", "deal", "segment"))
+        self.assertEqual(self.answer("tally", "deal"), "blank 1\ndamaged 0\nvalid 3\n")
 
 
 class Streams(Calls):
@@ -237,8 +251,10 @@ class Json(Calls):
         again = self.object("book", "deal", "segment", status=15)
         self.assertEqual((again["offset"], again["place"], again["commitment"]), (0, places[0], commitment))
         slots = self.object("list", "deal")["slots"]
-        self.assertEqual([s["state"] for s in slots], ["kept", "kept", "free", "free"])
+        self.assertEqual([s["state"] for s in slots], ["kept", "kept", "blank", "blank"])
         self.assertEqual(slots[0], {"slot": 0, "place": places[0], "state": "kept", "offset": 0, "size": 256, "commitment": commitment})
+        tally = self.object("tally", "deal")
+        self.assertEqual((tally["blank"], tally["damaged"], tally["valid"]), (2, 0, 2))
         found = self.object("find", "deal", commitment)
         self.assertEqual((found["offset"], found["size"], found["place"]), (0, 256, places[0]))
         built = self.object("build", "deal", places[0])
@@ -295,6 +311,8 @@ class Refusals(Calls):
         self.put("stray", b"\xff" * 128)
         self.refused(11, "book", "deal", "stray")
         self.refused(11, "commit", "stray")
+        self.put("strayed", deal[:31] + b"\x40" + deal[32:])
+        self.refused(11, "tally", "strayed")
         self.refused(4, "book", "deal", "deal")
         self.refused(16, "find", "deal", "00" * 32)
         self.refused(16, "build", "deal", 384)
@@ -306,8 +324,8 @@ class Refusals(Calls):
 
     def test_wrong_sizes_are_named(self):
         self.put("short", bytes(1000))
-        for words in (("list", "short"), ("book", "short", "short"), ("find", "short", "00" * 32), ("build", "short", 0),
-                      ("commit", "short"), ("settle-deal", "short", "short")):
+        for words in (("list", "short"), ("tally", "short"), ("book", "short", "short"), ("find", "short", "00" * 32),
+                      ("build", "short", 0), ("commit", "short"), ("settle-deal", "short", "short")):
             out, err = self.call(*words, status=2)
             self.assertTrue(out.startswith("code 2: "))
             self.assertIn("short has 1000 bytes", err)
@@ -355,7 +373,7 @@ class Usage(Calls):
         root, commitment = MODEL.commitment(deal)[1].hex(), deal[places[0] : places[0] + 32].hex()
         self.assertEqual(self.answer("commit", "-", stdin=deal), root + "\n")
         self.refused(15, "book", "deal", "-", stdin=segment)
-        for words in (("list", "deal"), ("find", "deal", commitment), ("build", "deal", places[0])):
+        for words in (("list", "deal"), ("tally", "deal"), ("find", "deal", commitment), ("build", "deal", places[0])):
             piped = ["-" if w == "deal" else w for w in words]
             self.assertEqual(self.answer(*piped, stdin=deal), self.answer(*words))
         self.answer("check", root, 1024, "-", stdin=record)
@@ -380,7 +398,7 @@ class Usage(Calls):
             call = [self.rng.choice(COMMANDS), *self.rng.choices(words, k=self.rng.randrange(5))]
             self.put("noise", self.rng.randbytes(self.rng.randrange(400)))
             ran = subprocess.run([self.program, *call], input=self.rng.randbytes(300), capture_output=True, cwd=self.folder)
-            self.assertIn(ran.returncode, (*range(19), USAGE, IO), call)
+            self.assertIn(ran.returncode, (*range(20), USAGE, IO), call)
             self.assertNotIn(b"panicked", ran.stderr, call)
             self.put("deal", deal)
 
@@ -390,9 +408,10 @@ class Usage(Calls):
             for _ in range(self.rng.randrange(4) if data else 0):
                 data[self.rng.randrange(len(data))] = self.rng.randrange(256)
             self.put("file", bytes(data))
-            for words in (("show", "file"), ("list", "file"), ("commit", "file"), ("stream", "file"), ("settle-deal", "file", "file")):
+            for words in (("show", "file"), ("list", "file"), ("tally", "file"), ("commit", "file"), ("stream", "file"),
+                          ("settle-deal", "file", "file")):
                 ran = subprocess.run([self.program, *words], capture_output=True, cwd=self.folder)
-                self.assertIn(ran.returncode, range(19), words)
+                self.assertIn(ran.returncode, range(20), words)
                 self.assertNotIn(b"panicked", ran.stderr, words)
 
 
@@ -401,7 +420,7 @@ class Failures(Calls):
         self.booked()
         self.path("folder").mkdir()
         for words in (("commit", "missing"), ("commit", "folder"), ("stream", "missing"), ("stream", "folder"), ("list", "missing"),
-                      ("list", "folder"), ("book", "missing", "deal"), ("book", "folder", "deal"), ("book", "deal", "missing"),
+                      ("tally", "missing"), ("list", "folder"), ("book", "missing", "deal"), ("book", "folder", "deal"), ("book", "deal", "missing"),
                       ("show", "missing"), ("settle-deal", "deal", "missing"), ("check", "00" * 32, 512, "missing"),
                       ("build", "missing", 0), ("find", "missing", "00" * 32)):
             self.assertIn("missing" if "missing" in words else "folder", self.failed(IO, *words))

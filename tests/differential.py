@@ -17,7 +17,7 @@ from collections import Counter
 from pathlib import Path
 
 from cases import (BOOK, BUILD, CHECK, CHECK_INPUT, COMMITMENT, FIELDS, FIND, INSPECT, MAKE, MODEL, NAMES, NUMBERS, READ, SETTLE,
-                   SETTLE_DEAL, SHA256, STREAM, answer, cases, deal, encode, node, place, run, spoil, strayed, streams)
+                   SETTLE_DEAL, SHA256, STREAM, TALLY, answer, cases, deal, encode, node, place, run, spoil, strayed, streams)
 from model import area, index_numbers
 from vectors import large_deals
 
@@ -29,7 +29,8 @@ BATCH = 2000
 # The codes that a run of the default length must meet. 17 needs a collision of SHA-256, and 2 of sha256 a long message (--large).
 CODES = {SHA256: {0}, COMMITMENT: {0, 2, 11}, NUMBERS: {0, 2}, MAKE: {0, 1, 8}, READ: {0, 2}, FIND: {0, 1, 2, 11, 16},
          BOOK: {0, 2, 4, 11, 13, 14, 15}, BUILD: {0, 2, 6, 11, 12, 16}, CHECK: {*range(11), 19}, SETTLE: {*range(11), 18, 19},
-         SETTLE_DEAL: {0, *range(2, 12), 19}, FIELDS: {0}, INSPECT: {0, 2, 6, 11}, STREAM: {0, 2, 11}}
+         SETTLE_DEAL: {0, *range(2, 12), 19}, FIELDS: {0}, INSPECT: {0, 2, 6, 11}, STREAM: {0, 2, 11},
+         TALLY: {0, 2, 11}}
 ENOUGH = 50_000
 
 
@@ -101,6 +102,7 @@ def false_entries(rng, count):
         yield BOOK, data, data[o : o + s], 0, 0
         yield BUILD, data, rng.randbytes(2000), p, 0
         yield INSPECT, data, b"", p, 0
+        yield TALLY, data, b"", 0, 0
 
 
 def long_records(rng):
@@ -129,6 +131,7 @@ def limits():
         yield FIND, bytes(n), bytes(32), 0, 0
         yield BUILD, bytes(n), bytes(2000), n - 64, 0
         yield INSPECT, bytes(n), b"", n - 64, 0
+        yield TALLY, bytes(n), b"", 0, 0
         yield SETTLE_DEAL, bytes(n), b"", 0, 0
 
 
@@ -146,6 +149,7 @@ def large_calls(rng, d, sizes):
             yield BOOK, data, segment, 0, 0
             yield FIND, data, data[p : p + 32], 0, 0
             yield INSPECT, data, b"", p, 0
+    yield TALLY, data, b"", 0, 0
     yield FIND, data, node(rng), 0, 0
     yield BOOK, data, run(rng, d), 0, 0
     root = MODEL.commitment(data)[1]
@@ -162,7 +166,7 @@ def large_calls(rng, d, sizes):
 
 
 def spoilt_deal(rng, data, places):
-    """One byte of a kept segment changed; then stray bits in the last node."""
+    """One byte of a kept segment changed; then one of its entry; then stray bits in the last node."""
     p = rng.choice(places)
     changed = bytearray(data)
     changed[int.from_bytes(data[p + 32 : p + 40], "little")] ^= 1
@@ -171,8 +175,11 @@ def spoilt_deal(rng, data, places):
     yield INSPECT, changed, b"", p, 0
     yield BUILD, changed, rng.randbytes(2000), p, 0
     yield BOOK, changed, run(rng, 128), 0, 0
+    damaged = changed[:p] + bytes([changed[p] ^ 1]) + changed[p + 1:]
+    yield TALLY, damaged, b"", 0, 0
+    yield BOOK, damaged, run(rng, 128), 0, 0
     stray = changed[:-1] + b"\x80"
-    for op, b, x in ((COMMITMENT, b"", 0), (FIND, bytes(32), 0), (BOOK, bytes(128), 0), (BUILD, b"", p), (INSPECT, b"", p)):
+    for op, b, x in ((COMMITMENT, b"", 0), (FIND, bytes(32), 0), (BOOK, bytes(128), 0), (BUILD, b"", p), (INSPECT, b"", p), (TALLY, b"", 0)):
         yield op, stray, b, x, 0
 
 

@@ -7,6 +7,8 @@ import hashlib
 
 ZERO32, ZERO64 = bytes(32), bytes(64)
 
+BLANK, DAMAGED, VALID = range(3)  # the kinds of an entry
+
 
 class Hashes:
     """The two hash functions that everything else rests on."""
@@ -136,11 +138,14 @@ class Model:
         return 0, self.entry(commitment, offset, size)
 
     def read_entry(self, e):
+        """Code, kind, commitment, offset, size."""
         if len(e) != 64:
-            return 2, False, ZERO32, 0, 0
+            return 2, BLANK, ZERO32, 0, 0
+        if e == ZERO64:
+            return 0, BLANK, ZERO32, 0, 0
         if self.h.checksum(e[:48]) != e[48:]:
-            return 0, False, ZERO32, 0, 0
-        return 0, True, e[:32], int.from_bytes(e[32:40], "little"), int.from_bytes(e[40:48], "little")
+            return 0, DAMAGED, ZERO32, 0, 0
+        return 0, VALID, e[:32], int.from_bytes(e[32:40], "little"), int.from_bytes(e[40:48], "little")
 
     @staticmethod
     def size_allowed(d, s):
@@ -155,8 +160,8 @@ class Model:
         d = len(deal)
         _, n, start = index_numbers(d)
         p = start + 64 * i
-        _, valid, c, o, s = self.read_entry(deal[p : p + 64])
-        if valid and self.size_allowed(d, s) and self.offset_allowed(d, o, s):
+        _, kind, c, o, s = self.read_entry(deal[p : p + 64])
+        if kind == VALID and self.size_allowed(d, s) and self.offset_allowed(d, o, s):
             return c, o, s
         return None
 
@@ -186,6 +191,16 @@ class Model:
         if row is None:
             return 0, 0, ZERO32, 0, 0
         return 0, 2 if self.kept(deal, i) else 1, *row
+
+    def tally(self, deal):
+        """Code, and how many slots are blank, damaged, valid."""
+        d = len(deal)
+        if not self.lent_allowed(d):
+            return 2, 0, 0, 0
+        if stray(deal):
+            return 11, 0, 0, 0
+        kinds = [self.read_entry(deal[p : p + 64])[1] for p in range(index_numbers(d)[2], d, 64)]
+        return 0, kinds.count(BLANK), kinds.count(DAMAGED), kinds.count(VALID)
 
     # ---- find
     def find(self, deal, commitment):

@@ -3,7 +3,7 @@ import hashlib
 import random
 import sys
 
-from model import Hashes, Model, Weak, area, index_numbers, le, sha256, stray, ZERO32
+from model import BLANK, DAMAGED, VALID, Hashes, Model, Weak, area, index_numbers, le, sha256, stray, ZERO32
 
 
 def expect(what, got, want):
@@ -61,7 +61,28 @@ def worked_runs():
         expect(f"segment {i}", (code, o, p), (0, 128 * i, 768 + 64 * i))
     expect("a fifth", m.book(deal, segment(rng, 128))[:3], (13, 0, 0))
     expect("the all-zero segment", m.book(bytes(512), bytes(128))[:3], (0, 0, 256))
-    expect("an all-zero slot", m.read_entry(bytes(64)), (0, False, ZERO32, 0, 0))
+
+
+def kinds():
+    """An all-zero slot is blank whatever its checksum, an entry with one bit flipped is damaged, and the tally counts each slot once."""
+    m, rng = Model(), random.Random(3)
+    expect("an all-zero slot", m.read_entry(bytes(64)), (0, BLANK, ZERO32, 0, 0))
+    expect("the checksum of an all-zero slot is wrong", m.h.checksum(bytes(48)) != bytes(16), True)
+    entry = m.entry(node_of(rng), 128, 256)
+    expect("an entry", m.read_entry(entry), (0, VALID, entry[:32], 128, 256))
+    for bit in range(512):
+        flip = (1 << bit).to_bytes(64, "little")
+        expect(f"bit {bit} of an all-zero slot set", m.read_entry(flip)[1], DAMAGED)
+        flipped = bytes(a ^ b for a, b in zip(entry, flip))
+        expect(f"bit {bit} of an entry flipped", m.read_entry(flipped), (0, DAMAGED, ZERO32, 0, 0))
+    expect("the tally of an all-zero deal", m.tally(bytes(1 << 20)), (0, 8, 0, 0))
+    deal = m.book(m.book(bytes(1024), segment(rng, 128))[3], segment(rng, 256))[3]
+    expect("the tally of two bookings", m.tally(deal), (0, 2, 0, 2))
+    spoilt = deal[:800] + b"\1" + deal[801:]
+    expect("the tally with a damaged slot", m.tally(spoilt), (0, 2, 1, 1))
+    expect("a damaged slot is booked", m.book(spoilt, segment(rng, 128))[:3], (0, 0, 768))
+    expect("the tally of a deal that is none", m.tally(bytes(1000)), (2, 0, 0, 0))
+    expect("the tally of a deal with stray bits", m.tally(deal[:31] + b"\x40" + deal[32:]), (11, 0, 0, 0))
 
 
 def records():
@@ -99,5 +120,6 @@ def collisions():
 published_values()
 streams()
 worked_runs()
+kinds()
 records()
 print(f"model_test: the papers' values hold in the model; with a weak node hash {collisions()} collisions were shown")

@@ -7,8 +7,8 @@ import random
 import sys
 from pathlib import Path
 
-from cases import (BOOK, BUILD, CHECK, CHECK_INPUT, COMMITMENT, COMPARE, FIELDS, FIND, MODEL, NAMES, NUMBERS, READ, SETTLE, SETTLE_DEAL,
-                   answer, case, encode, node, run, streams)
+from cases import (BOOK, BUILD, CHECK, CHECK_INPUT, COMMITMENT, COMPARE, FIELDS, FIND, MAKE, MODEL, NAMES, NUMBERS, READ, SETTLE,
+                   SETTLE_DEAL, TALLY, answer, any_number, case, encode, node, run, streams)
 from model import area, filled, index_numbers, le
 
 ROOT = Path(__file__).resolve().parent.parent
@@ -37,6 +37,7 @@ def worked_runs(rng):
     yield from bookings(rng, 1024, [b"".join(node(rng) for _ in range(4)) for _ in range(5)])
     yield from bookings(rng, 512, (bytes(128), bytes(128)))
     yield READ, bytes(64), b"", 0, 0
+    yield MAKE, bytes(32), b"", 0, 0  # its checksum is not zero: the all-zero slot's is wrong
 
 
 def sizes_in_deals(rng):
@@ -127,6 +128,38 @@ def large_deals(rng):
         yield CHECK, r, bytes(32), d, 0
 
 
+def kinds_of_entries(rng):
+    """An all-zero entry, and with a bit set in each byte; a valid entry, and with a bit flipped in each byte."""
+    for entry in (bytes(64), MODEL.entry(node(rng), 128, 256)):
+        yield READ, entry, b"", 0, 0
+        for at in range(64):
+            spoilt = bytearray(entry)
+            spoilt[at] ^= 1 << rng.randrange(8)
+            yield READ, bytes(spoilt), b"", 0, 0
+
+
+def slot(rng, form):
+    """A slot of a deal of 1,024 zeros: blank, one bit set, an entry with one bit flipped, valid, standing, kept."""
+    one_bit = (1 << 8 * rng.randrange(64) + rng.randrange(5)).to_bytes(64, "little")
+    kept = MODEL.entry(MODEL.tree(bytes(128))[-1][0], 128 * rng.randrange(6), 128)
+    spoilt = bytes(a ^ b for a, b in zip(kept, one_bit))
+    return (bytes(64), one_bit, spoilt, MODEL.entry(node(rng), any_number(rng), 96), MODEL.entry(node(rng), 0, 256), kept)[form]
+
+
+def tallies(rng):
+    """Indexes with slots of every form, counted; a segment booked, which may take a damaged slot; and counted again."""
+    yield TALLY, bytes(512), b"", 0, 0
+    for i in range(48):
+        forms = (i // 8,) * 4 if i % 8 == 0 else rng.choices(range(6), k=4)
+        deal = bytes(768) + b"".join(slot(rng, form) for form in forms)
+        segment = b"".join(node(rng) for _ in range(4))
+        yield TALLY, deal, b"", 0, 0
+        yield BOOK, deal, segment, 0, 0
+        yield TALLY, MODEL.book(deal, segment)[3], b"", 0, 0
+    for deal in (bytes(0), bytes(511), bytes(768), bytes(8192), bytes(1023) + b"\x40", bytes(767) + b"\x80" + bytes(256)):
+        yield TALLY, deal, b"", 0, 0
+
+
 def stray_paths(rng):
     """Records for 512 bytes whose paths lead to the commitment: without stray bits in a path, and with them in one of its nodes."""
     h = MODEL.h
@@ -180,9 +213,12 @@ def all_cases():
     yield from sizes_in_deals(random.Random(128))
     yield from other_trailer(random.Random(130))
     yield from two_places(random.Random(18))
+    yield from kinds_of_entries(random.Random(2))
+    yield from tallies(random.Random(64))
     yield COMMITMENT, run(rng, 8192), b"", 0, 0
-    for i in range(720):
-        yield case(rng, 1 + i % len(NAMES), (512, 512, 1024))
+    for _ in range(60):
+        for op in NAMES:
+            yield case(rng, op, (512, 512, 1024))
 
 
 def main():
@@ -196,6 +232,8 @@ def main():
         else:
             path.write_bytes(data)
     codes = sorted({int(line.split()[0]) for line in texts["stdout"].decode().splitlines()})
+    if codes != list(range(20)):
+        sys.exit(f"vectors: the codes {codes} are not 0 to 19")
     print(f"vectors: {len(calls)} calls, codes {codes}")
 
 

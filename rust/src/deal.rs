@@ -18,6 +18,14 @@ pub enum Slot {
     Kept(Entry),
 }
 
+/// How many slots of an index are of each kind; together they are the number of entries.
+#[derive(Clone, Copy, Debug, PartialEq, Eq)]
+pub struct Tally {
+    pub blank: u64,
+    pub damaged: u64,
+    pub valid: u64,
+}
+
 /// A segment that was found: where it is, and its bytes, a part of the deal, without the zeros after them.
 #[derive(Clone, Copy, Debug, PartialEq, Eq)]
 pub struct Found<'d> {
@@ -68,6 +76,14 @@ pub fn inspect(deal: &[u8], place: u64) -> Result<Slot, Refusal> {
         1 => Slot::Standing(entry),
         _ => Slot::Kept(entry),
     })
+}
+
+/// How many slots of a deal's index are blank, damaged and valid. Refusals: 2, 11.
+pub fn tally(deal: &[u8]) -> Result<Tally, Refusal> {
+    let (mut blank, mut damaged, mut valid) = (0, 0, 0);
+    // SAFETY: the slice is live, and the three numbers are locals of their own.
+    let code = unsafe { ffi::vz_tally(deal.as_ptr(), deal.len(), &mut blank, &mut damaged, &mut valid) };
+    accepted(code).map(|()| Tally { blank, damaged, valid })
 }
 
 /// The lowest slot that holds a kept entry with this commitment. Refusals: 1, 2, 11, 16.
@@ -215,5 +231,21 @@ mod tests {
         assert_eq!(inspect(&deal[..511], 256), Err(Refusal::SIZE));
         deal[31] = 0x80;
         assert_eq!(inspect(&deal, 0), Err(Refusal::STRAY_BITS));
+    }
+
+    #[test]
+    fn a_tally_counts_every_slot_once() {
+        let mut deal = [0; 1024];
+        assert_eq!(tally(&deal), Ok(Tally { blank: 4, damaged: 0, valid: 0 }));
+        book(&mut deal, &segment(1, 128)).unwrap();
+        book(&mut deal, &segment(2, 128)).unwrap();
+        deal[832] ^= 1; // the second entry is damaged
+        deal[960..].copy_from_slice(&make_entry(&[7; 32], 1, 1).unwrap()); // valid, and stands not
+        assert_eq!(tally(&deal), Ok(Tally { blank: 1, damaged: 1, valid: 2 }));
+        assert_eq!(book(&mut deal, &segment(3, 128)), booked(128, 832)); // a damaged slot is free
+        assert_eq!(tally(&deal), Ok(Tally { blank: 1, damaged: 0, valid: 3 }));
+        assert_eq!(tally(&deal[..1023]), Err(Refusal::SIZE));
+        deal[31] = 0x40;
+        assert_eq!(tally(&deal), Err(Refusal::STRAY_BITS));
     }
 }

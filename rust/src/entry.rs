@@ -18,6 +18,17 @@ pub struct Entry {
     pub size: u64,
 }
 
+/// What 64 bytes of an index say.
+#[derive(Clone, Copy, Debug, PartialEq, Eq)]
+pub enum ReadEntry {
+    /// All bytes are zero: the slot was never used.
+    Blank,
+    /// Some byte is not zero, and the checksum is wrong.
+    Damaged,
+    /// The checksum is right.
+    Valid(Entry),
+}
+
 /// The index numbers for a deal size, a power of two from 512 to 2^36. Refusals: 2.
 pub fn index_numbers(size: u64) -> Result<IndexNumbers, Refusal> {
     let (mut entries, mut start) = (0, 0);
@@ -36,9 +47,9 @@ pub fn make_entry(commitment: &[u8], offset: u64, size: u64) -> Result<[u8; 64],
     accepted(code).map(|()| entry)
 }
 
-/// What the 64 bytes of an entry say; `None` where the checksum is wrong. Refusals: 2 for another length.
-pub fn read_entry(entry: &[u8]) -> Result<Option<Entry>, Refusal> {
-    let mut valid = 0;
+/// What the 64 bytes of an entry say. Refusals: 2 for another length.
+pub fn read_entry(entry: &[u8]) -> Result<ReadEntry, Refusal> {
+    let mut kind = 0;
     let mut commitment = [0; 32];
     let (mut offset, mut size) = (0, 0);
     // SAFETY: both slices are live, and all that is written are locals of their own.
@@ -46,7 +57,7 @@ pub fn read_entry(entry: &[u8]) -> Result<Option<Entry>, Refusal> {
         ffi::vz_read_entry(
             entry.as_ptr(),
             entry.len(),
-            &mut valid,
+            &mut kind,
             commitment.as_mut_ptr(),
             commitment.len(),
             &mut offset,
@@ -54,7 +65,11 @@ pub fn read_entry(entry: &[u8]) -> Result<Option<Entry>, Refusal> {
         )
     };
     accepted(code)?;
-    Ok((valid == 1).then_some(Entry { commitment: Node(commitment), offset, size }))
+    Ok(match kind {
+        0 => ReadEntry::Blank,
+        1 => ReadEntry::Damaged,
+        _ => ReadEntry::Valid(Entry { commitment: Node(commitment), offset, size }),
+    })
 }
 
 #[cfg(test)]
@@ -86,19 +101,29 @@ mod tests {
         for (offset, size) in [(0, 128), (1, 2), (u64::MAX, u64::MAX - 1)] {
             let entry = make_entry(&COMMITMENT.0, offset, size).unwrap();
             assert_eq!(entry[..32], COMMITMENT.0);
-            assert_eq!(read_entry(&entry), Ok(Some(Entry { commitment: COMMITMENT, offset, size })));
+            assert_eq!(read_entry(&entry), Ok(ReadEntry::Valid(Entry { commitment: COMMITMENT, offset, size })));
         }
     }
 
     #[test]
-    fn a_changed_entry_is_not_valid() {
-        let entry = make_entry(&COMMITMENT.0, 128, 256).unwrap();
-        for at in 0..64 {
-            let mut changed = entry;
-            changed[at] ^= 1;
-            assert_eq!(read_entry(&changed), Ok(None), "byte {at}");
+    fn a_changed_entry_is_damaged() {
+        for entry in [make_entry(&COMMITMENT.0, 128, 256).unwrap(), [0; 64]] {
+            for bit in 0..512 {
+                let mut changed = entry;
+                changed[bit / 8] ^= 1 << (bit % 8);
+                assert_eq!(read_entry(&changed), Ok(ReadEntry::Damaged), "bit {bit}");
+            }
         }
-        assert_eq!(read_entry(&[0; 64]), Ok(None));
+        assert_eq!(read_entry(&[0; 64]), Ok(ReadEntry::Blank));
+    }
+
+    /// The numbers of include/vizhuthamen.h.
+    #[test]
+    fn the_kinds_are_those_of_the_header() {
+        let header = include_str!("../../include/vizhuthamen.h");
+        for line in ["  VZ_BLANK = 0,", "  VZ_DAMAGED = 1,", "  VZ_VALID = 2 "] {
+            assert!(header.lines().any(|l| l.starts_with(line)), "{line}");
+        }
     }
 
     #[test]

@@ -27,7 +27,7 @@ extern "C" {
     pub fn vz_read_entry(
         entry: *const u8,
         entry_len: usize,
-        valid: *mut u32,
+        kind: *mut u32,
         commitment: *mut u8,
         commitment_len: usize,
         offset: *mut u64,
@@ -44,6 +44,8 @@ extern "C" {
         offset: *mut u64,
         size: *mut u64,
     ) -> u32;
+
+    pub fn vz_tally(deal: *const u8, deal_len: usize, blank: *mut u64, damaged: *mut u64, valid: *mut u64) -> u32;
 
     pub fn vz_find(
         deal: *const u8,
@@ -225,6 +227,7 @@ mod tests {
         let mut deal = [0; 512];
         unsafe {
             assert_eq!(vz_index_numbers(511, &mut a, &mut b), 2);
+            assert_eq!(vz_tally(deal.as_ptr(), 511, &mut a, &mut b, &mut c), 2);
             assert_eq!(vz_find(deal.as_ptr(), 512, deal.as_ptr(), 32, &mut a, &mut b, &mut c), 16);
             assert_eq!(vz_book(deal.as_mut_ptr(), 512, segment(1, 512).as_ptr(), 512, &mut a, &mut b), 4);
             assert_eq!(vz_build(deal.as_ptr(), 512, 256, [0; 300].as_mut_ptr(), 300, &mut a), 16);

@@ -28,8 +28,8 @@ mod streaming;
 mod tree;
 
 pub use codes::{meaning, Refusal};
-pub use deal::{book, find, inspect, Booking, Found, Position, Slot, MAX_DEAL};
-pub use entry::{index_numbers, make_entry, read_entry, Entry, IndexNumbers};
+pub use deal::{book, find, inspect, tally, Booking, Found, Position, Slot, Tally, MAX_DEAL};
+pub use entry::{index_numbers, make_entry, read_entry, Entry, IndexNumbers, ReadEntry};
 pub use node::{Node, NotANode};
 pub use record::{
     build, build_into, check, fields, read_field, settle_records, settle_with_deal, Field, Fields, Settled, MAX_RECORD,

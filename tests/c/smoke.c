@@ -22,8 +22,8 @@ static void answer(const char *what, uint64_t got, uint64_t expected) {
 
 static uint8_t deal[512], first_segment[128], second_segment[128], third_segment[128];
 static uint8_t commitment[32], deal_commitment[32], entry[64], record[1962], left[64], right[64];
-static uint64_t offset, place, size, length, start, next, entries;
-static uint32_t valid, state, tag;
+static uint64_t offset, place, size, length, start, next, entries, blank, damaged, valid;
+static uint32_t kind, state, tag;
 
 static void hashing(void) {
   static const uint8_t digest_of_abc[32] = {0xba, 0x78, 0x16, 0xbf, 0x8f, 0x01, 0xcf, 0xea, 0x41, 0x41, 0x40, 0xde, 0x5d, 0xae, 0x22, 0x23,
@@ -61,10 +61,16 @@ static void index_entries(void) {
   answer("index numbers, entries", entries, 4);
   answer("index numbers, start", start, 256);
   answer("make entry", vz_make_entry(commitment, 32, 0, 128, entry, 64), VZ_OK);
-  answer("read entry", vz_read_entry(entry, 64, &valid, read, 32, &offset, &size), VZ_OK);
-  answer("read entry, valid", valid, 1);
+  answer("read entry", vz_read_entry(entry, 64, &kind, read, 32, &offset, &size), VZ_OK);
+  answer("read entry, kind", kind, VZ_VALID);
   answer("read entry, commitment", memcmp(read, commitment, 32) == 0, 1);
   answer("read entry, size", size, 128);
+  entry[40] ^= 1;
+  answer("read a changed entry", vz_read_entry(entry, 64, &kind, read, 32, &offset, &size), VZ_OK);
+  answer("read a changed entry, kind", kind, VZ_DAMAGED);
+  memset(entry, 0, 64);
+  answer("read an all-zero entry", vz_read_entry(entry, 64, &kind, read, 32, &offset, &size), VZ_OK);
+  answer("read an all-zero entry, kind", kind, VZ_BLANK);
 }
 
 static void booking(void) {
@@ -87,6 +93,11 @@ static void looking(void) {
   answer("inspect a free slot", vz_inspect(deal, 512, 448, &state, read, 32, &offset, &size), VZ_OK);
   answer("inspect a free slot, state", state, 0);
   answer("inspect no place", vz_inspect(deal, 512, 300, &state, read, 32, &offset, &size), VZ_PLACE);
+  answer("tally", vz_tally(deal, 512, &blank, &damaged, &valid), VZ_OK);
+  answer("tally, blank", blank, 2);
+  answer("tally, damaged", damaged, 0);
+  answer("tally, valid", valid, 2);
+  answer("tally of 511 bytes", vz_tally(deal, 511, &blank, &damaged, &valid), VZ_SIZE);
   answer("find", vz_find(deal, 512, commitment, 32, &offset, &size, &place), VZ_OK);
   answer("find, place", place, 256);
 }

@@ -6,13 +6,14 @@ use lib.ListN.{length, replicate}
 use lib.Dec.{eqb}
 use Rattle.octets.specs.Choice.{choose}
 use Rattle.octets.specs.Refusals.{rule, firstRefusal, unlessRefused}
-use Rattle.octets.specs.Equality.{sameBytes}
+use Rattle.octets.specs.Equality.{sameBytes, allZero}
 use Rattle.octets.specs.LittleEndian.{numberOf, bytesOf}
 use Rattle.octets.specs.Splice.{part}
 use Rattle.merkle.specs.StrayBits.{clearNode}
 use Rattle.entries.specs.Checksum.{checksumOf}
 use Rattle.entries.specs.declared.MadeEntry.{MadeEntry}
 use Rattle.entries.specs.declared.EntryKind.{EntryKind}
+use Rattle.entries.specs.declared.EntryKind.the-variants.{Blank, Damaged, Valid}
 use Rattle.entries.specs.declared.ReadEntry.{ReadEntry}
 
 -- the first 48 bytes of an entry: all but its checksum
@@ -33,9 +34,23 @@ offsetIn entry = numberOf (part entry 32 8)
 unfoldable pub sizeIn : List ℕ → ℕ
 sizeIn entry = numberOf (part entry 40 8)
 
--- the checksum is right: what the paper calls valid, of 64 bytes at hand
+-- the checksum is right
 unfoldable pub checksumRight : List ℕ → Bool
 checksumRight entry = sameBytes (checksumOf (part entry 0 48)) (part entry 48 16)
+
+-- the kind of 64 bytes (document 02, (ii)): blank where all are zero, else valid where the checksum is right, else damaged
+unfoldable pub kindOf : List ℕ → EntryKind
+kindOf entry = choose (allZero entry) Blank (choose (checksumRight entry) Valid Damaged)
+
+-- the number of a kind
+abbrev pub kindNumber : EntryKind → ℕ
+kindNumber Blank = 0
+kindNumber Damaged = 1
+kindNumber Valid = 2
+
+-- whether an entry is of a kind
+unfoldable pub isKind : EntryKind → List ℕ → Bool
+isKind kind entry = eqb (kindNumber (kindOf entry)) (kindNumber kind)
 
 -- making an entry: 1 for a commitment that is not 32 bytes long, 8 for one with stray bits; the numbers are taken as they are
 abbrev pub entryRefused : ℕ → MadeEntry
@@ -48,15 +63,20 @@ madeEntry commitment offset size =
     entryRefused
     (record { code = 0; entry = entryOf commitment offset size })
 
--- reading an entry: 2 unless there are 64 bytes, else whether it is valid, with its three fields or zeros
-abbrev pub notValid : ℕ → ReadEntry
-notValid code = record { code = code; kind = EntryKind.NotValid; commitment = replicate 32 0; offset = 0; size = 0 }
+-- no fields: the kind with zeros
+abbrev pub noFields : ℕ → EntryKind → ReadEntry
+noFields code kind = record { code = code; kind = kind; commitment = replicate 32 0; offset = 0; size = 0 }
 
+-- what is read of an entry, by its kind
+abbrev pub readAs : EntryKind → List ℕ → ReadEntry
+readAs Blank entry = noFields 0 Blank
+readAs Damaged entry = noFields 0 Damaged
+readAs Valid entry = record { code = 0; kind = Valid; commitment = commitmentIn entry; offset = offsetIn entry; size = sizeIn entry }
+
+-- reading an entry: 2 unless there are 64 bytes, else its kind, with its three fields where it is valid; Blank beside the 2
 unfoldable pub readEntry : List ℕ → ReadEntry
 readEntry entry =
     unlessRefused
     (firstRefusal (rule (eqb (length entry) 64) 2 ∷ []))
-    notValid
-    (choose (checksumRight entry)
-    (record { code = 0; kind = EntryKind.Valid; commitment = commitmentIn entry; offset = offsetIn entry; size = sizeIn entry })
-    (notValid 0))
+    (λ code. noFields code Blank)
+    (readAs (kindOf entry) entry)

@@ -5,4 +5,5 @@ pub mod Checksum
 pub mod Entry
 pub mod SizesLaws
 pub mod EntryLaws
+pub mod KindLaws
 pub mod MadeLaws

@@ -6,7 +6,7 @@ ghost use mathlib.Core.Path.{_≡_};
 ghost use lib.ListN.{length};
 ghost use Rattle.octets.specs.Splice.{part};
 ghost use Rattle.entries.specs.Checksum.{checksumOf};
-ghost use Rattle.entries.specs.Entry.{entryOf, checksumRight, entryRefused, madeEntry, notValid, readEntry};
+ghost use Rattle.entries.specs.Entry.{entryOf, checksumRight, kindOf, entryRefused, madeEntry, noFields, readEntry};
 
 // The checksum of an entry, whatever its own last 16 bytes hold: the first 16 bytes of the SHA-256 of the entry with zeros
 // there, the top two bits of the last one cleared.
@@ -46,6 +46,21 @@ pub fn checksum_right(entry: &[u8]) -> bool
     octets::same(&sum, &entry[48..])
 }
 
+// The kind of an entry: blank where all its bytes are zero, else valid where its checksum is right, else damaged. A blank entry
+// costs no checksum.
+pub fn kind_of(entry: &[u8]) -> EntryKind
+    requires { ⌜ length (now entry) ≡ 64 ⌝ }
+    ensures { λ r. ⌜ r ≡ kindOf (now (entry .entry)) ⌝ }
+{
+    if octets::all_zero(entry) {
+        return EntryKind::Blank;
+    }
+    if !checksum_right(entry) {
+        return EntryKind::Damaged;
+    }
+    EntryKind::Valid
+}
+
 // The refusal of an entry.
 fn entry_refused(code: u8) -> MadeEntry
     ensures { λ r. ⌜ r ≡ entryRefused code ⌝ }
@@ -74,32 +89,33 @@ pub fn make_entry(commitment: &[u8], offset: u64, size: u64) -> MadeEntry
     }
 }
 
-// What is said of bytes that are no valid entry.
-fn not_valid(code: u8) -> ReadEntry
-    ensures { λ r. ⌜ r ≡ notValid code ⌝ }
+// What is said of bytes that are no valid entry, and on a refusal.
+fn no_fields(code: u8, kind: EntryKind) -> ReadEntry
+    ensures { λ r. ⌜ r ≡ noFields code kind ⌝ }
 {
     ReadEntry {
         code,
-        kind: EntryKind::NotValid,
+        kind,
         commitment: [0u8; 32],
         offset: 0,
         size: 0,
     }
 }
 
-// Whether lent bytes are a valid entry, with its three fields; 2 unless there are 64.
+// The kind of a lent entry, with its three fields where it is valid; 2 unless there are 64 bytes.
 pub fn read_entry(entry: &[u8]) -> ReadEntry
     ensures { λ r. ⌜ r ≡ readEntry (now (entry .entry)) ⌝ }
 {
     if entry.len() != 64 {
-        return not_valid(2);
+        return no_fields(2, EntryKind::Blank);
     }
-    if !checksum_right(entry) {
-        return not_valid(0);
-    }
+    let kind = kind_of(entry);
+    let EntryKind::Valid = kind else {
+        return no_fields(0, kind);
+    };
     ReadEntry {
         code: 0,
-        kind: EntryKind::Valid,
+        kind,
         commitment: octets::node_at(entry, 0),
         offset: octets::read_u64(entry, 32),
         size: octets::read_u64(entry, 40),

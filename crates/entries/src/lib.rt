@@ -5,6 +5,7 @@ mod sizes; // sizes.rt: allowed sizes, offsets and places, and the numbers of an
 pub use entry::checksum;
 pub use entry::checksum_right;
 pub use entry::entry_of;
+pub use entry::kind_of;
 pub use entry::make_entry;
 pub use entry::read_entry;
 pub use sizes::area;
@@ -34,13 +35,14 @@ pub struct MadeEntry {
     pub entry: [u8; 64],
 }
 
-// Whether the checksum of 64 bytes is right.
+// The kind of an entry: blank where all its 64 bytes are zero, else damaged where its checksum is wrong, else valid.
 pub enum EntryKind {
+    Blank,
+    Damaged,
     Valid,
-    NotValid,
 }
 
-// What 64 bytes say; zeros where they are not valid.
+// What the bytes of an entry say; zeros where it is not valid, and the kind Blank on a refusal.
 pub struct ReadEntry {
     pub code: u8,
     pub kind: EntryKind,

@@ -1,5 +1,7 @@
+pub mod ValidKind
 pub mod SlotAnswers
 pub mod SegmentNode
 pub mod Keeping
 pub mod View
 pub mod SlotStates
+pub mod Counting

@@ -8,23 +8,24 @@ use Rattle.octets.specs.LittleEndian.{numberOf}
 use Rattle.octets.specs.Splice.{part}
 use Rattle.paths.specs.NodeSource.{NodeSource}
 use Rattle.entries.specs.Sizes.{segmentSizeAllowed, offsetAllowed, segmentLevel, segmentPosition}
-use Rattle.entries.specs.Entry.{commitmentIn, offsetIn, sizeIn, checksumRight}
+use Rattle.entries.specs.Entry.{commitmentIn, offsetIn, sizeIn, isKind}
+use Rattle.entries.specs.declared.EntryKind.{EntryKind}
 use Rattle.index.specs.Slots.{standing, kept, free, rowOf, keptRow, standingOf}
 use Rattle.index.specs.SlotsLaws.{answer-stands, answer-free}
 use Rattle.index.specs.declared.Standing.{Standing}
 
 -- an entry as it is read
 module _ (d : ℕ) (entry : List ℕ) where
-  pub row-not-valid : checksumRight entry ≡ false → standingOf free ≡ standingOf (rowOf d entry)
+  pub row-not-valid : isKind EntryKind.Valid entry ≡ false → standingOf free ≡ standingOf (rowOf d entry)
   unfolding rowOf standing
   row-not-valid e = rw e
 
-  pub row-size-refused : (size : ℕ) → checksumRight entry ≡ true → size ≡ numberOf (part entry 40 8) → segmentSizeAllowed d size ≡ false
+  pub row-size-refused : (size : ℕ) → isKind EntryKind.Valid entry ≡ true → size ≡ numberOf (part entry 40 8) → segmentSizeAllowed d size ≡ false
       → standingOf free ≡ standingOf (rowOf d entry)
   unfolding rowOf standing sizeIn
   row-size-refused size e z s = rw (e, ← z, s)
 
-  module _ (offset size : ℕ) (e : checksumRight entry ≡ true) (o : offset ≡ numberOf (part entry 32 8)) (z : size ≡ numberOf (part entry 40 8)) (s : segmentSizeAllowed d size ≡ true) where
+  module _ (offset size : ℕ) (e : isKind EntryKind.Valid entry ≡ true) (o : offset ≡ numberOf (part entry 32 8)) (z : size ≡ numberOf (part entry 40 8)) (s : segmentSizeAllowed d size ≡ true) where
     pub row-offset-refused : offsetAllowed d offset size ≡ false → standingOf free ≡ standingOf (rowOf d entry)
     unfolding rowOf standing sizeIn offsetIn
     row-offset-refused p = rw (e, ← z, ← o, s, p)

@@ -8,7 +8,8 @@ use Rattle.octets.specs.Equality.{sameBytes}
 use Rattle.octets.specs.Splice.{part}
 use Rattle.paths.specs.NodeSource.{NodeSource}
 use Rattle.entries.specs.Sizes.{segmentSizeAllowed, offsetAllowed, slotPlace, segmentLevel, segmentPosition}
-use Rattle.entries.specs.Entry.{commitmentIn, offsetIn, sizeIn, checksumRight}
+use Rattle.entries.specs.Entry.{commitmentIn, offsetIn, sizeIn, isKind}
+use Rattle.entries.specs.declared.EntryKind.{EntryKind}
 use Rattle.index.specs.declared.Standing.{Standing}
 
 -- the 64 bytes at a place, and those in slot i
@@ -20,7 +21,7 @@ slotAt deal i = entryAt deal (slotPlace (length deal) i)
 
 -- standing: the entry is valid, its size is allowed, and so is its offset (house rule)
 unfoldable pub standing : ℕ → List ℕ → Bool
-standing d entry = checksumRight entry && (segmentSizeAllowed d (sizeIn entry) && offsetAllowed d (offsetIn entry) (sizeIn entry))
+standing d entry = isKind EntryKind.Valid entry && (segmentSizeAllowed d (sizeIn entry) && offsetAllowed d (offsetIn entry) (sizeIn entry))
 
 -- kept: standing, and the commitment is that of the whole area at the offset, by a source of the deal's nodes. What stands there after the segment's size
 -- is not asked to be zeros (docs/DECISIONS.md, request (iii))

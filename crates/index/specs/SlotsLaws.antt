@@ -5,23 +5,46 @@ use Prim.Native.Nat.{ℕ, zero, suc, _^_, _<_}
 use native.Mathlib.Omega.{arith}
 use mathlib.Core.List.{List}
 use lib.ListN.{length, getD, replicate}
+use lib.Dec.{eqb}
 use Rattle.octets.specs.Choice.{choose}
 use Rattle.octets.specs.RefusalLaws.{and-left, and-right}
-use Rattle.octets.specs.Equality.{sameBytes}
+use Rattle.octets.specs.Equality.{sameBytes, allZero}
 use Rattle.octets.specs.EqualityLaws.{same-true, same-of}
-use Rattle.octets.specs.LittleEndian.{numberOf}
-use Rattle.octets.specs.Splice.{part}
 use Rattle.paths.specs.NodeSource.{NodeSource}
 use Rattle.merkle.specs.Tree.{nodeAt}
 use Rattle.merkle.specs.TreeLaws.{node-at-clear}
 use Rattle.merkle.specs.StrayBits.{clearNode}
 use Rattle.merkle.specs.StrayBitsLaws.{clear-node}
 use Rattle.entries.specs.Sizes.{segmentSizeAllowed, offsetAllowed, segmentLevel, segmentPosition}
-use Rattle.entries.specs.Entry.{entryOf, commitmentIn, offsetIn, sizeIn, checksumRight}
+use Rattle.entries.specs.Entry.{entryOf, commitmentIn, offsetIn, sizeIn, checksumRight, kindOf, kindNumber, isKind}
 use Rattle.entries.specs.SizesLaws.{DealSize, segment-size}
 use Rattle.entries.specs.EntryLaws.{made-right, commitment-back, offset-back, size-back}
+use Rattle.entries.specs.KindLaws.{zero-size}
+use Rattle.entries.specs.declared.EntryKind.{EntryKind}
 use Rattle.index.specs.Slots.{standing, kept, free, holds, rowOf, keptRow, standingOf}
 use Rattle.index.specs.declared.Standing.{Standing}
+
+and-false : (b : Bool) → (b && false) ≡ false
+and-false true = refl
+and-false false = refl
+
+-- valid and in bounds, where all zeros are out of bounds: the checksum alone decides on valid
+valid-bounds : (zeros right bounds : Bool) → (zeros ≡ true → bounds ≡ false)
+    → (eqb (kindNumber (choose zeros EntryKind.Blank (choose right EntryKind.Valid EntryKind.Damaged))) 2 && bounds) ≡ (right && bounds)
+valid-bounds true right bounds h = rw (h refl) (sym (and-false right))
+valid-bounds false true bounds h = refl
+valid-bounds false false bounds h = refl
+
+-- standing asks for the checksum alone: an all-zero entry has the size 0, which is never allowed
+module _ (d : ℕ) (entry : List ℕ) where
+  zero-bounds : allZero entry ≡ true → (segmentSizeAllowed d (sizeIn entry) && offsetAllowed d (offsetIn entry) (sizeIn entry)) ≡ false
+  unfolding segmentSizeAllowed
+  zero-bounds z = rw (zero-size entry z)
+
+  pub standing-is : standing d entry ≡ (checksumRight entry && (segmentSizeAllowed d (sizeIn entry) && offsetAllowed d (offsetIn entry) (sizeIn entry)))
+  unfolding standing isKind kindOf
+  standing-is =
+      valid-bounds (allZero entry) (checksumRight entry) (segmentSizeAllowed d (sizeIn entry) && offsetAllowed d (offsetIn entry) (sizeIn entry)) zero-bounds
 
 -- standing implies valid and in bounds
 pub record Stands (d : ℕ) (entry : List ℕ) : Type 0 where
@@ -30,8 +53,8 @@ pub record Stands (d : ℕ) (entry : List ℕ) : Type 0 where
   pub offset-allowed : offsetAllowed d (offsetIn entry) (sizeIn entry) ≡ true
 
 pub stands : (d : ℕ) (entry : List ℕ) → standing d entry ≡ true → Stands d entry
-unfolding standing
-stands d entry e =
+stands d entry t =
+    let e = sym (standing-is d entry) ∙ t in
     let q = and-right (checksumRight entry) (segmentSizeAllowed d (sizeIn entry) && offsetAllowed d (offsetIn entry) (sizeIn entry)) e in
     record {
       right = and-left (checksumRight entry) (segmentSizeAllowed d (sizeIn entry) && offsetAllowed d (offsetIn entry) (sizeIn entry)) e;
@@ -68,8 +91,7 @@ kept-clear deal d entry t e =
 -- an entry made from an allowed size and offset stands, and is kept where the node is its commitment
 module _ (d : ℕ) (commitment : List ℕ) (offset size : ℕ) (l : length commitment ≡ 32) (ho : offset < 256 ^ 8) (hs : size < 256 ^ 8) where
   pub made-stands : segmentSizeAllowed d size ≡ true → offsetAllowed d offset size ≡ true → standing d (entryOf commitment offset size) ≡ true
-  unfolding standing
-  made-stands a b = rw (made-right commitment offset size l, offset-back commitment offset size l ho, size-back commitment offset size l hs, a, b)
+  made-stands a b = rw (standing-is d (entryOf commitment offset size), made-right commitment offset size l, offset-back commitment offset size l ho, size-back commitment offset size l hs, a, b)
 
   pub made-kept : (nodes : NodeSource) → segmentSizeAllowed d size ≡ true → offsetAllowed d offset size ≡ true
       → nodes (segmentLevel size) (segmentPosition offset size) ≡ commitment → kept nodes d (entryOf commitment offset size) ≡ true
@@ -89,14 +111,10 @@ module _ (d : ℕ) (commitment : List ℕ) (offset size : ℕ) (l : length commi
   made-row a b =
       rw (made-stands a b, commitment-back commitment offset size l, offset-back commitment offset size l ho, size-back commitment offset size l hs)
 
-and-false : (b : Bool) → (b && false) ≡ false
-and-false true = refl
-and-false false = refl
-
--- an all-zero slot holds no standing entry, whatever its checksum: its size is 0
+-- an all-zero slot holds no standing entry: it is blank
 pub zero-free : (d : ℕ) → standing d (replicate 64 0) ≡ false
-unfolding standing sizeIn part numberOf segmentSizeAllowed
-zero-free d = and-false (checksumRight (replicate 64 0))
+unfolding standing isKind kindOf allZero
+zero-free d = refl
 
 -- an answer by the test that decides on its row
 module _ (commitment : List ℕ) (offset size : ℕ) (answer : Standing) where

@@ -1,7 +1,8 @@
-// The index of a lent deal: its slots, finding a segment, and inspecting a slot.
+// The index of a lent deal: its slots, finding a segment, inspecting a slot, and the tally of its slots.
 mod finding; // finding.rt: finding a segment by its commitment
 mod inspecting; // inspecting.rt: what stands at an entry place
 mod slots; // slots.rt: standing and kept entries
+mod tallying; // tallying.rt: how many slots are of each kind
 
 pub use finding::find;
 pub use finding::find_numbers;
@@ -10,6 +11,7 @@ pub use slots::free_slot;
 pub use slots::kept_at;
 pub use slots::segment_has;
 pub use slots::standing_at;
+pub use tallying::tally;
 
 // What stands in a slot; zeros where nothing does.
 pub struct Standing {
@@ -41,4 +43,12 @@ pub struct Inspected {
     pub commitment: [u8; 32],
     pub offset: u64,
     pub size: u64,
+}
+
+// How many slots are blank, damaged and valid; zeros on a refusal.
+pub struct Tallied {
+    pub code: u8,
+    pub blank: u64,
+    pub damaged: u64,
+    pub valid: u64,
 }

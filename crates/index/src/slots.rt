@@ -1,5 +1,6 @@
 // The slots of a deal's index: which entries stand, and which are kept.
 use crate::Standing;
+use entries::EntryKind;
 ghost use mathlib.Core.Path.{_≡_};
 ghost use mathlib.Core.Bool.{true};
 ghost use Prim.Native.Nat.{_+_, _≤_};
@@ -28,9 +29,9 @@ pub fn standing_at(deal: &[u8], place: usize) -> Standing
 {
     let end = place + 64;
     let entry = &deal[place..end];
-    if !entries::checksum_right(entry) {
+    let EntryKind::Valid = entries::kind_of(entry) else {
         return free_slot();
-    }
+    };
     let deal_size = deal.len() as u64;
     let size = octets::read_u64(entry, 40);
     if !entries::segment_size_allowed(deal_size, size) {

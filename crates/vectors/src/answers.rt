@@ -84,12 +84,21 @@ fn read_entry(bytes: &[u8]) {
     let kind = entry.kind;
     show::code(entry.code);
     match kind {
-        EntryKind::Valid => show::number(1),
-        EntryKind::NotValid => show::number(0),
+        EntryKind::Blank => show::number(0),
+        EntryKind::Damaged => show::number(1),
+        EntryKind::Valid => show::number(2),
     }
     show::bytes(&commitment);
     show::number(entry.offset);
     show::number(entry.size);
+}
+
+fn tally(deal: &[u8]) {
+    let tallied = index::tally(deal);
+    show::code(tallied.code);
+    show::number(tallied.blank);
+    show::number(tallied.damaged);
+    show::number(tallied.valid);
 }
 
 fn find(deal: &[u8], commitment: &[u8]) {
@@ -205,6 +214,7 @@ fn answer_reading(operation: u64, a: &[u8], b: &[u8], x: u64, y: u64) {
         13 => show::code(check_input::check_input(a)),
         15 => compare(x, a, b),
         16 => stream(a, b),
+        19 => tally(a),
         _ => {}
     }
 }

@@ -5,8 +5,6 @@ use mathlib.Core.List.{List}
 use lib.ListN.{length}
 use lib.Dec.{eqb}
 use Rattle.octets.specs.Choice.{choose}
-use Rattle.entries.specs.declared.EntryKind.{EntryKind}
-use Rattle.entries.specs.declared.EntryKind.the-variants.{Valid, NotValid}
 use Rattle.index.specs.declared.SlotState.{SlotState}
 use Rattle.index.specs.declared.SlotState.the-variants.{Free, Standing, Kept}
 use Rattle.record.specs.declared.Field.{Field}
@@ -23,11 +21,6 @@ lentOutput code value before = choose (eqb code 0) value before
 -- the same where it is written with one other code too: 15 in vz_book, 17 in the two settlings
 abbrev pub lentOutputOr : {A : Type 0} → ℕ → ℕ → A → A → A
 lentOutputOr other code value before = choose (eqb code 0 || eqb code other) value before
-
--- the number of an entry's kind: 1 where it is valid
-abbrev pub kindNumber : EntryKind → ℕ
-kindNumber NotValid = 0
-kindNumber Valid = 1
 
 -- the number of a slot's state
 abbrev pub stateNumber : SlotState → ℕ

@@ -7,6 +7,7 @@ use crate::output::written_with;
 use index::SlotState;
 ghost use mathlib.Core.Path.{_≡_};
 ghost use Rattle.index.specs.Inspect.{inspected};
+ghost use Rattle.index.specs.Tally.{tallied};
 ghost use Rattle.index.specs.Find.{findNumbers};
 ghost use Rattle.booking.specs.Booking.{bookAnswer, bookedDeal};
 ghost use Rattle.vizhuthamen.specs.Export.{lentCode, lentOutput, lentOutputOr, stateNumber};
@@ -49,6 +50,22 @@ pub extern "C" fn vz_inspect(
     write_32_bytes(written, bytes, commitment);
     write_u64(written, answer.offset, offset);
     write_u64(written, answer.size, size);
+    answer.code as u32
+}
+
+// How many slots of a deal's index are blank, damaged and valid.
+#[no_mangle]
+pub extern "C" fn vz_tally(deal: &[u8], blank: &mut u64, damaged: &mut u64, valid: &mut u64) -> u32
+    ensures { λ r. ⌜ r ≡ tallied (now (deal .entry)) .code ⌝ }
+    ensures { λ r. ⌜ now (blank .exit) ≡ lentOutput r (tallied (now (deal .entry)) .blank) (now (blank .entry)) ⌝ }
+    ensures { λ r. ⌜ now (damaged .exit) ≡ lentOutput r (tallied (now (deal .entry)) .damaged) (now (damaged .entry)) ⌝ }
+    ensures { λ r. ⌜ now (valid .exit) ≡ lentOutput r (tallied (now (deal .entry)) .valid) (now (valid .entry)) ⌝ }
+{
+    let answer = index::tally(deal);
+    let written = answer.code == 0;
+    write_u64(written, answer.blank, blank);
+    write_u64(written, answer.damaged, damaged);
+    write_u64(written, answer.valid, valid);
     answer.code as u32
 }
 

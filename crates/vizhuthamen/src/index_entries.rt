@@ -7,8 +7,8 @@ use crate::output::write_u64;
 use entries::EntryKind;
 ghost use mathlib.Core.Path.{_≡_};
 ghost use Rattle.entries.specs.Numbers.{indexNumbers};
-ghost use Rattle.entries.specs.Entry.{madeEntry, readEntry};
-ghost use Rattle.vizhuthamen.specs.Export.{lentCode, lentOutput, kindNumber};
+ghost use Rattle.entries.specs.Entry.{kindNumber, madeEntry, readEntry};
+ghost use Rattle.vizhuthamen.specs.Export.{lentCode, lentOutput};
 
 // The number of index entries and the index start for a deal size.
 #[no_mangle]
@@ -39,13 +39,14 @@ pub extern "C" fn vz_make_entry(commitment: &[u8], offset: u64, size: u64, entry
     answer.code as u32
 }
 
-// The number of an entry's kind: 1 for a valid one.
+// The number of an entry's kind.
 fn kind_number(kind: EntryKind) -> u32
     ensures { λ r. ⌜ r ≡ kindNumber kind ⌝ }
 {
     match kind {
-        EntryKind::NotValid => 0,
-        EntryKind::Valid => 1,
+        EntryKind::Blank => 0,
+        EntryKind::Damaged => 1,
+        EntryKind::Valid => 2,
     }
 }
 
@@ -53,13 +54,13 @@ fn kind_number(kind: EntryKind) -> u32
 #[no_mangle]
 pub extern "C" fn vz_read_entry(
     entry: &[u8],
-    valid: &mut u32,
+    kind: &mut u32,
     commitment: &mut [u8],
     offset: &mut u64,
     size: &mut u64,
 ) -> u32
     ensures { λ r. ⌜ r ≡ lentCode 32 (now (commitment .entry)) (readEntry (now (entry .entry)) .code) ⌝ }
-    ensures { λ r. ⌜ now (valid .exit) ≡ lentOutput r (kindNumber (readEntry (now (entry .entry)) .kind)) (now (valid .entry)) ⌝ }
+    ensures { λ r. ⌜ now (kind .exit) ≡ lentOutput r (kindNumber (readEntry (now (entry .entry)) .kind)) (now (kind .entry)) ⌝ }
     ensures { λ r. ⌜ now (commitment .exit) ≡ lentOutput r (readEntry (now (entry .entry)) .commitment) (now (commitment .entry)) ⌝ }
     ensures { λ r. ⌜ now (offset .exit) ≡ lentOutput r (readEntry (now (entry .entry)) .offset) (now (offset .entry)) ⌝ }
     ensures { λ r. ⌜ now (size .exit) ≡ lentOutput r (readEntry (now (entry .entry)) .size) (now (size .entry)) ⌝ }
@@ -69,9 +70,9 @@ pub extern "C" fn vz_read_entry(
     }
     let answer = entries::read_entry(entry);
     let written = answer.code == 0;
-    let kind = answer.kind;
+    let entry_kind = answer.kind;
     let bytes = answer.commitment;
-    write_u32(written, kind_number(kind), valid);
+    write_u32(written, kind_number(entry_kind), kind);
     write_32_bytes(written, bytes, commitment);
     write_u64(written, answer.offset, offset);
     write_u64(written, answer.size, size);

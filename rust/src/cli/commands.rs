@@ -7,7 +7,7 @@ use super::json::Json;
 use super::progress::Progress;
 use super::table::{table, Column};
 use vizhuthamen::{
-    hex, Booking, Entry, Field, Node, Position, Refusal, Settled, Slot, Streaming, MAX_DEAL, MAX_STREAM,
+    hex, Booking, Entry, Field, Node, Position, ReadEntry, Refusal, Settled, Slot, Streaming, MAX_DEAL, MAX_STREAM,
 };
 
 pub fn run(command: Command) -> Result<Answer, Failure> {
@@ -17,6 +17,7 @@ pub fn run(command: Command) -> Result<Answer, Failure> {
         Command::CommitStream { file } => commit_stream(&file),
         Command::Book { deal, segment } => book(&deal, &segment),
         Command::List { deal } => list(&deal),
+        Command::Tally { deal } => tally(&deal),
         Command::Find { deal, commitment, output } => find(&deal, &commitment, output),
         Command::Build { deal, place, output } => build(&deal, place, output),
         Command::Check { commitment, size, record } => check(&commitment, size, &record),
@@ -147,8 +148,8 @@ fn list(deal: &Stream) -> Result<Answer, Failure> {
     for i in 0..numbers.entries {
         progress.step(i, numbers.entries);
         let place = numbers.start + 64 * i;
-        match vizhuthamen::inspect(&deal.bytes, place) {
-            Ok(slot) => add_slot(i, place, slot, &mut rows, &mut slots),
+        match state(&deal.bytes, place) {
+            Ok((state, entry)) => add_slot(i, place, state, entry, &mut rows, &mut slots),
             Err(refusal) => return Ok(refused(refusal, &deal)),
         }
     }
@@ -166,13 +167,28 @@ fn list(deal: &Stream) -> Result<Answer, Failure> {
     Ok(Answer::done("done").with_text(table(&columns, &rows), members))
 }
 
-/// Adds a slot to the table and to the list for JSON.
-fn add_slot(slot: u64, place: u64, held: Slot, rows: &mut Vec<Vec<String>>, slots: &mut Vec<Json>) {
-    let (state, entry) = match held {
-        Slot::Free => ("free", None),
-        Slot::Standing(entry) => ("standing", Some(entry)),
+/// What the slot at a place holds, in a word, and its entry where that is valid. A free slot is told by the kind of its bytes.
+fn state(deal: &[u8], place: u64) -> Result<(&'static str, Option<Entry>), Refusal> {
+    Ok(match vizhuthamen::inspect(deal, place)? {
         Slot::Kept(entry) => ("kept", Some(entry)),
-    };
+        Slot::Standing(entry) => ("standing", Some(entry)),
+        Slot::Free => match vizhuthamen::read_entry(&deal[place as usize..][..64])? {
+            ReadEntry::Blank => ("blank", None),
+            ReadEntry::Damaged => ("damaged", None),
+            ReadEntry::Valid(entry) => ("valid", Some(entry)),
+        },
+    })
+}
+
+/// Adds a slot to the table and to the list for JSON.
+fn add_slot(
+    slot: u64,
+    place: u64,
+    state: &str,
+    entry: Option<Entry>,
+    rows: &mut Vec<Vec<String>>,
+    slots: &mut Vec<Json>,
+) {
     let cell = |value: fn(&Entry) -> String| entry.as_ref().map_or("-".to_string(), value);
     rows.push(vec![
         slot.to_string(),
@@ -188,6 +204,17 @@ fn add_slot(slot: u64, place: u64, held: Slot, rows: &mut Vec<Vec<String>>, slot
         members.push(("commitment", text(commitment)));
     }
     slots.push(Json::Object(members));
+}
+
+fn tally(deal: &Stream) -> Result<Answer, Failure> {
+    let deal = files::read(deal)?;
+    Ok(match vizhuthamen::tally(&deal.bytes) {
+        Ok(tally) => Answer::done("done")
+            .with_value("blank", Json::Number(tally.blank))
+            .with_value("damaged", Json::Number(tally.damaged))
+            .with_value("valid", Json::Number(tally.valid)),
+        Err(refusal) => refused(refusal, &deal),
+    })
 }
 
 fn find(deal: &Stream, commitment: &[u8], output: Option<Stream>) -> Result<Answer, Failure> {

@@ -9,7 +9,7 @@ pub struct Topic {
     text: &'static str,
 }
 
-pub const TOPICS: [Topic; 11] = [
+pub const TOPICS: [Topic; 12] = [
     Topic {
         name: "new",
         operands: &["DEAL", "SIZE"],
@@ -55,9 +55,20 @@ DEAL is not locked: a change made to it by another program during the booking is
         takes_output: false,
         summary: "list the index of a deal as a table",
         text: "Lists every slot of the index: slot, entry place, state, offset, size, commitment. The state is
-  free      no standing entry
+  blank     all its bytes are zero
+  damaged   its checksum is wrong
+  valid     its checksum is right, but its size or its offset is not allowed
   standing  an entry stands, but its commitment is not that of the bytes at its offset
-  kept      an entry stands, and its commitment is that of the bytes at its offset",
+  kept      an entry stands, and its commitment is that of the bytes at its offset
+A slot that is blank, damaged or valid holds no standing entry and is free for booking.",
+    },
+    Topic {
+        name: "tally",
+        operands: &["DEAL"],
+        takes_output: false,
+        summary: "count the blank, damaged and valid slots of a deal",
+        text: "Counts the slots of the index by their kind: blank (all 64 bytes are zero), damaged (the checksum is wrong) and
+valid (the checksum is right, standing or not). Together they are all slots.",
     },
     Topic {
         name: "find",

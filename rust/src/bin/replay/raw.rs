@@ -65,6 +65,7 @@ pub fn answer(case: &mut Case) -> Answer {
         12 => fields(a),
         14 => inspect(a, x),
         16 => stream(a, b),
+        19 => tally(a),
         _ => no_operation(operation),
     }
 }
@@ -103,12 +104,12 @@ fn make_entry(c: &[u8], offset: u64, size: u64) -> Answer {
 }
 
 fn read_entry(entry: &[u8]) -> Answer {
-    let (mut valid, mut node, mut offset, mut size) = (WORD, [PATTERN; 32], NUMBER, NUMBER);
+    let (mut kind, mut node, mut offset, mut size) = (WORD, [PATTERN; 32], NUMBER, NUMBER);
     let code = unsafe {
         let out = node.as_mut_ptr();
-        ffi::vz_read_entry(entry.as_ptr(), entry.len(), &mut valid, out, 32, &mut offset, &mut size)
+        ffi::vz_read_entry(entry.as_ptr(), entry.len(), &mut kind, out, 32, &mut offset, &mut size)
     };
-    Written::new(code, &[0]).word(valid).bytes(node).number(offset).number(size).done()
+    Written::new(code, &[0]).word(kind).bytes(node).number(offset).number(size).done()
 }
 
 fn inspect(deal: &[u8], place: u64) -> Answer {
@@ -118,6 +119,12 @@ fn inspect(deal: &[u8], place: u64) -> Answer {
         ffi::vz_inspect(deal.as_ptr(), deal.len(), place, &mut state, out, 32, &mut offset, &mut size)
     };
     Written::new(code, &[0]).word(state).bytes(node).number(offset).number(size).done()
+}
+
+fn tally(deal: &[u8]) -> Answer {
+    let (mut blank, mut damaged, mut valid) = (NUMBER, NUMBER, NUMBER);
+    let code = unsafe { ffi::vz_tally(deal.as_ptr(), deal.len(), &mut blank, &mut damaged, &mut valid) };
+    Written::new(code, &[0]).number(blank).number(damaged).number(valid).done()
 }
 
 fn find(deal: &[u8], c: &[u8]) -> Answer {

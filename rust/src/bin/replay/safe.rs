@@ -1,7 +1,7 @@
 //! A case answered by the safe functions.
 use super::{commitment_end, digest, no_operation, pieces, Answer, Case, Line};
 use std::fmt::Write;
-use vizhuthamen::{self as vz, Booking, Node, Position, Refusal, Settled, Slot, Streaming};
+use vizhuthamen::{self as vz, Booking, Node, Position, ReadEntry, Refusal, Settled, Slot, Streaming};
 
 fn code(result: Result<(), Refusal>) -> Line {
     Line::code(result.err().map_or(0, Refusal::code))
@@ -27,6 +27,7 @@ pub fn answer(case: Case) -> Answer {
         12 => fields(&a),
         14 => Ok(inspect(&a, x)),
         16 => Ok(stream(&a, &b)),
+        19 => Ok(tally(&a)),
         _ => no_operation(operation),
     }
 }
@@ -60,11 +61,11 @@ fn made_entry(result: Result<[u8; 64], Refusal>) -> Line {
 
 fn read_entry(entry: &[u8]) -> Line {
     let result = vz::read_entry(entry);
-    let fields = result.ok().flatten();
-    let line = code(result.map(drop)).add(u8::from(fields.is_some()));
-    match fields {
-        Some(entry) => line.add(entry.commitment).add(entry.offset).add(entry.size),
-        None => line.add(Node::default()).add(0).add(0),
+    let line = code(result.map(drop));
+    match result.unwrap_or(ReadEntry::Blank) {
+        ReadEntry::Blank => line.add(0).add(Node::default()).add(0).add(0),
+        ReadEntry::Damaged => line.add(1).add(Node::default()).add(0).add(0),
+        ReadEntry::Valid(entry) => line.add(2).add(entry.commitment).add(entry.offset).add(entry.size),
     }
 }
 
@@ -76,6 +77,12 @@ fn inspect(deal: &[u8], place: u64) -> Line {
         Slot::Standing(entry) => line.add(1).add(entry.commitment).add(entry.offset).add(entry.size),
         Slot::Kept(entry) => line.add(2).add(entry.commitment).add(entry.offset).add(entry.size),
     }
+}
+
+fn tally(deal: &[u8]) -> Line {
+    let result = vz::tally(deal);
+    let (blank, damaged, valid) = result.map_or((0, 0, 0), |tally| (tally.blank, tally.damaged, tally.valid));
+    code(result.map(drop)).add(blank).add(damaged).add(valid)
 }
 
 /// The view is shown by its length and its SHA-256.

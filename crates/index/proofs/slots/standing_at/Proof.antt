@@ -8,6 +8,7 @@ use borrow.Author.Needs.{needs}
 use Rattle.octets.specs.SpliceLaws.{part-range}
 use Rattle.entries.specs.SizesLaws.{lent-size}
 use Rattle.index.specs.Slots.{rowOf, standingOf}
+use Rattle.index.proofs.ValidKind.{is-valid, not-valid}
 use Rattle.index.proofs.SlotAnswers.{row-not-valid, row-size-refused, row-offset-refused, row-stands}
 use Rattle.index.proofs.slots.standing_at.Statement.{statement}
 use Rattle.index.proofs.slots.standing_at.Tie as tie
@@ -24,8 +25,11 @@ part-entry-start c = search needs
 part-entry-end : tie.Need-part-entry-end
 part-entry-end c = search needs
 
-checksum-right-requires : tie.Need-checksum-right-requires
-checksum-right-requires c κs = search needs
+kind-of-requires : tie.Need-kind-of-requires
+kind-of-requires c κs = search needs
+
+enum-told : tie.Need-enum-told
+enum-told c = search needs
 
 free-slot-requires : tie.Need-free-slot-requires
 free-slot-requires c κs = search needs
@@ -37,7 +41,7 @@ returns c =
     let deal = now (s .args .deal) in
     let entry = take (s .args .place + 64 - s .args .place) (drop (s .args .place) deal) in
     c .free-slot .ensures
-    ∙ row-not-valid (length deal) entry (sym (k .checksum-right .ensures) ∙ not-true _ (c .before .if1 .taken))
+    ∙ row-not-valid (length deal) entry (not-valid entry (k .kind-of .result) (k .kind-of .ensures) (c .before .match .keys2))
     ∙ ap (λ (l : List ℕ). standingOf (rowOf (length deal) l)) (part-range deal (s .args .place) 64)
 
 read-u64-requires : tie.Need-read-u64-requires
@@ -53,15 +57,16 @@ returns-2 : tie.Need-returns-2
 returns-2 c =
     let z = c .before .before in
     let r = z .before in
-    let k = r .before .before in
+    let e = r .before in
+    let k = e .before .before in
     let s = k .before .before .before in
     let deal = now (s .args .deal) in
     let entry = take (s .args .place + 64 - s .args .place) (drop (s .args .place) deal) in
     c .free-slot2 .ensures
     ∙ row-size-refused (length deal) entry (r .read-u64 .result)
-    (sym (k .checksum-right .ensures) ∙ not-false _ (r .before .if1 .left))
+    (is-valid entry (k .kind-of .result) (k .kind-of .ensures) (e .enum-told .given .1))
     (r .read-u64 .ensures)
-    (sym (z .segment-size-allowed .ensures) ∙ not-true _ (c .before .if2 .taken))
+    (sym (z .segment-size-allowed .ensures) ∙ not-true _ (c .before .if1 .taken))
     ∙ ap (λ (l : List ℕ). standingOf (rowOf (length deal) l)) (part-range deal (s .args .place) 64)
 
 read-u64-requires-2 : tie.Need-read-u64-requires-2
@@ -70,8 +75,8 @@ read-u64-requires-2 c κs = search needs
 offset-allowed-requires : tie.Need-offset-allowed-requires
 offset-allowed-requires c κs =
     let z = c .before .before in
-    let s = z .before .before .before .before .before .before in
-    (lent-size (length (now (s .args .deal))) (s .pre .0) .allowed, sym (z .segment-size-allowed .ensures) ∙ not-false _ (c .before .if2 .left))
+    let s = z .before .before .before .before .before .before .before in
+    (lent-size (length (now (s .args .deal))) (s .pre .0) .allowed, sym (z .segment-size-allowed .ensures) ∙ not-false _ (c .before .if1 .left))
 
 free-slot-requires-3 : tie.Need-free-slot-requires-3
 free-slot-requires-3 c κs = search needs
@@ -82,17 +87,18 @@ returns-3 c =
     let t = o .before in
     let z = t .before .before in
     let r = z .before in
-    let k = r .before .before in
+    let e = r .before in
+    let k = e .before .before in
     let s = k .before .before .before in
     let deal = now (s .args .deal) in
     let entry = take (s .args .place + 64 - s .args .place) (drop (s .args .place) deal) in
     c .free-slot3 .ensures
     ∙ row-offset-refused (length deal) entry (t .read-u642 .result) (r .read-u64 .result)
-    (sym (k .checksum-right .ensures) ∙ not-false _ (r .before .if1 .left))
+    (is-valid entry (k .kind-of .result) (k .kind-of .ensures) (e .enum-told .given .1))
     (t .read-u642 .ensures)
     (r .read-u64 .ensures)
-    (sym (z .segment-size-allowed .ensures) ∙ not-false _ (t .before .if2 .left))
-    (sym (o .offset-allowed .ensures) ∙ not-true _ (c .before .if3 .taken))
+    (sym (z .segment-size-allowed .ensures) ∙ not-false _ (t .before .if1 .left))
+    (sym (o .offset-allowed .ensures) ∙ not-true _ (c .before .if2 .taken))
     ∙ ap (λ (l : List ℕ). standingOf (rowOf (length deal) l)) (part-range deal (s .args .place) 64)
 
 node-at-requires : tie.Need-node-at-requires
@@ -104,18 +110,19 @@ returns-4 c =
     let t = o .before in
     let z = t .before .before in
     let r = z .before in
-    let k = r .before .before in
+    let e = r .before in
+    let k = e .before .before in
     let s = k .before .before .before in
     let deal = now (s .args .deal) in
     let entry = take (s .args .place + 64 - s .args .place) (drop (s .args .place) deal) in
     row-stands (length deal) entry (t .read-u642 .result) (r .read-u64 .result)
-    (sym (k .checksum-right .ensures) ∙ not-false _ (r .before .if1 .left))
+    (is-valid entry (k .kind-of .result) (k .kind-of .ensures) (e .enum-told .given .1))
     (t .read-u642 .ensures)
     (r .read-u64 .ensures)
-    (sym (z .segment-size-allowed .ensures) ∙ not-false _ (t .before .if2 .left))
+    (sym (z .segment-size-allowed .ensures) ∙ not-false _ (t .before .if1 .left))
     (c .node-at .result)
     (c .node-at .ensures)
-    (sym (o .offset-allowed .ensures) ∙ not-false _ (c .before .if3 .left))
+    (sym (o .offset-allowed .ensures) ∙ not-false _ (c .before .if2 .left))
     ∙ ap (λ (l : List ℕ). standingOf (rowOf (length deal) l)) (part-range deal (s .args .place) 64)
 
 pub standing-at-spec : {M : Type 1} → statement M
@@ -126,7 +133,8 @@ standing-at-spec =
     sub-entry
     part-entry-start
     part-entry-end
-    checksum-right-requires
+    kind-of-requires
+    enum-told
     free-slot-requires
     returns
     read-u64-requires
