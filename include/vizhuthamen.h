@@ -21,7 +21,7 @@ extern "C" {
 enum {
   VZ_OK = 0,                 /* done, accepted, or both records the same */
   VZ_COMMITMENT_LENGTH = 1,  /* a lent commitment is not 32 bytes long */
-  VZ_SIZE = 2,               /* a deal, run, stream, message or lent entry size is not allowed */
+  VZ_SIZE = 2,               /* a deal, run, stream, message, raw archive or lent entry size is not allowed */
   VZ_FORM = 3,               /* a record's tags, order, lengths or end are wrong */
   VZ_SEGMENT_SIZE = 4,       /* segment size not allowed for this deal size */
   VZ_OFFSET = 5,             /* offset not a multiple of the segment's area, or the area ends beyond the index start */
@@ -38,7 +38,8 @@ enum {
   VZ_NOT_KEPT = 16,          /* no kept entry at that place, or with that commitment */
   VZ_COLLISION = 17,         /* two different 64-byte strings with one node hash are shown */
   VZ_OTHER_PLACE = 18,       /* the two records name different entry places */
-  VZ_PATH_BITS = 19          /* a node of a path has stray bits */
+  VZ_PATH_BITS = 19,         /* a node of a path has stray bits */
+  VZ_SEGMENT_LENGTH = 24     /* the segment has another length than the raw length gives */
 };
 
 /* The kind of an index entry. */
@@ -69,6 +70,15 @@ uint32_t vz_stream_take(uint8_t *state, size_t state_len, const uint8_t *piece, 
 /* The commitment of all bytes taken so far, and their number, a power of two from 32 to 2^36. The state stays: more pieces may be
  * taken. node: 32 bytes. Codes: 12, 11, 2. */
 uint32_t vz_stream_end(const uint8_t *state, size_t state_len, uint8_t *node, size_t node_len, uint64_t *count);
+
+/* Fr32 padding: writes the segment of raw_len raw bytes, 1 to 8,323,072, into the first bytes of segment, and answers its length,
+ * raw_len x 128 / 127 rounded up; the rest of segment stays. 2^23 bytes hold any segment. Codes: 2, 12. */
+uint32_t vz_fr32_pad(const uint8_t *raw, size_t raw_len, uint8_t *segment, size_t segment_len, uint64_t *length);
+
+/* The way back: writes the raw_length raw bytes of a segment into the first bytes of raw, and answers their number; the rest of raw
+ * stays. Codes: 2 for raw_length, 24, 11 for stray bits in whole nodes or any bit set after the last raw one, 12. */
+uint32_t vz_fr32_unpad(uint64_t raw_length, const uint8_t *segment, size_t segment_len, uint8_t *raw, size_t raw_len,
+                       uint64_t *length);
 
 /* The number of index entries and the index start for a deal size, a power of two from 512 to 2^36. Codes: 2. */
 uint32_t vz_index_numbers(uint64_t size, uint64_t *entries, uint64_t *start);

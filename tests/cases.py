@@ -5,7 +5,8 @@ line of text: the code, the numbers in decimal, the bytes in hex. `encode` and `
 """
 import hashlib
 
-from model import Model, area, filled, index_numbers, le, power, sha256
+from model import (MAX_RAW, Model, area, filled, index_numbers, le, pad, power, segment_bit, segment_length, sha256,
+                   unpad)
 
 SHA256, COMMITMENT, NUMBERS, MAKE, READ, FIND, BOOK, BUILD, CHECK, SETTLE, SETTLE_DEAL, FIELDS = range(1, 13)
 TALLY = 19
@@ -18,6 +19,7 @@ CHECK_INPUT = 13  # of the program check_record; no routine of its own
 COMPARE = 15  # of the code that settling shares: two paths from one position
 INSPECT = 14  # of the C interface: what stands at an entry place
 STREAM = 16  # bytes that arrive in pieces
+PAD, UNPAD = 17, 18  # raw archives to segments and back
 
 MODEL = Model()
 
@@ -90,6 +92,12 @@ def answer(case):
     if op == STREAM:  # a are the bytes, b the lengths of the pieces but the last; after the answer the code that sticks after each
         code, node, count, codes = m.stream(pieces(a, b))
         return line(code, node, count, *codes)
+    if op == PAD:  # a are the raw bytes, b is the output before; the output afterwards as its SHA-256
+        code, n, out = pad(a, b)
+        return line(code, n, digest(out))
+    if op == UNPAD:  # a is the segment, b the output before, x the raw length; the output afterwards as its SHA-256
+        code, n, out = unpad(x, a, b)
+        return line(code, n, digest(out))
     if op == TALLY:  # a is the deal
         return line(*m.tally(a))
     raise ValueError(op)
@@ -117,6 +125,7 @@ def check_input(data):
 
 # ---- what the calls are made of
 
+RAW_LENGTHS = (1, 2, 31, 32, 63, 64, 126, 127, 128, 254, 255, 381, 508, 1016)
 TOTALS = (0, 1, 31, 32, 33, 63, 64, 65, 96, 127, 128, 256, 1000, 1024, 2048, 4064, 4096)
 
 
@@ -170,6 +179,55 @@ def streams(rng, totals=TOTALS):
         for data in runs:
             for lengths in (b"", b"\0\0", bytes([31, 1, 0, 33]), bytes([1]) * min(total, 70), cuts(rng, total)):
                 yield STREAM, data, lengths, 0, 0
+
+
+def archive(rng, n):
+    """Raw bytes: any, all ones, or all zero."""
+    return rng.choice((rng.randbytes(n), rng.randbytes(n), b"\xff" * n, bytes(n)))
+
+
+def output(rng, n):
+    """An output for n bytes: of their length, longer, shorter, empty."""
+    return rng.randbytes(rng.choice((n, n, n + 1, n + rng.randrange(60), max(n - 1, 0), rng.randrange(n + 1), 0)))
+
+
+def segment_of(raw):
+    return pad(raw, bytes(segment_length(len(raw))))[2]
+
+
+def paddings(rng, lengths=RAW_LENGTHS):
+    """Raw bytes there and back, with outputs of every kind. Then segments with another length, and with one bit set that is not raw:
+    each of those after the last raw bit, and the two high bits of every whole node."""
+    for n in lengths:
+        for raw in (rng.randbytes(n), b"\xff" * n):
+            segment = segment_of(raw)
+            t = len(segment)
+            for size in (t, t - 1, t + 17):
+                yield PAD, raw, rng.randbytes(size), 0, 0
+            for size in (n, n - 1, n + 9):
+                yield UNPAD, segment, rng.randbytes(size), n, 0
+        for named, data in ((n, segment[:-1]), (n, segment + b"\0"), (n, b""), (n - 1, segment), (n + 1, segment)):
+            yield UNPAD, data, rng.randbytes(n + 1), named, 0
+        high = [256 * k + b for k in range(t // 32) for b in (254, 255)]
+        for at in sorted({*high, *range(segment_bit(8 * n - 1) + 1, 8 * t)}):
+            yield UNPAD, strayed(segment, at // 8, 1 << at % 8), rng.randbytes(n), n, 0
+    for n in (0, MAX_RAW + 1, (1 << 64) - 1):
+        yield UNPAD, bytes(2), bytes(9), n, 0
+    yield PAD, b"", bytes(9), 0, 0
+
+
+def padding_case(rng, op):
+    n = rng.choice((*RAW_LENGTHS, rng.randrange(1, 300), rng.randrange(1, 1200)))
+    raw = archive(rng, n if rng.randrange(20) else 0)
+    if op == PAD:
+        return op, raw, output(rng, segment_length(n)), 0, 0
+    segment = segment_of(raw)
+    if segment and not rng.randrange(3):  # a bit that may be no raw one
+        segment = strayed(segment, rng.choice((rng.randrange(len(segment)), len(segment) - 1)), 1 << rng.randrange(8))
+    if not rng.randrange(8):
+        segment = rng.choice((rng.randbytes(len(segment)), segment[:-1], segment + b"\0", rng.randbytes(rng.randrange(300))))
+    named = rng.choice((n, n, n, n, n, n, n, n + 1, n - 1, any_number(rng), MAX_RAW + 1))
+    return op, segment, output(rng, n), named, 0
 
 
 def any_number(rng):
@@ -336,6 +394,8 @@ def case(rng, op, sizes):
     if op == STREAM:
         data = run(rng, rng.choice((*TOTALS, 1 << rng.randrange(5, 13), rng.randrange(3000))))
         return op, maybe_strayed(rng, data), cuts(rng, len(data)), 0, 0
+    if op in (PAD, UNPAD):
+        return padding_case(rng, op)
     data = odd_deal(rng, sizes)
     if op == FIND:
         return op, data, commitment_for(rng, data), 0, 0

@@ -17,11 +17,12 @@ import unittest
 from pathlib import Path
 
 from cases import node
-from model import Model, filled
+from model import MAX_RAW, Model, filled, pad, segment_length, unpad
 
 ROOT = Path(__file__).resolve().parent.parent
 BINARY = Path(os.environ.get("VIZHUTHAMEN", ROOT / "rust" / "target" / "release" / "vizhuthamen"))
-COMMANDS = ("new", "commit", "stream", "book", "list", "tally", "find", "build", "check", "settle", "settle-deal", "show")
+COMMANDS = ("new", "commit", "stream", "pad", "unpad", "book", "list", "tally", "find", "build", "check", "settle", "settle-deal",
+            "show")
 MODEL = Model()
 USAGE, IO = 64, 74
 
@@ -229,6 +230,50 @@ class Streams(Calls):
         self.assertEqual(ran.returncode, 11)
 
 
+class Archives(Calls):
+    def test_raw_bytes_there_and_back(self):
+        for n in (1, 2, 127, 128, 255, 1000, 5000):
+            raw = self.put("raw", self.rng.randbytes(n))
+            segment = pad(raw, bytes(segment_length(n)))[2]
+            self.assertEqual(self.answer("pad", "raw"), segment.hex() + "\n")
+            self.assertEqual(self.answer("pad", "-", stdin=raw), segment.hex() + "\n")
+            self.assertEqual(self.answer("pad", "raw", "--output", "segment"), f"length {len(segment)}\n")
+            self.assertEqual(self.get("segment"), segment)
+            self.assertEqual(self.answer("unpad", n, "segment"), raw.hex() + "\n")
+            self.assertEqual(self.answer("unpad", n, "segment", "--output", "back"), f"length {n}\n")
+            self.assertEqual(self.get("back"), raw)
+
+    def test_the_longest_archive(self):
+        raw = self.put("raw", self.rng.randbytes(MAX_RAW))
+        self.assertEqual(self.answer("pad", "raw", "-o", "segment"), f"length {1 << 23}\n")
+        self.answer("commit", "segment")
+        self.answer("new", "deal", 1 << 24)
+        self.answer("book", "deal", "segment")
+        self.assertEqual(self.answer("unpad", MAX_RAW, "segment", "-o", "back"), f"length {MAX_RAW}\n")
+        self.assertEqual(self.get("back"), raw)
+
+    def test_refusals(self):
+        for size in (0, MAX_RAW + 1):
+            self.put("raw", bytes(size))
+            out, err = self.call("pad", "raw", status=2)
+            self.assertTrue(out.startswith("code 2: "), out)
+            self.assertIn(f"raw has {size} bytes; an archive has from 1 to {MAX_RAW} bytes", err)
+        segment = self.put("segment", pad(b"\xff" * 128, bytes(130))[2])
+        for n in (0, MAX_RAW + 1, (1 << 64) - 1):
+            self.refused(2, "unpad", n, "segment")
+        for n in (1, 127, 129):
+            out, err = self.call("unpad", n, "segment", status=24)
+            self.assertTrue(out.startswith("code 24: the segment has another length than the raw length gives\n"), out)
+            self.assertIn(f"segment has 130 bytes; the segment of {n} raw bytes has {segment_length(n)}", err)
+        for at, bits in ((31, 64), (127, 128), (129, 1), (129, 128)):
+            self.put("spoilt", segment[:at] + bytes([segment[at] | bits]) + segment[at + 1:])
+            self.refused(11, "unpad", 128, "spoilt", "-o", "back")
+        self.put("raw", b"raw")
+        self.failed(USAGE, "pad", "raw", "-o", "raw")
+        self.failed(USAGE, "unpad", 128, "segment", "-o", "./segment")
+        self.assertEqual(self.files(), ["raw", "segment", "spoilt"])
+
+
 class Json(Calls):
     def object(self, *words, status=0):
         out = self.answer(*words, "--json", status=status)
@@ -242,6 +287,11 @@ class Json(Calls):
         deal, places = self.booked()
         record = self.put("record", MODEL.build(deal, places[0])[1])
         root, commitment = MODEL.commitment(deal)[1].hex(), deal[places[0] : places[0] + 32].hex()
+        padded = self.object("pad", "record")
+        self.assertEqual(padded["length"], segment_length(len(record)))
+        self.put("padded", bytes.fromhex(padded["segment"]))
+        raw = self.object("unpad", len(record), "padded")
+        self.assertEqual((raw["length"], raw["raw"]), (len(record), record.hex()))
         new = self.object("new", "other", 512)
         self.assertEqual((new["size"], new["entries"], new["start"]), (512, 4, 256))
         for command in ("commit", "stream"):
@@ -384,6 +434,8 @@ class Usage(Calls):
     def test_bytes_to_standard_output(self):
         deal, places = self.booked()
         for words, data in ((("build", "deal", places[0]), MODEL.build(deal, places[0])[1]),
+                            (("pad", "deal"), pad(deal, bytes(segment_length(1024)))[2]),
+                            (("unpad", 1016, "deal"), unpad(1016, deal, bytes(1016))[2]),
                             (("find", "deal", deal[places[0] : places[0] + 32].hex()), deal[:256])):
             ran = subprocess.run([self.program, *map(str, words), "-o", "-"], capture_output=True, cwd=self.folder)
             self.assertEqual((ran.returncode, ran.stdout, ran.stderr), (0, data, b""))
@@ -398,7 +450,7 @@ class Usage(Calls):
             call = [self.rng.choice(COMMANDS), *self.rng.choices(words, k=self.rng.randrange(5))]
             self.put("noise", self.rng.randbytes(self.rng.randrange(400)))
             ran = subprocess.run([self.program, *call], input=self.rng.randbytes(300), capture_output=True, cwd=self.folder)
-            self.assertIn(ran.returncode, (*range(20), USAGE, IO), call)
+            self.assertIn(ran.returncode, (*range(25), USAGE, IO), call)
             self.assertNotIn(b"panicked", ran.stderr, call)
             self.put("deal", deal)
 
@@ -408,10 +460,11 @@ class Usage(Calls):
             for _ in range(self.rng.randrange(4) if data else 0):
                 data[self.rng.randrange(len(data))] = self.rng.randrange(256)
             self.put("file", bytes(data))
+            raw_length = str(len(data) * 127 // 128)
             for words in (("show", "file"), ("list", "file"), ("tally", "file"), ("commit", "file"), ("stream", "file"),
-                          ("settle-deal", "file", "file")):
+                          ("settle-deal", "file", "file"), ("pad", "file"), ("unpad", raw_length, "file")):
                 ran = subprocess.run([self.program, *words], capture_output=True, cwd=self.folder)
-                self.assertIn(ran.returncode, range(20), words)
+                self.assertIn(ran.returncode, range(25), words)
                 self.assertNotIn(b"panicked", ran.stderr, words)
 
 
@@ -420,7 +473,9 @@ class Failures(Calls):
         self.booked()
         self.path("folder").mkdir()
         for words in (("commit", "missing"), ("commit", "folder"), ("stream", "missing"), ("stream", "folder"), ("list", "missing"),
-                      ("tally", "missing"), ("list", "folder"), ("book", "missing", "deal"), ("book", "folder", "deal"), ("book", "deal", "missing"),
+                      ("pad", "missing"), ("pad", "folder"), ("unpad", 127, "missing"), ("unpad", 127, "folder"),
+                      ("tally", "missing"), ("list", "folder"), ("book", "missing", "deal"), ("book", "folder", "deal"),
+                      ("book", "deal", "missing"),
                       ("show", "missing"), ("settle-deal", "deal", "missing"), ("check", "00" * 32, 512, "missing"),
                       ("build", "missing", 0), ("find", "missing", "00" * 32)):
             self.assertIn("missing" if "missing" in words else "folder", self.failed(IO, *words))

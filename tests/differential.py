@@ -16,21 +16,22 @@ import time
 from collections import Counter
 from pathlib import Path
 
-from cases import (BOOK, BUILD, CHECK, CHECK_INPUT, COMMITMENT, FIELDS, FIND, INSPECT, MAKE, MODEL, NAMES, NUMBERS, READ, SETTLE,
-                   SETTLE_DEAL, SHA256, STREAM, TALLY, answer, cases, deal, encode, node, place, run, spoil, strayed, streams)
-from model import area, index_numbers
+from cases import (BOOK, BUILD, CHECK, CHECK_INPUT, COMMITMENT, FIELDS, FIND, INSPECT, MAKE, MODEL, NAMES, NUMBERS, PAD, READ, SETTLE,
+                   SETTLE_DEAL, SHA256, STREAM, TALLY, UNPAD, answer, cases, deal, encode, node, paddings, place, run, spoil, strayed,
+                   streams)
+from model import MAX_RAW, area, index_numbers
 from vectors import large_deals
 
 ROOT = Path(__file__).resolve().parent.parent
 FAILURE = ROOT / "target" / "differential-failure.bin"
-ROUTINES = NAMES | {INSPECT: "inspect", STREAM: "stream"}
+ROUTINES = NAMES | {INSPECT: "inspect", STREAM: "stream", PAD: "pad", UNPAD: "unpad"}
 BATCH = 2000
 
 # The codes that a run of the default length must meet. 17 needs a collision of SHA-256, and 2 of sha256 a long message (--large).
 CODES = {SHA256: {0}, COMMITMENT: {0, 2, 11}, NUMBERS: {0, 2}, MAKE: {0, 1, 8}, READ: {0, 2}, FIND: {0, 1, 2, 11, 16},
          BOOK: {0, 2, 4, 11, 13, 14, 15}, BUILD: {0, 2, 6, 11, 12, 16}, CHECK: {*range(11), 19}, SETTLE: {*range(11), 18, 19},
          SETTLE_DEAL: {0, *range(2, 12), 19}, FIELDS: {0}, INSPECT: {0, 2, 6, 11}, STREAM: {0, 2, 11},
-         TALLY: {0, 2, 11}}
+         PAD: {0, 2, 12}, UNPAD: {0, 2, 11, 12, 24}, TALLY: {0, 2, 11}}
 ENOUGH = 50_000
 
 
@@ -127,6 +128,9 @@ def limits():
         yield COMMITMENT, bytes(n), b"", 0, 0
     for data in (bytes(2 * full), strayed(bytes(full + 32), full + 31, 128)):  # more than a lent run has
         yield STREAM, data, bytes([0, 255, 1, 17]), 0, 0
+    for n in (MAX_RAW, MAX_RAW + 1):
+        yield PAD, bytes(n), bytes(full // 2 - 1), 0, 0
+        yield UNPAD, bytes(full // 2), bytes(MAX_RAW - 1), n, 0
     for n in (full + 32, 2 * full):
         yield FIND, bytes(n), bytes(32), 0, 0
         yield BUILD, bytes(n), bytes(2000), n - 64, 0
@@ -187,6 +191,7 @@ def batches(options):
     yield "records of deals up to 2^36 bytes", large_deals(random.Random(f"{options.seed}/records"))
     yield "records with long paths", long_records(random.Random(f"{options.seed}/paths"))
     yield "streams of every total", streams(random.Random(f"{options.seed}/streams"))
+    yield "raw bytes there and back", paddings(random.Random(f"{options.seed}/paddings"))
     yield "entries that are not kept", false_entries(random.Random(f"{options.seed}/entries"), min(500, options.count))
     if options.large:
         rng = random.Random(f"{options.seed}/large")

@@ -63,6 +63,54 @@ def filled(segment):
     return segment + bytes(area(len(segment)) - len(segment))
 
 
+MAX_RAW = 8_323_072
+
+
+def bit(data, i):
+    """Bits in little-endian order."""
+    return data[i // 8] >> i % 8 & 1
+
+
+def segment_bit(i):
+    """Where raw bit i stands in the segment: 254 data bits and then two zero bits for every node of 256."""
+    return i // 254 * 256 + i % 254
+
+
+def segment_length(n):
+    return -(-n * 128 // 127)
+
+
+def pad(raw, output):
+    """Code, length, the output afterwards."""
+    if not 1 <= len(raw) <= MAX_RAW:
+        return 2, 0, output
+    n = segment_length(len(raw))
+    if len(output) < n:
+        return 12, 0, output
+    segment = bytearray(n)
+    for i in range(8 * len(raw)):
+        at = segment_bit(i)
+        segment[at // 8] |= bit(raw, i) << at % 8
+    return 0, n, bytes(segment) + output[n:]
+
+
+def unpad(n, segment, output):
+    """Code, length, the output afterwards."""
+    if not 1 <= n <= MAX_RAW:
+        return 2, 0, output
+    if len(segment) != segment_length(n):
+        return 24, 0, output
+    last = segment_bit(8 * n - 1)
+    if stray(segment) or any(bit(segment, at) for at in range(last + 1, 8 * len(segment))):
+        return 11, 0, output
+    if len(output) < n:
+        return 12, 0, output
+    raw = bytearray(n)
+    for i in range(8 * n):
+        raw[i // 8] |= bit(segment, segment_bit(i)) << i % 8
+    return 0, n, bytes(raw) + output[n:]
+
+
 def index_numbers(d):
     if not (power(d) and 512 <= d <= 1 << 36):
         return 2, 0, 0

@@ -3,7 +3,8 @@ import hashlib
 import random
 import sys
 
-from model import BLANK, DAMAGED, VALID, Hashes, Model, Weak, area, index_numbers, le, sha256, stray, ZERO32
+from model import (BLANK, DAMAGED, MAX_RAW, VALID, Hashes, Model, Weak, area, index_numbers, le, pad, segment_length, sha256, stray, unpad,
+                   ZERO32)
 
 
 def expect(what, got, want):
@@ -44,6 +45,19 @@ def streams():
     expect("33 bytes as a run", m.commitment(stray + b"\0"), (2, ZERO32))
     expect("33 bytes as a stream", m.stream([stray[:31], stray[31:], b"\0", bytes(31)]), (11, ZERO32, 0, [0, 11, 11, 11]))
     expect("no piece", m.stream([]), (2, ZERO32, 0, []))
+
+
+def paddings():
+    """The lengths that document 02 names, and raw bytes there and back."""
+    for raw, t in ((127, 128), (128, 130), (255, 258), (MAX_RAW, 1 << 23)):
+        expect(f"the segment of {raw} bytes", segment_length(raw), t)
+    rng = random.Random(4)
+    for n in (1, 2, 31, 32, 126, 127, 128, 254, 255, 381):
+        raw = bytes(rng.randrange(256) for _ in range(n))
+        code, t, segment = pad(raw, bytes(segment_length(n)))
+        expect(f"{n} bytes there", (code, t, stray(segment)), (0, segment_length(n), False))
+        expect(f"{n} bytes back", unpad(n, segment, bytes(n)), (0, n, raw))
+    expect("32 bytes of ones", pad(b"\xff" * 32, bytes(33))[2], b"\xff" * 31 + b"\x3f\x03")
 
 
 def worked_runs():
@@ -119,6 +133,7 @@ def collisions():
 
 published_values()
 streams()
+paddings()
 worked_runs()
 kinds()
 records()

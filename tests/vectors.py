@@ -8,7 +8,7 @@ import sys
 from pathlib import Path
 
 from cases import (BOOK, BUILD, CHECK, CHECK_INPUT, COMMITMENT, COMPARE, FIELDS, FIND, MAKE, MODEL, NAMES, NUMBERS, READ, SETTLE,
-                   SETTLE_DEAL, TALLY, answer, any_number, case, encode, node, run, streams)
+                   SETTLE_DEAL, TALLY, answer, any_number, case, encode, node, paddings, run, streams)
 from model import area, filled, index_numbers, le
 
 ROOT = Path(__file__).resolve().parent.parent
@@ -210,6 +210,7 @@ def all_cases():
     yield from compared_paths(random.Random(17))
     yield from stray_paths(random.Random(19))
     yield from streams(random.Random(36), (0, 1, 31, 32, 33, 64, 96, 1024, 4096))
+    yield from paddings(random.Random(32), (1, 2, 32, 126, 127, 128, 254, 255, 381))
     yield from sizes_in_deals(random.Random(128))
     yield from other_trailer(random.Random(130))
     yield from two_places(random.Random(18))
@@ -232,8 +233,8 @@ def main():
         else:
             path.write_bytes(data)
     codes = sorted({int(line.split()[0]) for line in texts["stdout"].decode().splitlines()})
-    if codes != list(range(20)):
-        sys.exit(f"vectors: the codes {codes} are not 0 to 19")
+    if codes != [*range(20), 24]:
+        sys.exit(f"vectors: the codes {codes} are not 0 to 19 and 24")
     print(f"vectors: {len(calls)} calls, codes {codes}")
 
 

@@ -2,33 +2,34 @@
 use std::error::Error;
 use std::fmt;
 
-/// The meanings of the codes 0 to 19, in order.
-const MEANINGS: [&str; 20] = [
-    "done, accepted, or both records the same",
-    "a commitment is not 32 bytes long",
-    "a deal, run, stream, message or entry size is not allowed",
-    "the record's tags, order, lengths or end are wrong",
-    "segment size not allowed for this deal size",
-    "offset not a multiple of the segment's area, or the area ends beyond the index start",
-    "entry place not a multiple of 64, or outside the index area",
-    "a path has another number of nodes than it must have",
-    "the segment commitment has stray bits",
-    "the segment path does not lead to the deal commitment",
-    "the entry path does not lead to the deal commitment",
-    "a node of a run, deal, stream or segment has stray bits",
-    "an output is too short, or not of its one length",
-    "no slot is free",
-    "no free place",
-    "the segment is kept already",
-    "no kept entry at that place, or with that commitment",
-    "two different 64-byte strings with one node hash are shown",
-    "the two records name different entry places",
-    "a node of a path has stray bits",
+/// The codes and their meanings. Some numbers between them are no codes.
+const MEANINGS: [(u32, &str); 21] = [
+    (0, "done, accepted, or both records the same"),
+    (1, "a commitment is not 32 bytes long"),
+    (2, "a deal, run, stream, message, raw archive or entry size is not allowed"),
+    (3, "the record's tags, order, lengths or end are wrong"),
+    (4, "segment size not allowed for this deal size"),
+    (5, "offset not a multiple of the segment's area, or the area ends beyond the index start"),
+    (6, "entry place not a multiple of 64, or outside the index area"),
+    (7, "a path has another number of nodes than it must have"),
+    (8, "the segment commitment has stray bits"),
+    (9, "the segment path does not lead to the deal commitment"),
+    (10, "the entry path does not lead to the deal commitment"),
+    (11, "a node of a run, deal, stream or segment has stray bits"),
+    (12, "an output is too short, or not of its one length"),
+    (13, "no slot is free"),
+    (14, "no free place"),
+    (15, "the segment is kept already"),
+    (16, "no kept entry at that place, or with that commitment"),
+    (17, "two different 64-byte strings with one node hash are shown"),
+    (18, "the two records name different entry places"),
+    (19, "a node of a path has stray bits"),
+    (24, "the segment has another length than the raw length gives"),
 ];
 
 /// What a code means, in words.
 pub fn meaning(code: u32) -> &'static str {
-    usize::try_from(code).ok().and_then(|i| MEANINGS.get(i)).copied().unwrap_or("unknown code")
+    MEANINGS.iter().find(|row| row.0 == code).map_or("unknown code", |row| row.1)
 }
 
 /// A refusal: a code other than 0.
@@ -55,6 +56,7 @@ impl Refusal {
     pub const COLLISION: Refusal = Refusal(17);
     pub const OTHER_PLACE: Refusal = Refusal(18);
     pub const PATH_BITS: Refusal = Refusal(19);
+    pub const SEGMENT_LENGTH: Refusal = Refusal(24);
 
     pub fn code(self) -> u32 {
         self.0
@@ -94,12 +96,13 @@ mod tests {
 
     #[test]
     fn every_code_has_a_meaning_of_its_own() {
-        for code in 0..=19 {
-            assert_ne!(meaning(code), "unknown code");
-            assert!((0..code).all(|other| meaning(other) != meaning(code)), "code {code}");
+        for (i, (code, text)) in MEANINGS.into_iter().enumerate() {
+            assert_eq!(meaning(code), text);
+            assert!(MEANINGS[..i].iter().all(|other| other.0 < code && other.1 != text), "code {code}");
         }
-        assert_eq!(meaning(20), "unknown code");
-        assert_eq!(meaning(u32::MAX), "unknown code");
+        for code in [20, 23, 25, u32::MAX] {
+            assert_eq!(meaning(code), "unknown code");
+        }
     }
 
     #[test]
@@ -133,6 +136,7 @@ mod tests {
             ("COLLISION", Refusal::COLLISION),
             ("OTHER_PLACE", Refusal::OTHER_PLACE),
             ("PATH_BITS", Refusal::PATH_BITS),
+            ("SEGMENT_LENGTH", Refusal::SEGMENT_LENGTH),
         ];
         for (name, refusal) in named {
             let line = format!("  VZ_{name} = {}", refusal.code());

@@ -13,6 +13,17 @@ extern "C" {
 
     pub fn vz_stream_end(state: *const u8, state_len: usize, node: *mut u8, node_len: usize, count: *mut u64) -> u32;
 
+    pub fn vz_fr32_pad(raw: *const u8, raw_len: usize, segment: *mut u8, segment_len: usize, length: *mut u64) -> u32;
+
+    pub fn vz_fr32_unpad(
+        raw_length: u64,
+        segment: *const u8,
+        segment_len: usize,
+        raw: *mut u8,
+        raw_len: usize,
+        length: *mut u64,
+    ) -> u32;
+
     pub fn vz_index_numbers(size: u64, entries: *mut u64, start: *mut u64) -> u32;
 
     pub fn vz_make_entry(
@@ -232,6 +243,10 @@ mod tests {
             assert_eq!(vz_book(deal.as_mut_ptr(), 512, segment(1, 512).as_ptr(), 512, &mut a, &mut b), 4);
             assert_eq!(vz_build(deal.as_ptr(), 512, 256, [0; 300].as_mut_ptr(), 300, &mut a), 16);
             assert_eq!(vz_read_field(deal.as_ptr(), 2, 0, &mut tag, &mut a, &mut b, &mut c), 3);
+            assert_eq!(vz_fr32_pad(deal.as_ptr(), 0, [0; 300].as_mut_ptr(), 300, &mut a), 2);
+            assert_eq!(vz_fr32_pad(deal.as_ptr(), 128, [0; 300].as_mut_ptr(), 129, &mut a), 12);
+            assert_eq!(vz_fr32_unpad(128, deal.as_ptr(), 128, [0; 300].as_mut_ptr(), 300, &mut a), 24);
+            assert_eq!(vz_fr32_unpad(128, deal.as_ptr(), 130, [0; 300].as_mut_ptr(), 127, &mut a), 12);
         }
         assert_eq!((a, b, c, tag), (NUMBER, NUMBER, NUMBER, 7));
     }

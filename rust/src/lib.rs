@@ -21,6 +21,7 @@ mod codes;
 mod deal;
 mod entry;
 pub mod ffi;
+mod fr32;
 pub mod hex;
 mod node;
 mod record;
@@ -30,6 +31,7 @@ mod tree;
 pub use codes::{meaning, Refusal};
 pub use deal::{book, find, inspect, tally, Booking, Found, Position, Slot, Tally, MAX_DEAL};
 pub use entry::{index_numbers, make_entry, read_entry, Entry, IndexNumbers, ReadEntry};
+pub use fr32::{pad, pad_into, segment_length, unpad, unpad_into, MAX_RAW};
 pub use node::{Node, NotANode};
 pub use record::{
     build, build_into, check, fields, read_field, settle_records, settle_with_deal, Field, Fields, Settled, MAX_RECORD,

@@ -55,6 +55,27 @@ static void streaming(void) {
   answer("stream, state of 1071 bytes", vz_stream_new(state, sizeof state - 1), VZ_OUTPUT);
 }
 
+/* 128 raw bytes to a segment of 130, and back. */
+static void padding(void) {
+  uint8_t raw[128], segment[132], back[130];
+  memset(raw, 0xff, 128);
+  memset(segment, 7, sizeof segment);
+  memset(back, 7, sizeof back);
+  answer("pad", vz_fr32_pad(raw, 128, segment, sizeof segment, &length), VZ_OK);
+  answer("pad, length", length, 130);
+  answer("pad, last byte of a node", segment[31], 0x3f);
+  answer("pad, the rest of the output stays", segment[130] + segment[131], 14);
+  answer("pad into 129 bytes", vz_fr32_pad(raw, 128, segment, 129, &length), VZ_OUTPUT);
+  answer("pad nothing", vz_fr32_pad(raw, 0, segment, sizeof segment, &length), VZ_SIZE);
+  answer("unpad", vz_fr32_unpad(128, segment, 130, back, sizeof back, &length), VZ_OK);
+  answer("unpad, length", length, 128);
+  answer("unpad, raw bytes", memcmp(raw, back, 128) == 0, 1);
+  answer("unpad, the rest of the output stays", back[128] + back[129], 14);
+  answer("unpad 129 bytes", vz_fr32_unpad(129, segment, 130, back, sizeof back, &length), VZ_SEGMENT_LENGTH);
+  segment[129] = 1;
+  answer("unpad, a bit after the last", vz_fr32_unpad(128, segment, 130, back, sizeof back, &length), VZ_STRAY_BITS);
+}
+
 static void index_entries(void) {
   uint8_t read[32];
   answer("index numbers", vz_index_numbers(512, &entries, &start), VZ_OK);
@@ -129,6 +150,7 @@ int main(void) {
   memset(third_segment, 3, 128);
   hashing();
   streaming();
+  padding();
   index_entries();
   booking();
   looking();

@@ -127,6 +127,20 @@ fn build(deal: &[u8], place: u64, out: &mut [u8]) {
     show::digest(out);
 }
 
+fn pad(raw: &[u8], out: &mut [u8]) {
+    let written = fr32::pad(raw, out);
+    show::code(written.code);
+    show::number(written.length as u64);
+    show::digest(out);
+}
+
+fn unpad(raw_length: u64, segment: &[u8], out: &mut [u8]) {
+    let written = fr32::unpad(raw_length, segment, out);
+    show::code(written.code);
+    show::number(written.length as u64);
+    show::digest(out);
+}
+
 fn settled(answer: Settled) {
     let left = answer.left;
     let right = answer.right;
@@ -227,6 +241,16 @@ pub fn answer(operation: u64, a: &mut [u8], b: &mut [u8], x: u64, y: u64) {
     }
     if operation == 8 {
         build(a, x, b);
+        show::end();
+        return;
+    }
+    if operation == 17 {
+        pad(a, b);
+        show::end();
+        return;
+    }
+    if operation == 18 {
+        unpad(x, a, b);
         show::end();
         return;
     }

@@ -4,6 +4,7 @@ pub mod deals; // deals.rt: inspecting a slot, the tally of an index, finding an
 pub mod hashing; // hashing.rt: SHA-256 and commitments
 pub mod index_entries; // index_entries.rt: index numbers and entries
 mod output; // output.rt: what is written to lent outputs
+pub mod padding; // padding.rt: raw archives to segments and back
 pub mod records; // records.rt: building and checking a record, and reading its fields
 pub mod settling; // settling.rt: settling two records, or a record with a deal
 pub mod streaming; // streaming.rt: the commitment of bytes that arrive in pieces

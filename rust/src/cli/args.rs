@@ -18,6 +18,8 @@ pub enum Command {
     New { deal: Stream, size: u64 },
     Commit { file: Stream },
     CommitStream { file: Stream },
+    Pad { raw: Stream, output: Option<Stream> },
+    Unpad { raw_length: u64, segment: Stream, output: Option<Stream> },
     Book { deal: Stream, segment: Stream },
     List { deal: Stream },
     Tally { deal: Stream },
@@ -137,6 +139,10 @@ fn operands_of(name: &str, words: &[OsString], output: Option<Stream>) -> Result
         ("new", [deal, size]) => Command::New { deal: stream(deal)?, size: number(size)? },
         ("commit", [file]) => Command::Commit { file: stream(file)? },
         ("stream", [file]) => Command::CommitStream { file: stream(file)? },
+        ("pad", [raw]) => Command::Pad { raw: stream(raw)?, output },
+        ("unpad", [raw_length, segment]) => {
+            Command::Unpad { raw_length: number(raw_length)?, segment: stream(segment)?, output }
+        }
         ("book", [deal, segment]) => Command::Book { deal: stream(deal)?, segment: stream(segment)? },
         ("list", [deal]) => Command::List { deal: stream(deal)? },
         ("tally", [deal]) => Command::Tally { deal: stream(deal)? },
@@ -162,6 +168,8 @@ fn standard_inputs(command: &Command) -> usize {
     let read: &[&Stream] = match command {
         Command::New { .. } => &[],
         Command::Commit { file } | Command::CommitStream { file } => &[file],
+        Command::Pad { raw, .. } => &[raw],
+        Command::Unpad { segment, .. } => &[segment],
         Command::Book { deal, segment } => &[deal, segment],
         Command::List { deal } | Command::Tally { deal } => &[deal],
         Command::Find { deal, .. } | Command::Build { deal, .. } => &[deal],
@@ -174,8 +182,12 @@ fn standard_inputs(command: &Command) -> usize {
 
 /// Whether the command writes bytes to standard output in the place of its answer.
 fn raw_output(command: &Command) -> bool {
-    matches!(command, Command::Find { output: Some(Stream::Standard), .. })
-        || matches!(command, Command::Build { output: Some(Stream::Standard), .. })
+    let output = match command {
+        Command::Find { output, .. } | Command::Build { output, .. } => output,
+        Command::Pad { output, .. } | Command::Unpad { output, .. } => output,
+        _ => &None,
+    };
+    *output == Some(Stream::Standard)
 }
 
 fn stream(word: &OsStr) -> Result<Stream, Failure> {
@@ -221,6 +233,10 @@ mod tests {
             let stream = Command::CommitStream { file };
             assert_eq!(parsed(&format!("stream {word}")), Ok(Request::Run { command: stream, json: false }));
         }
+        let pad = Command::Pad { raw: file("r"), output: Some(Stream::Standard) };
+        assert_eq!(parsed("pad r -o -"), Ok(Request::Run { command: pad, json: false }));
+        let unpad = Command::Unpad { raw_length: 127, segment: file("s"), output: None };
+        assert_eq!(parsed("unpad 127 s --json"), Ok(Request::Run { command: unpad, json: true }));
         let check = Command::Check { commitment: vec![0xab, 1], size: 512, record: file("-r") };
         assert_eq!(parsed("--json check AB01 512 -- -r"), Ok(Request::Run { command: check, json: true }));
     }
@@ -271,6 +287,13 @@ mod tests {
             "build d 256 --output",
             "build d 256 -o a -o b",
             "build d 256 -o - --json",
+            "pad",
+            "pad r s",
+            "pad r -o - --json",
+            "unpad s",
+            "unpad s 127",
+            "unpad 127 s r",
+            "unpad 127 s -o - --json",
             "settle ab 512 - -",
             "settle-deal - -",
             "book - -",

@@ -7,7 +7,8 @@ use super::json::Json;
 use super::progress::Progress;
 use super::table::{table, Column};
 use vizhuthamen::{
-    hex, Booking, Entry, Field, Node, Position, ReadEntry, Refusal, Settled, Slot, Streaming, MAX_DEAL, MAX_STREAM,
+    hex, Booking, Entry, Field, Node, Position, ReadEntry, Refusal, Settled, Slot, Streaming, MAX_DEAL, MAX_RAW,
+    MAX_STREAM,
 };
 
 pub fn run(command: Command) -> Result<Answer, Failure> {
@@ -15,6 +16,8 @@ pub fn run(command: Command) -> Result<Answer, Failure> {
         Command::New { deal, size } => new(&deal, size),
         Command::Commit { file } => commit(&file),
         Command::CommitStream { file } => commit_stream(&file),
+        Command::Pad { raw, output } => pad(&raw, output),
+        Command::Unpad { raw_length, segment, output } => unpad(raw_length, &segment, output),
         Command::Book { deal, segment } => book(&deal, &segment),
         Command::List { deal } => list(&deal),
         Command::Tally { deal } => tally(&deal),
@@ -100,6 +103,45 @@ fn commit_stream(file: &Stream) -> Result<Answer, Failure> {
         }
         Err(refusal) => Answer::refused(refusal),
     })
+}
+
+fn pad(raw: &Stream, output: Option<Stream>) -> Result<Answer, Failure> {
+    let raw = files::read(raw)?;
+    let progress = Progress::start("padding", raw.bytes.len());
+    let segment = match vizhuthamen::pad(&raw.bytes) {
+        Ok(segment) => segment,
+        Err(refusal) => {
+            let note = format!("{}; an archive has from 1 to {MAX_RAW} bytes", raw.described());
+            return Ok(Answer::refused(refusal).with_note(note));
+        }
+    };
+    drop(progress);
+    put_or_show("segment", output, &segment, &raw)
+}
+
+fn unpad(raw_length: u64, segment: &Stream, output: Option<Stream>) -> Result<Answer, Failure> {
+    let segment = files::read(segment)?;
+    let progress = Progress::start("unpadding", segment.bytes.len());
+    let raw = match vizhuthamen::unpad(raw_length, &segment.bytes) {
+        Ok(raw) => raw,
+        Err(refusal) => return Ok(unpad_refused(refusal, raw_length, &segment)),
+    };
+    drop(progress);
+    put_or_show("raw", output, &raw, &segment)
+}
+
+/// A refusal to unpad, with a note on the lengths.
+fn unpad_refused(refusal: Refusal, raw_length: u64, segment: &Content) -> Answer {
+    let note = match (refusal, vizhuthamen::segment_length(raw_length)) {
+        (Refusal::SEGMENT_LENGTH, Some(length)) => {
+            format!("{}; the segment of {raw_length} raw bytes has {length}", segment.described())
+        }
+        (Refusal::STRAY_BITS, _) => {
+            format!("{} has stray bits, or bits after the last of {raw_length} raw bytes", segment.name)
+        }
+        _ => format!("an archive has from 1 to {MAX_RAW} bytes"),
+    };
+    Answer::refused(refusal).with_note(note)
 }
 
 fn book(deal: &Stream, segment: &Stream) -> Result<Answer, Failure> {
@@ -240,15 +282,20 @@ fn build(deal: &Stream, place: u64, output: Option<Stream>) -> Result<Answer, Fa
         Err(refusal) => return Ok(refused(refusal, &deal)),
     };
     drop(progress);
-    let length = ("length", Json::Number(record.len() as u64));
+    put_or_show("record", output, &record, &deal)
+}
+
+/// Writes bytes to the output and gives their length; shows them in hex where there is no output.
+fn put_or_show(name: &'static str, output: Option<Stream>, bytes: &[u8], read: &Content) -> Result<Answer, Failure> {
+    let length = ("length", Json::Number(bytes.len() as u64));
     let answer = match output {
         Some(_) => Answer::done("done").with_value(length.0, length.1),
         None => {
-            let digits = hex::encode(&record);
-            Answer::done("done").with_text(format!("{digits}\n"), vec![length, ("record", text(digits))])
+            let digits = hex::encode(bytes);
+            Answer::done("done").with_text(format!("{digits}\n"), vec![length, (name, text(digits))])
         }
     };
-    put(answer, output, &record, &deal)
+    put(answer, output, bytes, read)
 }
 
 /// Writes bytes to the output, if there is one.

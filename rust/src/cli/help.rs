@@ -9,7 +9,7 @@ pub struct Topic {
     text: &'static str,
 }
 
-pub const TOPICS: [Topic; 12] = [
+pub const TOPICS: [Topic; 14] = [
     Topic {
         name: "new",
         operands: &["DEAL", "SIZE"],
@@ -35,11 +35,30 @@ A file that is there is never overwritten.",
 are judged as they arrive: a node with stray bits gets code 11 at once, whatever the size will be.",
     },
     Topic {
+        name: "pad",
+        operands: &["RAW"],
+        takes_output: true,
+        summary: "pad a raw archive to a segment (Fr32)",
+        text: "Pads the bytes of RAW, from 1 to 8323072 of them, to a segment: 254 bits and then two zero bits for every node of
+32 bytes. The segment has 128/127 of the raw length, rounded up. With --output FILE the segment's bytes go to
+FILE and its length is printed; otherwise it is printed in hex.",
+    },
+    Topic {
+        name: "unpad",
+        operands: &["RAW_LENGTH", "SEGMENT"],
+        takes_output: true,
+        summary: "take the raw bytes back out of a segment",
+        text: "Takes RAW_LENGTH raw bytes back out of the bytes of SEGMENT. Code 24: SEGMENT has another length than so many raw
+bytes give. Code 11: it has stray bits, or bits after the last raw one. A segment of T bytes made by `pad` has
+127 x T / 128 raw bytes, rounded down. With --output FILE the raw bytes go to FILE and their number is printed;
+otherwise they are printed in hex.",
+    },
+    Topic {
         name: "book",
         operands: &["DEAL", "SEGMENT"],
         takes_output: false,
         summary: "book a segment file into a deal file",
-        text: "Books the bytes of SEGMENT, already padded (Fr32), into the file DEAL, and prints offset, entry place, size and
+        text: "Books the bytes of SEGMENT, already padded (see pad), into the file DEAL, and prints offset, entry place, size and
 commitment. The size is from 1 byte to half of the deal; zeros follow up to the segment's area, the smallest
 power of two at or above both the size and 128. A segment that the deal keeps already gets code 15, with its
 offset and entry place; the deal is not changed by any code but 0.
@@ -135,7 +154,7 @@ Options:
   -V, --version      print the version
 
 Exit status:
-  0 with code 0; with any other code that code, 1 to 19, and the line `code N: meaning` on standard output;
+  0 with code 0; with any other code that code, 1 to 24, and the line `code N: meaning` on standard output;
   64 wrong usage; 74 reading or writing failed, with a message on standard error.
 ";
 

@@ -65,6 +65,8 @@ pub fn answer(case: &mut Case) -> Answer {
         12 => fields(a),
         14 => inspect(a, x),
         16 => stream(a, b),
+        17 => pad(a, b),
+        18 => unpad(x, a, b),
         19 => tally(a),
         _ => no_operation(operation),
     }
@@ -153,6 +155,23 @@ fn build(deal: &[u8], output: &mut [u8], place: u64) -> Answer {
     let mut length = NUMBER;
     let code =
         unsafe { ffi::vz_build(deal.as_ptr(), deal.len(), place, output.as_mut_ptr(), output.len(), &mut length) };
+    let line = Written::new(code, &[0]).number(length).done()?;
+    Ok(line.bytes(&digest(output)?))
+}
+
+fn pad(raw: &[u8], output: &mut [u8]) -> Answer {
+    let mut length = NUMBER;
+    let code = unsafe { ffi::vz_fr32_pad(raw.as_ptr(), raw.len(), output.as_mut_ptr(), output.len(), &mut length) };
+    let line = Written::new(code, &[0]).number(length).done()?;
+    Ok(line.bytes(&digest(output)?))
+}
+
+fn unpad(raw_length: u64, segment: &[u8], output: &mut [u8]) -> Answer {
+    let mut length = NUMBER;
+    let code = unsafe {
+        let (out, len) = (output.as_mut_ptr(), output.len());
+        ffi::vz_fr32_unpad(raw_length, segment.as_ptr(), segment.len(), out, len, &mut length)
+    };
     let line = Written::new(code, &[0]).number(length).done()?;
     Ok(line.bytes(&digest(output)?))
 }

@@ -27,6 +27,8 @@ pub fn answer(case: Case) -> Answer {
         12 => fields(&a),
         14 => Ok(inspect(&a, x)),
         16 => Ok(stream(&a, &b)),
+        17 => pad(&a, b),
+        18 => unpad(x, &a, b),
         19 => Ok(tally(&a)),
         _ => no_operation(operation),
     }
@@ -106,9 +108,20 @@ fn book(deal: &mut [u8], segment: &[u8]) -> Answer {
 }
 
 /// The output afterwards is shown by its SHA-256.
+fn written(result: Result<usize, Refusal>, output: &[u8]) -> Answer {
+    Ok(code(result.map(drop)).add(result.unwrap_or(0)).bytes(&digest(output)?))
+}
+
 fn build(deal: &[u8], mut output: Vec<u8>, place: u64) -> Answer {
-    let result = vz::build_into(deal, place, &mut output);
-    Ok(code(result.map(drop)).add(result.unwrap_or(0)).bytes(&digest(&output)?))
+    written(vz::build_into(deal, place, &mut output), &output)
+}
+
+fn pad(raw: &[u8], mut output: Vec<u8>) -> Answer {
+    written(vz::pad_into(raw, &mut output), &output)
+}
+
+fn unpad(raw_length: u64, segment: &[u8], mut output: Vec<u8>) -> Answer {
+    written(vz::unpad_into(raw_length, segment, &mut output), &output)
 }
 
 fn settled(result: Result<Settled, Refusal>) -> Line {

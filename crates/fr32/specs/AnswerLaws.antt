@@ -1,0 +1,100 @@
+-- What code 0 says of the two routines.
+use mathlib.Core.Path.{_≡_, refl, sym, ap, _∙_}
+use mathlib.Core.Bool.{true}
+use Prim.Native.Nat.{ℕ, zero, suc, _≤_}
+use native.Mathlib.Omega.{arith}
+use mathlib.Core.List.{List, [], _∷_}
+use lib.ListN.{length}
+use lib.Dec.{leb, eqb}
+use borrow.Author.Tests.{leb-true, eqb-true, le-leb, eq-eqb}
+use Rattle.octets.specs.Refusals.{Rule, rule, unlessRefused}
+use Rattle.octets.specs.RefusalLaws.{none-refused, all-passed}
+use Rattle.octets.specs.Splice.{part, splice}
+use Rattle.octets.specs.SpliceLaws.{part-written}
+use Rattle.fr32.specs.declared.Written.{Written}
+use Rattle.fr32.specs.Padding.{rawLengthAllowed, segmentLength, padded, unpadded, onlyRawBits}
+use Rattle.fr32.specs.PaddingLaws.{length-padded}
+use Rattle.fr32.specs.UnpaddingLaws.{length-unpadded}
+use Rattle.fr32.specs.Answers.{refused, written, padCode, padAnswer, padOutput, unpadCode, unpadAnswer, unpadOutput}
+
+-- the bytes that a routine wrote
+abbrev writtenBytes : Written → List ℕ → List ℕ
+writtenBytes answer output = part output 0 (answer .length)
+
+-- what `pad` wrote, and what `unpad` wrote
+abbrev pub padWritten : List ℕ → List ℕ → List ℕ
+padWritten raw output = writtenBytes (padAnswer raw output) (padOutput raw output)
+
+abbrev pub unpadWritten : ℕ → List ℕ → List ℕ → List ℕ
+unpadWritten n segment output = writtenBytes (unpadAnswer n segment output) (unpadOutput n segment output)
+
+-- an answer has the code that was worked out
+answer-code : (code n : ℕ) → unlessRefused code refused (written n) .code ≡ code
+answer-code zero n = refl
+answer-code (suc code) n = refl
+
+-- where nothing is refused, the bytes of s are written
+all-written : (code n : ℕ) (output s : List ℕ) → code ≡ 0 → length s ≡ n → n ≤ length output
+    → writtenBytes (unlessRefused code refused (written n)) (unlessRefused code (λ c. output) (splice output 0 s)) ≡ s
+all-written code n output s e l h =
+    ap (λ (c : ℕ). writtenBytes (unlessRefused c refused (written n)) (unlessRefused c (λ d. output) (splice output 0 s))) e
+    ∙ ap (part (splice output 0 s) 0) (sym l)
+    ∙ part-written output 0 s (omega arith)
+
+module _ (raw output : List ℕ) where
+  -- all that is asked inward
+  pub record PadAllowed : Type 0 where
+    pub raw-length : rawLengthAllowed (length raw) ≡ true
+    pub room : segmentLength (length raw) ≤ length output
+
+  pad-rules : List Rule
+  pad-rules = rule (rawLengthAllowed (length raw)) 2 ∷ rule (leb (segmentLength (length raw)) (length output)) 12 ∷ []
+
+  pub pad-allowed : padAnswer raw output .code ≡ 0 → PadAllowed
+  unfolding padCode pad-rules
+  pad-allowed e =
+      let p = none-refused pad-rules (omega arith, (omega arith, tt)) (sym (answer-code (padCode raw output) (segmentLength (length raw))) ∙ e) in
+      record { raw-length = p .0; room = leb-true (segmentLength (length raw)) (length output) (p .1 .0) }
+
+  pad-passes : PadAllowed → padCode raw output ≡ 0
+  unfolding padCode pad-rules
+  pad-passes a = all-passed pad-rules (a .raw-length, (le-leb (segmentLength (length raw)) (length output) (a .room), tt))
+
+  pub pad-answers : PadAllowed → padAnswer raw output ≡ written (segmentLength (length raw))
+  pad-answers a = ap (λ (c : ℕ). unlessRefused c refused (written (segmentLength (length raw)))) (pad-passes a)
+
+  pub pad-writes : PadAllowed → padWritten raw output ≡ padded raw
+  pad-writes a = all-written (padCode raw output) (segmentLength (length raw)) output (padded raw) (pad-passes a) (length-padded raw) (a .room)
+
+module _ (n : ℕ) (segment output : List ℕ) where
+  -- all that is asked outward
+  pub record UnpadAllowed : Type 0 where
+    pub raw-length : rawLengthAllowed n ≡ true
+    pub sized : length segment ≡ segmentLength n
+    pub only-raw : onlyRawBits n segment ≡ true
+    pub room : n ≤ length output
+
+  unpad-rules : List Rule
+  unpad-rules = rule (rawLengthAllowed n) 2 ∷ rule (eqb (length segment) (segmentLength n)) 24 ∷ rule (onlyRawBits n segment) 11 ∷ rule (leb n (length output)) 12 ∷ []
+
+  pub unpad-allowed : unpadAnswer n segment output .code ≡ 0 → UnpadAllowed
+  unfolding unpadCode unpad-rules
+  unpad-allowed e =
+      let p = none-refused unpad-rules (omega arith, (omega arith, (omega arith, (omega arith, tt)))) (sym (answer-code (unpadCode n segment output) n) ∙ e) in
+      record {
+        raw-length = p .0;
+        sized = eqb-true (length segment) (segmentLength n) (p .1 .0);
+        only-raw = p .1 .1 .0;
+        room = leb-true n (length output) (p .1 .1 .1 .0);
+      }
+
+  unpad-passes : UnpadAllowed → unpadCode n segment output ≡ 0
+  unfolding unpadCode unpad-rules
+  unpad-passes a =
+      all-passed unpad-rules (a .raw-length, (eq-eqb (length segment) (segmentLength n) (a .sized), (a .only-raw, (le-leb n (length output) (a .room), tt))))
+
+  pub unpad-answers : UnpadAllowed → unpadAnswer n segment output ≡ written n
+  unpad-answers a = ap (λ (c : ℕ). unlessRefused c refused (written n)) (unpad-passes a)
+
+  pub unpad-writes : UnpadAllowed → unpadWritten n segment output ≡ unpadded n segment
+  unpad-writes a = all-written (unpadCode n segment output) n output (unpadded n segment) (unpad-passes a) (length-unpadded n segment) (a .room)

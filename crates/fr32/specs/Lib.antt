@@ -1,0 +1,9 @@
+pub mod Padding
+pub mod BitLaws
+pub mod PaddingLaws
+pub mod UnpaddingLaws
+pub mod CapacityLaws
+pub mod InverseLaws
+pub mod Answers
+pub mod AnswerLaws
+pub mod ThereAndBack
