@@ -56,7 +56,7 @@ uint32_t vz_sha256(const uint8_t *message, size_t message_len, uint8_t *digest, 
 uint32_t vz_commitment(const uint8_t *run, size_t run_len, uint8_t *node, size_t node_len);
 
 /* The length of a stream's state. The caller keeps the state, and hands it on as it came back. Any bytes of this length are
- * answered: a code in them that is none of a stream's sticks too, and counts as 2 at the end. */
+ * answered: a code in them that is none of a stream's sticks too, and counts as 2. */
 #define VZ_STREAM_STATE 1072
 
 /* The commitment of bytes that arrive in pieces: a new start. state: VZ_STREAM_STATE bytes. Codes: 12. */

@@ -194,7 +194,7 @@ mod tests {
     fn any_bytes_are_a_state() {
         let absurd = Streaming::from([0xff; STREAM_STATE]);
         assert_eq!(absurd.end(), Err(Refusal::SIZE));
-        assert_eq!(absurd.clone().take(&[0; 32]).map_err(Refusal::code), Err(0xff));
+        assert_eq!(absurd.clone().take(&[0; 32]), Err(Refusal::SIZE));
         for count in [MAX_STREAM + 1, MAX_STREAM + 32, 1 << 37, u64::MAX] {
             let mut state = state(count, 0, &[]);
             assert_eq!(state.end(), Err(Refusal::SIZE), "{count}");

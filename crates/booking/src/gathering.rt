@@ -20,7 +20,7 @@ fn area_of(entry: Standing) -> u64
 }
 
 // The ranges of a lent deal's standing entries.
-pub fn gather(deal: &[u8]) -> Ranges
+pub(crate) fn gather(deal: &[u8]) -> Ranges
     requires { ⌜ lentSizeAllowed (length (now deal)) ≡ true ⌝ }
     ensures { λ r. ⌜ Gathered (rowAt (now (deal .entry))) (entryCount (length (now (deal .entry)))) (r .offsets) (r .areas) ⌝ }
 {

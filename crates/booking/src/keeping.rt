@@ -39,7 +39,12 @@ fn slot_keeps(deal: &[u8], segment: &[u8], commitment: [u8; 32], ranges: Ranges,
 }
 
 // The lowest slot of a lent deal that keeps the segment.
-pub fn lowest_keeping(deal: &[u8], segment: &[u8], commitment: [u8; 32], ranges: Ranges) -> Lowest
+pub(crate) fn lowest_keeping(
+    deal: &[u8],
+    segment: &[u8],
+    commitment: [u8; 32],
+    ranges: Ranges,
+) -> Lowest
     requires { ⌜ lentSizeAllowed (length (now deal)) ≡ true ⌝ }
     requires { ⌜ segmentSizeAllowed (length (now deal)) (length (now segment)) ≡ true ⌝ }
     requires { ⌜ commitment ≡ segmentCommitment (now segment) ⌝ }

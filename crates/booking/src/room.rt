@@ -31,7 +31,7 @@ fn lowest_overlap(ranges: Ranges, slots: usize, offset: u64, area: u64) -> Lowes
 }
 
 // The lowest free slot: one whose range is empty.
-pub fn lowest_free_slot(ranges: Ranges, slots: usize) -> Lowest
+pub(crate) fn lowest_free_slot(ranges: Ranges, slots: usize) -> Lowest
     requires { ⌜ slots ≤ 128 ⌝ }
     ensures { λ r. ⌜ r ≡ asLowest (lowest (emptyAt (ranges .areas)) 0 slots) ⌝ }
 {
@@ -47,7 +47,7 @@ pub fn lowest_free_slot(ranges: Ranges, slots: usize) -> Lowest
 
 // The lowest k such that the area from k times its size on overlaps no range and ends by the limit. From an overlap the search
 // goes on at the first multiple from the end of that range on: every multiple before it overlaps the same range.
-pub fn lowest_place(ranges: Ranges, slots: usize, area: u64, limit: u64) -> Lowest
+pub(crate) fn lowest_place(ranges: Ranges, slots: usize, area: u64, limit: u64) -> Lowest
     requires { ⌜ (slots ≤ 128) × ((0 < area) × (area ≤ 2 ^ 36)) × (limit ≤ 2 ^ 36) × EndBy (2 ^ 36) slots (ranges .offsets) (ranges .areas) ⌝ }
     ensures { λ r. ⌜ r ≡ asLowest (lowest (roomAt (ranges .offsets) (ranges .areas) slots area) 0 (limit / area)) ⌝ }
 {

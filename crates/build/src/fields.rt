@@ -20,7 +20,7 @@ fn put_head(out: &mut [u8], at: usize, tag: u8, size: usize)
 }
 
 // Writes a field that holds a node.
-pub fn put_node_field(out: &mut [u8], at: usize, tag: u8, node: [u8; 32])
+pub(crate) fn put_node_field(out: &mut [u8], at: usize, tag: u8, node: [u8; 32])
     requires { ⌜ at + 35 ≤ length (now out) ⌝ }
     ensures { λ _. ⌜ (now (out .exit) ≡ splice (now (out .entry)) at (putField tag node [])) × (length node ≡ 32) ⌝ }
 {
@@ -29,7 +29,7 @@ pub fn put_node_field(out: &mut [u8], at: usize, tag: u8, node: [u8; 32])
 }
 
 // Writes a field that holds a number.
-pub fn put_number_field(out: &mut [u8], at: usize, tag: u8, number: u64)
+pub(crate) fn put_number_field(out: &mut [u8], at: usize, tag: u8, number: u64)
     requires { ⌜ at + 11 ≤ length (now out) ⌝ }
     ensures { λ _. ⌜ now (out .exit) ≡ splice (now (out .entry)) at (putField tag (bytesOf 8 number) []) ⌝ }
 {
@@ -38,7 +38,7 @@ pub fn put_number_field(out: &mut [u8], at: usize, tag: u8, number: u64)
 }
 
 // Writes a field that holds the Merkle path of the node at a position of a level of the deal.
-pub fn put_path_field(
+pub(crate) fn put_path_field(
     out: &mut [u8],
     at: usize,
     tag: u8,

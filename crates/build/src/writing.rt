@@ -13,7 +13,7 @@ ghost use Rattle.build.specs.BuildLaws.{InDeal};
 ghost use Rattle.build.specs.Encode.{recordLength, recordFor};
 
 // The length of a record in a lent deal of d bytes, for a segment of a size.
-pub fn record_length(d: u64, size: u64) -> usize
+pub(crate) fn record_length(d: u64, size: u64) -> usize
     requires { ⌜ LentSize d × SegmentSize d size ⌝ }
     ensures { λ r. ⌜ r ≡ recordLength d size ⌝ }
 {
@@ -25,7 +25,7 @@ pub fn record_length(d: u64, size: u64) -> usize
 
 // Writes the record for the entry at a place of a lent deal into the first bytes of `out`: the fields in the order of their tags,
 // each where the one before it ends.
-pub fn write_record(deal: &[u8], entry: Standing, place: u64, out: &mut [u8])
+pub(crate) fn write_record(deal: &[u8], entry: Standing, place: u64, out: &mut [u8])
     requires { ⌜ InDeal (length (now deal)) place (entry .offset) (entry .size) ⌝ }
     requires { ⌜ recordLength (length (now deal)) (entry .size) ≤ length (now out) ⌝ }
     ensures { λ _. ⌜ now (out .exit) ≡ splice (now (out .entry)) 0 (recordFor (lentDeal (now (deal .entry))) (entry .commitment) (entry .offset) (entry .size) place) ⌝ }

@@ -4,7 +4,7 @@ ghost use Prim.Native.Nat.{_+_, _*_, _/_, _%_, _^_, _<_};
 ghost use lib.ListN.{getD};
 
 // The byte at a place, 0 past the end.
-pub fn byte_at(bytes: &[u8], at: usize) -> u8
+pub(crate) fn byte_at(bytes: &[u8], at: usize) -> u8
     ensures { λ r. ⌜ r ≡ getD (now (bytes .entry)) at 0 ⌝ }
 {
     if at < bytes.len() {
@@ -21,7 +21,7 @@ fn wide(x: u8) -> u16
 }
 
 // Eight bits of two bytes, from bit `shift` of the low one on.
-pub fn across(low: u8, high: u8, shift: u16) -> u8
+pub(crate) fn across(low: u8, high: u8, shift: u16) -> u8
     requires { ⌜ shift < 8 ⌝ }
     ensures { λ r. ⌜ r ≡ (low + 256 * high) / 2 ^ shift % 256 ⌝ }
 {
@@ -29,7 +29,7 @@ pub fn across(low: u8, high: u8, shift: u16) -> u8
 }
 
 // The same where the low byte is the last of a node and has six data bits.
-pub fn across_nodes(low: u8, high: u8, shift: u16) -> u8
+pub(crate) fn across_nodes(low: u8, high: u8, shift: u16) -> u8
     requires { ⌜ shift < 8 ⌝ }
     ensures { λ r. ⌜ r ≡ (low % 64 + 64 * high) / 2 ^ shift % 256 ⌝ }
 {

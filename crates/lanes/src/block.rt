@@ -130,14 +130,14 @@ fn sums4(hash: [u32; 32], s: [u32; 32]) -> [u32; 32]
 }
 
 // The hash value of each lane after one more block, of which the first eight words and the last are given.
-pub fn compress4(hash: [u32; 32], left: [u32; 32], right: [u32; 32]) -> [u32; 32]
+pub(crate) fn compress4(hash: [u32; 32], left: [u32; 32], right: [u32; 32]) -> [u32; 32]
     ensures { λ r. ⌜ ((l : ℕ) → l < 4 → lane 8 r l ≡ F.compress (lane 8 hash l) (lane 8 left l ++ lane 8 right l)) ⌝ }
 {
     sums4(hash, rounds4(hash, left, right))
 }
 
 // The hash value of each lane after the padding block of a message of 64 bytes.
-pub fn finish4(hash: [u32; 32]) -> [u32; 32]
+pub(crate) fn finish4(hash: [u32; 32]) -> [u32; 32]
     ensures { λ r. ⌜ ((l : ℕ) → l < 4 → lane 8 r l ≡ F.compress (lane 8 hash l) paddingBlock) ⌝ }
 {
     sums4(hash, padding_rounds4(hash))

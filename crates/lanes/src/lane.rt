@@ -5,7 +5,7 @@ ghost use lib.ListN.{length};
 ghost use Rattle.lanes.specs.Lanes.{lane, LanePut};
 
 // The eight words of one lane.
-pub fn lane_of(s: &[u32; 32], l: usize) -> [u32; 8]
+pub(crate) fn lane_of(s: &[u32; 32], l: usize) -> [u32; 8]
     requires { ⌜ l < 4 ⌝ }
     ensures { λ r. ⌜ r ≡ lane 8 (now (s .entry)) l ⌝ }
 {
@@ -19,7 +19,7 @@ pub fn lane_of(s: &[u32; 32], l: usize) -> [u32; 8]
 }
 
 // Writes the eight words of one lane.
-pub fn put_lane(s: &mut [u32; 32], l: usize, words: [u32; 8])
+pub(crate) fn put_lane(s: &mut [u32; 32], l: usize, words: [u32; 8])
     requires { ⌜ (l < 4) × (length (now s) ≡ 32) ⌝ }
     ensures { λ _. ⌜ LanePut (now (s .entry)) l words (now (s .exit)) ⌝ }
 {
@@ -31,7 +31,7 @@ pub fn put_lane(s: &mut [u32; 32], l: usize, words: [u32; 8])
 }
 
 // The same eight words in each lane.
-pub fn in_each_lane(words: [u32; 8]) -> [u32; 32]
+pub(crate) fn in_each_lane(words: [u32; 8]) -> [u32; 32]
     ensures { λ r. ⌜ ((l : ℕ) → l < 4 → lane 8 r l ≡ words) ⌝ }
 {
     let mut lanes = [0u32; 32];

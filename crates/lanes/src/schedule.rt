@@ -24,7 +24,7 @@ fn words_after(first: [u32; 96]) -> [u32; 32]
 
 // The next eight words of each lane, from its latest sixteen: the first eight of them and the last. The array of 96 words,
 // 24 of each lane, is needed in this function only.
-pub fn next_words4(left: [u32; 32], right: [u32; 32]) -> [u32; 32]
+pub(crate) fn next_words4(left: [u32; 32], right: [u32; 32]) -> [u32; 32]
     ensures { λ r. ⌜ ((l : ℕ) → l < 4 → lane 8 right l ++ lane 8 r l ≡ window (lane 8 left l ++ lane 8 right l) 8) ⌝ }
 {
     let mut w = [0u32; 96];

@@ -10,8 +10,8 @@ use lib.Seq.{drop-cons}
 use borrow.Author.Tests.{le-ltb}
 use Rattle.merkle.specs.StrayBits.{clearNode}
 use Rattle.merkle.specs.StrayBitsLaws.{clear-node}
-use Rattle.stream.specs.Stream.{largest, stuck, withNode, counted, takeByte, takePiece}
-use Rattle.stream.specs.StreamLaws.{running, byte-past, byte-within, counted-open, counted-stray, counted-whole, piece-sticks}
+use Rattle.stream.specs.Stream.{largest, failedWith, withNode, counted, takeByte, takePiece}
+use Rattle.stream.specs.StreamLaws.{running, byte-past, byte-within, counted-open, counted-stray, counted-whole, piece-after-failure}
 use Rattle.stream.specs.declared.Stream.{Stream}
 
 -- the partial node with a byte at its place
@@ -33,10 +33,10 @@ module _ (s : Stream) (piece : List ℕ) (count : ℕ) (partial waiting : List �
       ∙ ap (λ (n : ℕ). takePiece (takeByte (running count partial waiting) (getD piece i 0)) (drop n piece)) (sym (add-one i))
       ∙ ap (λ (u : Stream). takePiece u (drop (i + 1) piece)) e
 
-  pub turn-past : largest ≤ count → takePiece s piece ≡ stuck 2
+  pub turn-past : largest ≤ count → takePiece s piece ≡ failedWith 2
   turn-past h =
-      next (stuck 2) (byte-past (running count partial waiting) (getD piece i 0) refl h)
-      ∙ piece-sticks (stuck 2) (drop (i + 1) piece) (λ z. omega arith)
+      next (failedWith 2) (byte-past (running count partial waiting) (getD piece i 0) refl h)
+      ∙ piece-after-failure (failedWith 2) (drop (i + 1) piece) (λ z. omega arith)
 
   -- the partial node is `put` then, and it is not whole, or has stray bits, or none
   module _ (h : count < largest) (put : List ℕ) (is : withByte partial count (getD piece i 0) ≡ put) where
@@ -46,10 +46,10 @@ module _ (s : Stream) (piece : List ℕ) (count : ℕ) (partial waiting : List �
     pub turn-open : (count % 32 ≡ 31 → ⊥) → takePiece s piece ≡ takePiece (running (count + 1) put waiting) (drop (i + 1) piece)
     turn-open k = next (running (count + 1) put waiting) (within ∙ counted-open (count + 1) put waiting (λ z. k (omega arith)))
 
-    pub turn-stray : count % 32 ≡ 31 → 64 ≤ getD put 31 0 → takePiece s piece ≡ stuck 11
+    pub turn-stray : count % 32 ≡ 31 → 64 ≤ getD put 31 0 → takePiece s piece ≡ failedWith 11
     turn-stray k e =
-        next (stuck 11) (within ∙ counted-stray (count + 1) put waiting (omega arith) (not-clear put e))
-        ∙ piece-sticks (stuck 11) (drop (i + 1) piece) (λ z. omega arith)
+        next (failedWith 11) (within ∙ counted-stray (count + 1) put waiting (omega arith) (not-clear put e))
+        ∙ piece-after-failure (failedWith 11) (drop (i + 1) piece) (λ z. omega arith)
 
     pub turn-whole : count % 32 ≡ 31 → getD put 31 0 < 64
         → takePiece s piece ≡ takePiece (running (count + 1) put (withNode 32 0 ((count + 1) / 32 - 1) put waiting)) (drop (i + 1) piece)

@@ -5,7 +5,7 @@ use Prim.Native.Nat.{ℕ, _+_, _-_, _*_, _/_, _%_, _^_, _≤_, _<_}
 use lib.ListN.{length, take, drop, getD}
 use Rattle.octets.specs.Splice.{part}
 use Rattle.merkle.specs.Tree.{nodeAt}
-use Rattle.stream.specs.Stream.{largest, stuck}
+use Rattle.stream.specs.Stream.{largest, failedWith}
 use Rattle.stream.specs.declared.Stream.{Stream}
 
 -- n whole nodes give n / 2 ^ h nodes of height h. Where that is odd, the last of them has no right neighbour yet: it waits
@@ -25,20 +25,20 @@ pub record Runs (bytes : List ℕ) (s : Stream) : Type 0 where
   pub waits : Waits bytes (s .waiting) (length bytes / 32)
 
 -- 11 sticks: a whole node of the first 2^36 bytes has stray bits
-pub record Strayed (bytes : List ℕ) (s : Stream) : Type 0 where
+pub record StrayNode (bytes : List ℕ) (s : Stream) : Type 0 where
   pub node : ℕ
   pub whole : node * 32 + 31 < length bytes
   pub within : node * 32 + 31 < largest
   pub stray : 64 ≤ getD bytes (node * 32 + 31) 0
-  pub sticks : s ≡ stuck 11
+  pub state-is : s ≡ failedWith 11
 
 -- 2 sticks: there are more than 2^36 bytes, and no node of the first 2^36 has stray bits
-pub record Overran (bytes : List ℕ) (s : Stream) : Type 0 where
+pub record TooLong (bytes : List ℕ) (s : Stream) : Type 0 where
   pub more : largest < length bytes
   pub clear : (i : ℕ) → i * 32 + 31 < largest → getD bytes (i * 32 + 31) 0 < 64
-  pub sticks : s ≡ stuck 2
+  pub state-is : s ≡ failedWith 2
 
 pub data After (bytes : List ℕ) (s : Stream) : Type 0 where
   runs : Runs bytes s → After bytes s
-  strayed : Strayed bytes s → After bytes s
-  overran : Overran bytes s → After bytes s
+  strayNode : StrayNode bytes s → After bytes s
+  tooLong : TooLong bytes s → After bytes s

@@ -14,9 +14,9 @@ use Rattle.merkle.specs.Tree.{nodeAt}
 use Rattle.merkle.specs.TreeLaws.{node-leaf}
 use Rattle.merkle.specs.StrayBits.{clearNode}
 use Rattle.merkle.specs.StrayBitsLaws.{node-clear}
-use Rattle.stream.specs.Stream.{largest, started, stuck, withNode, counted, takeByte, takePiece}
-use Rattle.stream.specs.StreamLaws.{running, byte-sticks, byte-past, byte-within, counted-open, counted-stray, counted-whole}
-use Rattle.stream.specs.After.{Waits, Runs, Strayed, Overran, After, runs, strayed, overran}
+use Rattle.stream.specs.Stream.{largest, started, failedWith, withNode, counted, takeByte, takePiece}
+use Rattle.stream.specs.StreamLaws.{running, byte-after-failure, byte-past, byte-within, counted-open, counted-stray, counted-whole}
+use Rattle.stream.specs.After.{Waits, Runs, StrayNode, TooLong, After, runs, strayNode, tooLong}
 use Rattle.stream.specs.WaitingLaws.{node-waits, length-withNode}
 use Rattle.stream.specs.AppendLaws.{waits-stay}
 use Rattle.stream.specs.declared.Stream.{Stream}
@@ -48,35 +48,35 @@ module _ (bytes : List ℕ) (b : ℕ) where
   same-byte i h = List·getD-append bytes (b ∷ []) 0 i h
 
   -- a code that sticks
-  still-strayed : (s : Stream) → Strayed bytes s → Strayed longer (takeByte s b)
-  still-strayed s x =
-      let e : s .code ≡ 11 = ap (λ (t : Stream). t .code) (x .sticks) in
+  still-stray-node : (s : Stream) → StrayNode bytes s → StrayNode longer (takeByte s b)
+  still-stray-node s x =
+      let e : s .code ≡ 11 = ap (λ (t : Stream). t .code) (x .state-is) in
       record {
         node = x .node;
         whole = omega (arith, one-more, x .whole);
         within = x .within;
         stray = rw (same-byte (x .node * 32 + 31) (x .whole)) (x .stray);
-        sticks = byte-sticks s b (λ z. omega arith) ∙ x .sticks;
+        state-is = byte-after-failure s b (λ z. omega arith) ∙ x .state-is;
       }
 
-  still-overran : (s : Stream) → Overran bytes s → Overran longer (takeByte s b)
-  still-overran s x =
-      let e : s .code ≡ 2 = ap (λ (t : Stream). t .code) (x .sticks) in
+  still-too-long : (s : Stream) → TooLong bytes s → TooLong longer (takeByte s b)
+  still-too-long s x =
+      let e : s .code ≡ 2 = ap (λ (t : Stream). t .code) (x .state-is) in
       record {
         more = omega (arith, one-more, x .more);
         clear = λ i h. rw (same-byte (i * 32 + 31) (omega (arith, x .more))) (x .clear i h);
-        sticks = byte-sticks s b (λ z. omega arith) ∙ x .sticks;
+        state-is = byte-after-failure s b (λ z. omega arith) ∙ x .state-is;
       }
 
   module _ (s : Stream) (r : Runs bytes s) where
     -- the first byte past the largest number
-    overruns : largest ≤ s .count → Overran longer (takeByte s b)
+    overruns : largest ≤ s .count → TooLong longer (takeByte s b)
     overruns h =
         let l : length bytes ≡ largest = omega (arith, r .counts, r .allowed) in
         record {
           more = omega (arith, one-more);
           clear = λ i k. rw (same-byte (i * 32 + 31) (omega arith)) (r .clear i (omega arith));
-          sticks = byte-past s b (r .no-code) h;
+          state-is = byte-past s b (r .no-code) h;
         }
 
     -- the partial node with the byte, and the number of whole nodes before
@@ -129,7 +129,7 @@ module _ (bytes : List ℕ) (b : ℕ) where
         last-byte : getD put 31 0 ≡ getD longer (n * 32 + 31) 0
         last-byte = ap (λ (v : List ℕ). getD v 31 0) new-node ∙ getD-drop (n * 32) longer 31 0
 
-        stray-node : clearNode put ≡ false → Strayed longer (stuck 11)
+        stray-node : clearNode put ≡ false → StrayNode longer (failedWith 11)
         unfolding clearNode
         stray-node e =
             record {
@@ -137,7 +137,7 @@ module _ (bytes : List ℕ) (b : ℕ) where
               whole = omega (arith, one-more);
               within = omega arith;
               stray = rw (← last-byte) (ltb-false (getD put 31 0) 64 e);
-              sticks = refl;
+              state-is = refl;
             }
 
         whole-node : clearNode put ≡ true → Runs longer (running (length bytes + 1) put (withNode 32 0 ((length bytes + 1) / 32 - 1) put (s .waiting)))
@@ -179,7 +179,7 @@ module _ (bytes : List ℕ) (b : ℕ) where
         whole-counted k true e =
             subst (After longer) (sym (is-counted ∙ counted-whole (length bytes + 1) put (s .waiting) (omega arith) e)) (runs (whole-node k e))
         whole-counted k false e =
-            subst (After longer) (sym (is-counted ∙ counted-stray (length bytes + 1) put (s .waiting) (omega arith) e)) (strayed (stray-node k e))
+            subst (After longer) (sym (is-counted ∙ counted-stray (length bytes + 1) put (s .waiting) (omega arith) e)) (strayNode (stray-node k e))
 
         goes-on : After longer (takeByte s b)
         goes-on =
@@ -192,13 +192,13 @@ module _ (bytes : List ℕ) (b : ℕ) where
     takes =
         elim (decLt (s .count) largest) [
           | yes g ↦ goes-on (omega (arith, r .counts)) g
-          | no g ↦ overran (overruns (omega arith))
+          | no g ↦ tooLong (overruns (omega arith))
         ]
 
   after-byte : (s : Stream) → After bytes s → After longer (takeByte s b)
   after-byte s (runs r) = takes s r
-  after-byte s (strayed x) = strayed (still-strayed s x)
-  after-byte s (overran x) = overran (still-overran s x)
+  after-byte s (strayNode x) = strayNode (still-stray-node s x)
+  after-byte s (tooLong x) = tooLong (still-too-long s x)
 
 -- one more piece
 pub after-piece : (bytes piece : List ℕ) (s : Stream) → After bytes s → After (bytes ++ piece) (takePiece s piece)

@@ -16,27 +16,27 @@ use Rattle.merkle.specs.Tree.{commitmentOf, nodeAt}
 use Rattle.merkle.specs.TreeLaws.{top-node}
 use Rattle.merkle.specs.StrayBits.{noStrayBits}
 use Rattle.merkle.specs.StrayBitsLaws.{clear-nodes, nodes-clear}
-use Rattle.stream.specs.Stream.{largest, stuck, streamed, ending}
-use Rattle.stream.specs.StreamLaws.{ends-stray, ends-stuck, ends-refused, ends-committed, gets-stray, gets-refused, gets-committed, tree-bytes, height-waits}
-use Rattle.stream.specs.After.{Runs, Strayed, Overran, After, runs, strayed, overran}
+use Rattle.stream.specs.Stream.{largest, failedWith, streamed, ending}
+use Rattle.stream.specs.StreamLaws.{ends-stray, ends-failed, ends-refused, ends-committed, gets-stray, gets-refused, gets-committed, tree-bytes, height-waits}
+use Rattle.stream.specs.After.{Runs, StrayNode, TooLong, After, runs, strayNode, tooLong}
 use Rattle.stream.specs.declared.Stream.{Stream}
 
 module _ (bytes : List ℕ) (s : Stream) where
   -- 11 sticks
-  has-stray : Strayed bytes s → noStrayBits (take largest bytes) ≡ true → ⊥
+  has-stray : StrayNode bytes s → noStrayBits (take largest bytes) ≡ true → ⊥
   has-stray x e =
       let l = length-take largest bytes in
       let c = nodes-clear (length (take largest bytes) / 32) (take largest bytes) e (x .node) (omega (arith, x .whole, x .within)) in
       omega (arith, x .stray, getD-take largest bytes (x .node * 32 + 31) 0 (x .within))
 
-  end-strayed : Strayed bytes s → ending s ≡ streamed bytes
-  end-strayed x =
-      ap ending (x .sticks)
-      ∙ ends-stray (stuck 11) refl
+  end-stray-node : StrayNode bytes s → ending s ≡ streamed bytes
+  end-stray-node x =
+      ap ending (x .state-is)
+      ∙ ends-stray (failedWith 11) refl
       ∙ sym (gets-stray bytes (not-passed (noStrayBits (take largest bytes)) (has-stray x)))
 
   -- 2 sticks
-  none-stray : Overran bytes s → noStrayBits (take largest bytes) ≡ true
+  none-stray : TooLong bytes s → noStrayBits (take largest bytes) ≡ true
   none-stray x =
       let l = length-take largest bytes in
       clear-nodes (length (take largest bytes) / 32) (take largest bytes)
@@ -44,10 +44,10 @@ module _ (bytes : List ℕ) (s : Stream) where
       let b : i * 32 + 31 < largest = omega (arith, x .more) in
       omega (arith, getD-take largest bytes (i * 32 + 31) 0 b, x .clear i b))
 
-  end-overran : Overran bytes s → ending s ≡ streamed bytes
-  end-overran x =
-      ap ending (x .sticks)
-      ∙ ends-stuck (stuck 2) (λ z. omega arith) (λ z. omega arith)
+  end-too-long : TooLong bytes s → ending s ≡ streamed bytes
+  end-too-long x =
+      ap ending (x .state-is)
+      ∙ ends-failed (failedWith 2) (λ z. omega arith) (λ z. omega arith)
       ∙ sym (gets-refused bytes (none-stray x) (above-bound 32 largest (length bytes) (omega (arith, x .more)) (x .more)))
 
   -- no code sticks
@@ -80,5 +80,5 @@ module _ (bytes : List ℕ) (s : Stream) where
 
 pub end-after : (bytes : List ℕ) (s : Stream) → After bytes s → ending s ≡ streamed bytes
 end-after bytes s (runs r) = end-runs bytes s r
-end-after bytes s (strayed x) = end-strayed bytes s x
-end-after bytes s (overran x) = end-overran bytes s x
+end-after bytes s (strayNode x) = end-stray-node bytes s x
+end-after bytes s (tooLong x) = end-too-long bytes s x

@@ -36,8 +36,8 @@ abbrev pub started : Stream
 started = record { code = 0; count = 0; partial = replicate 32 0; waiting = replicate 1024 0 }
 
 -- a code that sticks until a new start
-abbrev pub stuck : ℕ → Stream
-stuck code = record { code = code; count = 0; partial = replicate 32 0; waiting = replicate 1024 0 }
+abbrev pub failedWith : ℕ → Stream
+failedWith code = record { code = code; count = 0; partial = replicate 32 0; waiting = replicate 1024 0 }
 
 -- The waiting nodes, one for each height, after one more node of a height that has k nodes already. Where k is even the node waits.
 -- Where it is odd, the one that waits is its left neighbour: their node hash is one more node of the next height, which has k / 2.
@@ -55,7 +55,7 @@ counted count partial waiting =
     choose (eqb (count % 32) 0)
     (choose (clearNode partial)
     (record { code = 0; count = count; partial = partial; waiting = withNode 32 0 (count / 32 - 1) partial waiting })
-    (stuck 11))
+    (failedWith 11))
     (record { code = 0; count = count; partial = partial; waiting = waiting })
 
 -- the state after one more byte
@@ -64,7 +64,7 @@ takeByte s b =
     choose (eqb (s .code) 0)
     (choose (ltb (s .count) largest)
     (counted (s .count + 1) (set (s .partial) (s .count % 32) b) (s .waiting))
-    (stuck 2))
+    (failedWith 2))
     s
 
 -- the state after a piece of bytes
@@ -72,11 +72,15 @@ unfoldable pub takePiece : Stream → List ℕ → Stream
 takePiece s [] = s
 takePiece s (b ∷ bs) = takePiece (takeByte s b) bs
 
--- The answer at the end. A state that was never handed out is answered too: a code that is none of ours counts as 2
+-- the code that a state stands for: 11 and 0 are its own, any other counts as 2, also in a state that was never handed out
+abbrev pub lastingCode : ℕ → ℕ
+lastingCode code = choose (eqb code 0) 0 (choose (eqb code 11) 11 2)
+
+-- The answer at the end
 unfoldable pub ending : Stream → Streamed
 ending s =
     unlessRefused (firstRefusal (
-    rule (eqb (s .code) 0) (choose (eqb (s .code) 11) 11 2) ∷
+    rule (eqb (s .code) 0) (lastingCode (s .code)) ∷
     rule (powerBetween 32 largest (s .count)) 2 ∷ []))
     refused
     (record { code = 0; node = part (s .waiting) (32 * (height (s .count) - 5)) 32; count = s .count })

@@ -14,7 +14,7 @@ use Rattle.pow2.specs.PowerLaws.{power-bounds}
 use Rattle.merkle.specs.Tree.{commitmentOf}
 use Rattle.merkle.specs.StrayBits.{clearNode, noStrayBits}
 use Rattle.merkle.specs.CommitmentLaws.{height-five, tree-sized}
-use Rattle.stream.specs.Stream.{largest, refused, streamed, stuck, withNode, counted, takeByte, takePiece, ending, takePieces, together}
+use Rattle.stream.specs.Stream.{largest, refused, streamed, failedWith, withNode, counted, takeByte, takePiece, ending, takePieces, together}
 use Rattle.stream.specs.declared.Stream.{Stream}
 
 -- a state in which no code sticks
@@ -26,11 +26,11 @@ is-running s e = ap (λ (c : ℕ). record { code = c; count = s .count; partial 
 
 -- one byte: a code that sticks, a byte past the largest number, and any other
 module _ (s : Stream) (b : ℕ) where
-  pub byte-sticks : (s .code ≡ 0 → ⊥) → takeByte s b ≡ s
+  pub byte-after-failure : (s .code ≡ 0 → ⊥) → takeByte s b ≡ s
   unfolding takeByte
-  byte-sticks h = rw (ne-eqb (s .code) 0 h)
+  byte-after-failure h = rw (ne-eqb (s .code) 0 h)
 
-  pub byte-past : s .code ≡ 0 → largest ≤ s .count → takeByte s b ≡ stuck 2
+  pub byte-past : s .code ≡ 0 → largest ≤ s .count → takeByte s b ≡ failedWith 2
   unfolding takeByte
   byte-past e h = rw (eq-eqb (s .code) 0 e, le-ltb (s .count) largest h)
 
@@ -43,7 +43,7 @@ module _ (count : ℕ) (partial waiting : List ℕ) where
   pub counted-open : (count % 32 ≡ 0 → ⊥) → counted count partial waiting ≡ running count partial waiting
   counted-open h = rw (ne-eqb (count % 32) 0 h)
 
-  pub counted-stray : count % 32 ≡ 0 → clearNode partial ≡ false → counted count partial waiting ≡ stuck 11
+  pub counted-stray : count % 32 ≡ 0 → clearNode partial ≡ false → counted count partial waiting ≡ failedWith 11
   counted-stray h e = rw (eq-eqb (count % 32) 0 h, e)
 
   pub counted-whole : count % 32 ≡ 0 → clearNode partial ≡ true
@@ -51,10 +51,10 @@ module _ (count : ℕ) (partial waiting : List ℕ) where
   counted-whole h e = rw (eq-eqb (count % 32) 0 h, e)
 
 -- a piece: a code sticks, and two pieces one after the other are one
-pub piece-sticks : (s : Stream) (bytes : List ℕ) → (s .code ≡ 0 → ⊥) → takePiece s bytes ≡ s
+pub piece-after-failure : (s : Stream) (bytes : List ℕ) → (s .code ≡ 0 → ⊥) → takePiece s bytes ≡ s
 unfolding takePiece
-piece-sticks s [] h = refl
-piece-sticks s (b ∷ bytes) h = ap (λ (t : Stream). takePiece t bytes) (byte-sticks s b h) ∙ piece-sticks s bytes h
+piece-after-failure s [] h = refl
+piece-after-failure s (b ∷ bytes) h = ap (λ (t : Stream). takePiece t bytes) (byte-after-failure s b h) ∙ piece-after-failure s bytes h
 
 pub piece-append : (s : Stream) (p q : List ℕ) → takePiece s (p ++ q) ≡ takePiece (takePiece s p) q
 unfolding takePiece
@@ -72,9 +72,9 @@ module _ (s : Stream) where
   unfolding ending
   ends-stray e = rw e
 
-  pub ends-stuck : (s .code ≡ 0 → ⊥) → (s .code ≡ 11 → ⊥) → ending s ≡ refused 2
+  pub ends-failed : (s .code ≡ 0 → ⊥) → (s .code ≡ 11 → ⊥) → ending s ≡ refused 2
   unfolding ending
-  ends-stuck h k = rw (ne-eqb (s .code) 0 h, ne-eqb (s .code) 11 k)
+  ends-failed h k = rw (ne-eqb (s .code) 0 h, ne-eqb (s .code) 11 k)
 
   pub ends-refused : s .code ≡ 0 → powerBetween 32 largest (s .count) ≡ false → ending s ≡ refused 2
   unfolding ending

@@ -6,7 +6,7 @@ mod waiting; // waiting.rt: the waiting nodes
 pub use packed::pack;
 pub use packed::unpack;
 ghost use mathlib.Core.Path.{_≡_};
-ghost use Rattle.stream.specs.Stream.{started, takePiece, ending};
+ghost use Rattle.stream.specs.Stream.{started, takePiece, lastingCode, ending};
 ghost use Rattle.stream.specs.Stream as S;
 
 // The largest number of bytes: 2^36.
@@ -28,8 +28,8 @@ pub struct Streamed {
 }
 
 // The state with a code that sticks.
-fn stuck(code: u8) -> Stream
-    ensures { λ r. ⌜ r ≡ S.stuck code ⌝ }
+fn failed_with(code: u8) -> Stream
+    ensures { λ r. ⌜ r ≡ S.failedWith code ⌝ }
 {
     Stream {
         code,
@@ -37,6 +37,19 @@ fn stuck(code: u8) -> Stream
         partial: [0u8; 32],
         waiting: [0u8; 1024],
     }
+}
+
+// The code that a state stands for: 0, 11 or 2.
+pub fn lasting_code(code: u8) -> u8
+    ensures { λ r. ⌜ r ≡ lastingCode code ⌝ }
+{
+    if code == 0 {
+        return 0;
+    }
+    if code == 11 {
+        return 11;
+    }
+    2
 }
 
 // A refusal.
@@ -76,7 +89,7 @@ impl Stream {
         let mut i = 0;
         while i < piece.len() {
             if LARGEST <= count {
-                return stuck(2);
+                return failed_with(2);
             }
             let place = (count % 32) as usize;
             partial[place] = piece[i];
@@ -84,7 +97,7 @@ impl Stream {
             i += 1;
             if place == 31 {
                 if 64 <= partial[31] {
-                    return stuck(11);
+                    return failed_with(11);
                 }
                 waiting::add_node(&mut waiting, count / 32 - 1, partial);
             }

@@ -7,7 +7,7 @@ ghost use mathlib.Core.Path.{_≡_};
 ghost use lib.ListN.{length};
 ghost use lib.Dec.{eqb};
 ghost use Rattle.octets.specs.Choice.{choose};
-ghost use Rattle.stream.specs.Stream.{started, takePiece, ending};
+ghost use Rattle.stream.specs.Stream.{started, takePiece, lastingCode, ending};
 ghost use Rattle.stream.specs.Packed.{packed, unpacked};
 ghost use Rattle.vizhuthamen.specs.Export.{lentCode, lentOutput};
 
@@ -30,7 +30,7 @@ pub extern "C" fn vz_stream_new(state: &mut [u8]) -> u32
 // One more piece. The answer is the state's code: 0, or the one that sticks.
 #[no_mangle]
 pub extern "C" fn vz_stream_take(state: &mut [u8], piece: &[u8]) -> u32
-    ensures { λ r. ⌜ r ≡ lentCode 1072 (now (state .entry)) (takePiece (unpacked (now (state .entry))) (now (piece .entry)) .code) ⌝ }
+    ensures { λ r. ⌜ r ≡ lentCode 1072 (now (state .entry)) (lastingCode (takePiece (unpacked (now (state .entry))) (now (piece .entry)) .code)) ⌝ }
     ensures { λ _. ⌜ now (state .exit) ≡ choose (eqb (length (now (state .entry))) 1072) (packed (takePiece (unpacked (now (state .entry))) (now (piece .entry)))) (now (state .entry)) ⌝ }
 {
     if state.len() != STATE_LENGTH {
@@ -38,7 +38,7 @@ pub extern "C" fn vz_stream_take(state: &mut [u8], piece: &[u8]) -> u32
     }
     let before = stream::unpack(state);
     let after = before.take(piece);
-    let code = after.code;
+    let code = stream::lasting_code(after.code);
     stream::pack(after, state);
     code as u32
 }

@@ -10,7 +10,7 @@ use borrow.Author.Tests.{not-true, not-false}
 use Rattle.octets.specs.Splice.{part}
 use Rattle.pow2.specs.Power.{powerBetween}
 use Rattle.stream.specs.Stream.{largest}
-use Rattle.stream.specs.StreamLaws.{ends-stray, ends-stuck, ends-refused, ends-committed, tree-height, height-waits}
+use Rattle.stream.specs.StreamLaws.{ends-stray, ends-failed, ends-refused, ends-committed, tree-height, height-waits}
 use Rattle.stream.proofs.Stream.end.Statement.{statement}
 use Rattle.stream.proofs.Stream.end.Tie as tie
 
@@ -22,7 +22,7 @@ returns : tie.Need-returns
 returns c = c .refused .ensures ∙ sym (ends-stray _ (c .before .if1 .taken))
 
 returns-2 : tie.Need-returns-2
-returns-2 c = c .refused2 .ensures ∙ sym (ends-stuck _ (c .before .if2 .taken) (c .before .before .before .if1 .left))
+returns-2 c = c .refused2 .ensures ∙ sym (ends-failed _ (c .before .if2 .taken) (c .before .before .before .if1 .left))
 
 returns-3 : tie.Need-returns-3
 returns-3 c =

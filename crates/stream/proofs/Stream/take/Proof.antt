@@ -7,7 +7,7 @@ use denote.Ref.{now}
 use lib.ListN.{length, drop, getD}
 use borrow.Author.Needs.{needs}
 use Rattle.stream.specs.Stream.{takePiece}
-use Rattle.stream.specs.StreamLaws.{running, is-running, piece-sticks}
+use Rattle.stream.specs.StreamLaws.{running, is-running, piece-after-failure}
 use Rattle.stream.specs.declared.Stream.{Stream}
 use Rattle.stream.proofs.ByteTurns.{withByte, turn-past, turn-over, turn-open, turn-stray, turn-whole}
 use Rattle.stream.proofs.Stream.take.Statement.{statement}
@@ -21,7 +21,7 @@ abbrev μ-loop : tie.MeasureT-loop
 μ-loop self piece count₀ partial₀ waiting₀ i₀ count partial waiting i = length piece - i
 
 returns : tie.Need-returns Inv-loop μ-loop
-returns c = let a = c .before .before .before .args in sym (piece-sticks (a .self) (now (a .piece)) (c .if1 .taken))
+returns c = let a = c .before .before .before .args in sym (piece-after-failure (a .self) (now (a .piece)) (c .if1 .taken))
 
 loop-holds : tie.Need-loop-holds Inv-loop μ-loop
 loop-holds c =
@@ -34,7 +34,7 @@ returns-2 c =
     let l = c .before .before .before in
     let a = l .before .before .before .before .before .before .args in
     let t = turn-past (a .self) (now (a .piece)) (l .loop .count) (l .loop .partial) (l .loop .waiting) (l .loop .i) in
-    c .stuck .ensures ∙ sym (t (omega arith) (l .loop .inv .2) (omega arith))
+    c .failed-with .ensures ∙ sym (t (omega arith) (l .loop .inv .2) (omega arith))
 
 returns-3 : tie.Need-returns-3 Inv-loop μ-loop
 returns-3 c =
@@ -43,7 +43,7 @@ returns-3 c =
     let a = l .before .before .before .before .before .before .args in
     let put = withByte (l .loop .partial) (l .loop .count) (getD (now (a .piece)) (l .loop .i) 0) in
     let t = turn-stray (a .self) (now (a .piece)) (l .loop .count) (l .loop .partial) (l .loop .waiting) (l .loop .i) in
-    c .stuck2 .ensures ∙ sym (t (omega arith) (l .loop .inv .2) (omega arith) put refl (f .if3 .taken) (c .before .if4 .taken))
+    c .failed-with2 .ensures ∙ sym (t (omega arith) (l .loop .inv .2) (omega arith) put refl (f .if3 .taken) (c .before .if4 .taken))
 
 loop-again : tie.Need-loop-again Inv-loop μ-loop
 loop-again c =
