@@ -32,6 +32,19 @@ def nobody():
     return {"user": "nobody", "group": "nogroup", "extra_groups": []} if os.getuid() == 0 else {}
 
 
+def all_of(terminal):
+    """All that was written to a terminal whose other end is closed: one read may give a part of it, and an error says the end."""
+    shown = b""
+    while True:
+        try:
+            part = os.read(terminal, 4096)
+        except OSError:
+            return shown
+        if not part:
+            return shown
+        shown += part
+
+
 class Calls(unittest.TestCase):
     """A folder of its own for each test, and calls of the program in it."""
 
@@ -595,7 +608,7 @@ class Failures(Calls):
             parent, child = pty.openpty()
             ran = subprocess.run([self.program, command, "file"], cwd=self.folder, stdout=subprocess.PIPE, stderr=child)
             os.close(child)
-            shown = os.read(parent, 4096)
+            shown = all_of(parent)
             os.close(parent)
             self.assertEqual((ran.returncode, ran.stdout.decode()), (0, out))
             self.assertIn(b"hashing: 8 MiB", shown)
