@@ -6,15 +6,15 @@ use mathlib.Core.List.{List}
 use Prim.Native.Nat.{ℕ, _+_, _*_, _/_, _^_, _≤_, _<_}
 use native.Mathlib.Omega.{arith}
 use lib.ListN.{length}
-use Rattle.octets.specs.Search.{found, missing, lowest}
+use Rattle.rules.specs.Search.{found, missing, lowest}
 use Rattle.octets.specs.Fill.{zeroFilled}
 use Rattle.octets.specs.Splice.{splice}
 use Rattle.merkle.specs.Tree.{commitmentOf}
-use Rattle.merkle.specs.StrayBits.{noStrayBits}
-use Rattle.merkle.specs.StrayBitsLaws.{filled-clear}
+use Rattle.stray.specs.StrayBits.{noStrayBits}
+use Rattle.stray.specs.StrayBitsLaws.{filled-clear}
 use Rattle.entries.specs.Entry.{entryOf}
-use Rattle.entries.specs.Sizes.{lentSizeAllowed, segmentSizeAllowed, area, entryCount, indexStart, segmentLevel}
-use Rattle.entries.specs.SizesLaws.{lent-size, segment-size, index-start-le}
+use Rattle.sizes.specs.Sizes.{lentSizeAllowed, segmentSizeAllowed, area, entryCount, indexStart, segmentLevel}
+use Rattle.sizes.specs.SizesLaws.{lent-size, segment-size, index-start-le}
 use Rattle.index.specs.Slots.{slotAt, rowAt}
 use Rattle.booking.specs.Booking.{areaBytes, keepsSegment, refuse, already, place, inRoom, unlessKept, decision, segmentCommitment, answerTo, bookAnswer, bookedDeal}
 use Rattle.booking.specs.BookingLaws.{Bookable, Books, bookable-deal, bookable-segment, books, answer-is, deal-is, code-0}

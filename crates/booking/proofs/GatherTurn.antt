@@ -7,8 +7,8 @@ use native.Mathlib.Nat.{eq-or-lt-of-le}
 use native.Mathlib.Omega.{arith}
 use lib.ListN.{length, getD, set}
 use lib.Seq.{getD-set-same, getD-set-other}
-use Rattle.octets.specs.Choice.{choose}
-use Rattle.entries.specs.Sizes.{area, slotPlace}
+use Rattle.rules.specs.Choice.{choose}
+use Rattle.sizes.specs.Sizes.{area, slotPlace}
 use Rattle.index.specs.Slots.{Row, free, holds, entryAt, rowOf, rowAt, standingOf}
 use Rattle.index.specs.declared.Standing.{Standing}
 use Rattle.booking.specs.Gather.{rowOffset, rowArea, Gathered}

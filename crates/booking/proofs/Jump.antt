@@ -5,8 +5,8 @@ use mathlib.Core.List.{List}
 use Prim.Native.Nat.{ℕ, _+_, _-_, _*_, _/_, _≤_, _<_}
 use native.Mathlib.Omega.{arith}
 use lib.ListN.{getD}
-use Rattle.octets.specs.Search.{Found, found, missing, lowest}
-use Rattle.octets.specs.SearchLaws.{IsLowest, lowest-found, lowest-missing, lowest-skip}
+use Rattle.rules.specs.Search.{Found, found, missing, lowest}
+use Rattle.rules.specs.SearchLaws.{IsLowest, lowest-found, lowest-missing, lowest-skip}
 use Rattle.booking.specs.Gather.{overlapsAt, roomAt}
 use Rattle.booking.specs.Room.{isMissing}
 use Rattle.booking.specs.RoomLaws.{overlap-true, overlap-jump, place-ends}

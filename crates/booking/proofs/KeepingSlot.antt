@@ -11,13 +11,13 @@ use borrow.Author.Tests.{eqb-true, eq-eqb}
 use Rattle.octets.specs.Equality.{sameBytes}
 use Rattle.octets.specs.EqualityLaws.{same-true, same-of, same-false}
 use Rattle.octets.specs.LittleEndian.{numberOf}
-use Rattle.octets.specs.RefusalLaws.{and-left, and-right, not-passed}
+use Rattle.rules.specs.RefusalLaws.{and-left, and-right, not-passed}
 use Rattle.octets.specs.Splice.{part}
 use Rattle.octets.specs.SpliceLaws.{part-part}
 use Rattle.merkle.specs.Tree.{commitmentOf, nodeAt}
 use Rattle.entries.specs.Entry.{commitmentIn, offsetIn, sizeIn}
-use Rattle.entries.specs.Sizes.{area, slotPlace, segmentLevel, segmentPosition}
-use Rattle.entries.specs.SizesLaws.{DealSize, segment-size, segment-place}
+use Rattle.sizes.specs.Sizes.{area, slotPlace, segmentLevel, segmentPosition}
+use Rattle.sizes.specs.SizesLaws.{DealSize, segment-size, segment-place}
 use Rattle.index.specs.KeptLaws.{row-stands, kept-stands, segment-node}
 use Rattle.index.specs.Slots.{slotAt, standing, kept, rowAt}
 use Rattle.index.specs.SlotsLaws.{Stands, stands, keeps}

@@ -3,8 +3,8 @@ use mathlib.Core.Path.{_≡_, refl, sym, ap, _∙_}
 use mathlib.Core.Bool.{Bool, true, false}
 use Prim.Native.Nat.{ℕ, _+_, _-_, _≤_, _<_}
 use native.Mathlib.Omega.{arith}
-use Rattle.octets.specs.Search.{Found, found, missing, lowest}
-use Rattle.octets.specs.SearchLaws.{lowest-found, lowest-here, lowest-next, lowest-over}
+use Rattle.rules.specs.Search.{Found, found, missing, lowest}
+use Rattle.rules.specs.SearchLaws.{lowest-found, lowest-here, lowest-next, lowest-over}
 use Rattle.booking.specs.Gather.{asLowest}
 use Rattle.booking.specs.declared.Lowest.{Lowest}
 

@@ -7,9 +7,9 @@ use native.Mathlib.Decide.{ℕ-discrete}
 use native.Mathlib.Omega.{arith}
 use mathlib.Core.List.{List}
 use lib.ListN.{length}
-use Rattle.octets.specs.RefusalLaws.{and-left, not-passed}
+use Rattle.rules.specs.RefusalLaws.{and-left, not-passed}
 use Rattle.merkle.specs.Tree.{nodeAt}
-use Rattle.entries.specs.Sizes.{entryCount, slotPlace}
+use Rattle.sizes.specs.Sizes.{entryCount, slotPlace}
 use Rattle.entries.specs.Entry.{offsetIn}
 use Rattle.index.specs.Slots.{slotAt, kept}
 use Rattle.index.specs.KeptLaws.{kept-stands}

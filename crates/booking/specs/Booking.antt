@@ -4,14 +4,14 @@ use Prim.Native.Nat.{ℕ, _*_}
 use mathlib.Core.List.{List, [], _∷_}
 use lib.ListN.{length}
 use lib.Dec.{eqb}
-use Rattle.octets.specs.Refusals.{rule, firstRefusal, unlessRefused}
+use Rattle.rules.specs.Refusals.{rule, firstRefusal, unlessRefused}
 use Rattle.octets.specs.Equality.{sameBytes}
-use Rattle.octets.specs.Search.{Found, found, missing, lowest}
+use Rattle.rules.specs.Search.{Found, found, missing, lowest}
 use Rattle.octets.specs.Splice.{part, splice}
 use Rattle.octets.specs.Fill.{zeroFilled}
 use Rattle.merkle.specs.Tree.{commitmentOf, nodeAt}
-use Rattle.merkle.specs.StrayBits.{noStrayBits}
-use Rattle.entries.specs.Sizes.{lentSizeAllowed, segmentSizeAllowed, area, entryCount, indexStart, slotPlace, segmentLevel}
+use Rattle.stray.specs.StrayBits.{noStrayBits}
+use Rattle.sizes.specs.Sizes.{lentSizeAllowed, segmentSizeAllowed, area, entryCount, indexStart, slotPlace, segmentLevel}
 use Rattle.entries.specs.Entry.{entryOf, offsetIn, sizeIn}
 use Rattle.index.specs.Slots.{slotAt, kept, rowAt}
 use Rattle.booking.specs.Room.{lowestFreeSlot, lowestPlace}

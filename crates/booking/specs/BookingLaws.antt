@@ -6,14 +6,14 @@ use Prim.Native.Nat.{ℕ, zero, suc, _+_, _*_, _/_, _%_, _≤_, _<_}
 use native.Mathlib.Omega.{arith}
 use mathlib.Core.List.{List, [], _∷_}
 use lib.ListN.{length}
-use Rattle.octets.specs.Refusals.{Rule, rule, firstRefusal, unlessRefused}
-use Rattle.octets.specs.RefusalLaws.{none-refused, all-passed, and-left, and-right, and-both}
-use Rattle.octets.specs.Search.{Found, found, missing, lowest}
-use Rattle.octets.specs.SearchLaws.{IsLowest, lowest-found, lowest-missing, lowest-is, lowest-none}
+use Rattle.rules.specs.Refusals.{Rule, rule, firstRefusal, unlessRefused}
+use Rattle.rules.specs.RefusalLaws.{none-refused, all-passed, and-left, and-right, and-both}
+use Rattle.rules.specs.Search.{Found, found, missing, lowest}
+use Rattle.rules.specs.SearchLaws.{IsLowest, lowest-found, lowest-missing, lowest-is, lowest-none}
 use Rattle.octets.specs.FillLaws.{filled-length}
-use Rattle.merkle.specs.StrayBits.{noStrayBits}
-use Rattle.entries.specs.Sizes.{lentSizeAllowed, segmentSizeAllowed, area, entryCount, indexStart}
-use Rattle.entries.specs.SizesLaws.{LentSize, SegmentSize, lent-size, segment-size}
+use Rattle.stray.specs.StrayBits.{noStrayBits}
+use Rattle.sizes.specs.Sizes.{lentSizeAllowed, segmentSizeAllowed, area, entryCount, indexStart}
+use Rattle.sizes.specs.SizesLaws.{LentSize, SegmentSize, lent-size, segment-size}
 use Rattle.index.specs.Slots.{rowAt}
 use Rattle.booking.specs.declared.Booked.{Booked}
 use Rattle.booking.specs.Room.{isFree, fits, lowestFreeSlot, lowestPlace}

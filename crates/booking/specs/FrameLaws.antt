@@ -12,7 +12,7 @@ use lib.ListN.{length}
 use lib.Dec.{eqb}
 use borrow.Author.Tests.{eqb-true, eq-eqb, le-leb}
 use Rattle.octets.specs.Bytes.{Bytes}
-use Rattle.octets.specs.RefusalLaws.{and-left, and-right, and-same}
+use Rattle.rules.specs.RefusalLaws.{and-left, and-right, and-same}
 use Rattle.octets.specs.Equality.{sameBytes}
 use Rattle.octets.specs.EqualityLaws.{same-true, same-of}
 use Rattle.octets.specs.FillLaws.{bytes-filled, filled-head, filled-only}
@@ -20,10 +20,10 @@ use Rattle.octets.specs.Splice.{part, splice}
 use Rattle.octets.specs.SpliceLaws.{length-splice, bytes-splice, part-part, part-before, part-after, part-written}
 use Rattle.merkle.specs.Tree.{commitmentOf, nodeAt}
 use Rattle.merkle.specs.TreeLaws.{commitment-length, commitment-clear, commitment-bytes}
-use Rattle.merkle.specs.StrayBits.{clearNode, noStrayBits}
-use Rattle.merkle.specs.StrayBitsLaws.{clear-node, splice-clear}
-use Rattle.entries.specs.Sizes.{lentSizeAllowed, segmentSizeAllowed, area, entryCount, indexStart, offsetAllowed, slotPlace, segmentLevel, segmentPosition}
-use Rattle.entries.specs.SizesLaws.{DealSize, SegmentSize, SegmentPlace, segment-size, segment-place, index-area}
+use Rattle.stray.specs.StrayBits.{clearNode, noStrayBits}
+use Rattle.stray.specs.StrayBitsLaws.{clear-node, splice-clear}
+use Rattle.sizes.specs.Sizes.{lentSizeAllowed, segmentSizeAllowed, area, entryCount, indexStart, offsetAllowed, slotPlace, segmentLevel, segmentPosition}
+use Rattle.sizes.specs.SizesLaws.{DealSize, SegmentSize, SegmentPlace, segment-size, segment-place, index-area}
 use Rattle.entries.specs.Entry.{entryOf, commitmentIn, offsetIn, sizeIn}
 use Rattle.entries.specs.EntryLaws.{entry-length, offset-back, size-back}
 use Rattle.entries.specs.MadeLaws.{made-bytes, made-clear}

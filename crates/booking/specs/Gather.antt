@@ -6,8 +6,8 @@ use mathlib.Core.List.{List}
 use Prim.Native.Nat.{ℕ, _+_, _*_, _≤_, _<_}
 use lib.ListN.{getD}
 use lib.Dec.{eqb}
-use Rattle.octets.specs.Search.{Found, found, missing, lowest}
-use Rattle.entries.specs.Sizes.{area}
+use Rattle.rules.specs.Search.{Found, found, missing, lowest}
+use Rattle.sizes.specs.Sizes.{area}
 use Rattle.index.specs.Slots.{Row, free, holds}
 use Rattle.booking.specs.Room.{overlap, isMissing}
 use Rattle.booking.specs.declared.Lowest.{Lowest}

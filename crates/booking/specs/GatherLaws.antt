@@ -6,11 +6,11 @@ use Prim.Native.Nat.{ℕ, _+_, _*_, _/_, _≤_, _<_}
 use native.Mathlib.Omega.{arith}
 use lib.Dec.{eqb}
 use borrow.Author.Tests.{le-ltb, ne-eqb}
-use Rattle.octets.specs.Search.{lowest}
-use Rattle.octets.specs.SearchLaws.{lowest-cong}
+use Rattle.rules.specs.Search.{lowest}
+use Rattle.rules.specs.SearchLaws.{lowest-cong}
 use Rattle.entries.specs.Entry.{offsetIn, sizeIn}
-use Rattle.entries.specs.Sizes.{lentSizeAllowed, area, entryCount, indexStart, slotPlace}
-use Rattle.entries.specs.SizesLaws.{DealSize, lent-size, segment-size, segment-place, slot-allowed, entry-place}
+use Rattle.sizes.specs.Sizes.{lentSizeAllowed, area, entryCount, indexStart, slotPlace}
+use Rattle.sizes.specs.SizesLaws.{DealSize, lent-size, segment-size, segment-place, slot-allowed, entry-place}
 use Rattle.index.specs.KeptLaws.{row-stands, row-free}
 use Rattle.index.specs.Slots.{Row, free, holds, standing, rowOf}
 use Rattle.index.specs.SlotsLaws.{stands}

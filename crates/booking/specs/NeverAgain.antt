@@ -3,7 +3,7 @@ use mathlib.Core.Path.{_≡_, refl, sym, ap, ap₂, _∙_}
 use Prim.Native.Nat.{ℕ}
 use native.Mathlib.Decide.{ℕ-discrete}
 use mathlib.Core.List.{List, [], _∷_}
-use Rattle.entries.specs.Sizes.{slotPlace}
+use Rattle.sizes.specs.Sizes.{slotPlace}
 use Rattle.booking.specs.declared.Booked.{Booked}
 use Rattle.booking.specs.Booking.{already, place, bookAnswer, bookedDeal}
 use Rattle.booking.specs.Run.{runBookings}

@@ -2,8 +2,8 @@
 use mathlib.Core.Bool.{Bool, true, false, _&&_}
 use Prim.Native.Nat.{ℕ, _+_, _*_, _/_}
 use lib.Dec.{ltb}
-use Rattle.octets.specs.Search.{Found, found, missing, lowest}
-use Rattle.entries.specs.Sizes.{area}
+use Rattle.rules.specs.Search.{Found, found, missing, lowest}
+use Rattle.sizes.specs.Sizes.{area}
 use Rattle.index.specs.Slots.{Row, free, holds}
 
 -- the n bytes from o and the m bytes from p have a byte in common

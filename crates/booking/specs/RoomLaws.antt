@@ -10,10 +10,10 @@ use native.Mathlib.Omega.{arith}
 use lib.Dec.{ltb}
 use lib.Pow.{pow-pos, pow-add}
 use borrow.Author.Tests.{ltb-true, lt-ltb}
-use Rattle.octets.specs.RefusalLaws.{and-left, and-right, not-passed}
-use Rattle.octets.specs.Search.{Found, found, missing, lowest}
-use Rattle.octets.specs.SearchLaws.{lowest-found, lowest-missing, lowest-is, lowest-none, lowest-skip}
-use Rattle.entries.specs.Sizes.{area}
+use Rattle.rules.specs.RefusalLaws.{and-left, and-right, not-passed}
+use Rattle.rules.specs.Search.{Found, found, missing, lowest}
+use Rattle.rules.specs.SearchLaws.{lowest-found, lowest-missing, lowest-is, lowest-none, lowest-skip}
+use Rattle.sizes.specs.Sizes.{area}
 use Rattle.index.specs.Slots.{Row, free, holds}
 use Rattle.booking.specs.Room.{overlap, rowOverlaps, isFree, isMissing, fits, lowestPlace}
 

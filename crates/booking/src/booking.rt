@@ -9,7 +9,7 @@ ghost use mathlib.Core.Path.{_≡_};
 ghost use Prim.Native.Nat.{_+_, _≤_};
 ghost use lib.ListN.{length};
 ghost use Rattle.octets.specs.Splice.{splice};
-ghost use Rattle.entries.specs.Sizes.{area};
+ghost use Rattle.sizes.specs.Sizes.{area};
 ghost use Rattle.entries.specs.Entry.{entryOf};
 ghost use Rattle.booking.specs.Booking.{areaBytes, segmentCommitment, bookAnswer, bookedDeal};
 ghost use Rattle.booking.specs.BookingLaws.{Bookable};
@@ -38,21 +38,21 @@ fn place_for(deal: &[u8], segment: &[u8], commitment: [u8; 32]) -> Booked
         return Booked {
             code: 15,
             offset: ranges.offsets[i],
-            place: entries::slot_place(deal_size, i as u64),
+            place: sizes::slot_place(deal_size, i as u64),
         };
     }
-    let slots = entries::entry_count(deal_size) as usize;
+    let slots = sizes::entry_count(deal_size) as usize;
     let Lowest::At(i) = lowest_free_slot(ranges, slots) else {
         return refused(13);
     };
-    let area = entries::area(segment.len() as u64);
-    let Lowest::At(k) = lowest_place(ranges, slots, area, entries::index_start(deal_size)) else {
+    let area = sizes::area(segment.len() as u64);
+    let Lowest::At(k) = lowest_place(ranges, slots, area, sizes::index_start(deal_size)) else {
         return refused(14);
     };
     Booked {
         code: 0,
         offset: k as u64 * area,
-        place: entries::slot_place(deal_size, i as u64),
+        place: sizes::slot_place(deal_size, i as u64),
     }
 }
 
@@ -63,7 +63,7 @@ fn write_segment(deal: &mut [u8], segment: &[u8], commitment: [u8; 32], offset: 
 {
     let size = segment.len() as u64;
     let entry = entries::entry_of(commitment, offset, size);
-    let area = entries::area(size) as usize;
+    let area = sizes::area(size) as usize;
     octets::put_filled(deal, offset as usize, segment, area);
     octets::put_pair(deal, place as usize, entry);
 }
@@ -76,19 +76,19 @@ pub fn book(deal: &mut [u8], segment: &[u8]) -> Booked
     ensures { λ r. ⌜ (r ≡ bookAnswer (now (deal .entry)) (now (segment .entry))) × (now (deal .exit) ≡ bookedDeal (now (deal .entry)) (now (segment .entry))) ⌝ }
 {
     let size = segment.len() as u64;
-    if !entries::lent_size_allowed(deal.len()) {
+    if !sizes::lent_size_allowed(deal.len()) {
         return refused(2);
     }
-    if !entries::segment_size_allowed(deal.len() as u64, size) {
+    if !sizes::segment_size_allowed(deal.len() as u64, size) {
         return refused(4);
     }
-    if !merkle::no_stray_bits(deal) {
+    if !stray::no_stray_bits(deal) {
         return refused(11);
     }
-    if !merkle::no_stray_bits(segment) {
+    if !stray::no_stray_bits(segment) {
         return refused(11);
     }
-    let commitment = merkle::root_of_filled(segment, entries::segment_level(size));
+    let commitment = merkle::root_of_filled(segment, sizes::segment_level(size));
     let answer = place_for(deal, segment, commitment);
     if answer.code == 0 {
         write_segment(deal, segment, commitment, answer.offset, answer.place);

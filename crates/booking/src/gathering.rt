@@ -4,8 +4,8 @@ use index::Standing;
 ghost use mathlib.Core.Path.{_≡_};
 ghost use mathlib.Core.Bool.{true};
 ghost use lib.ListN.{length};
-ghost use Rattle.octets.specs.Choice.{choose};
-ghost use Rattle.entries.specs.Sizes.{lentSizeAllowed, entryCount, area};
+ghost use Rattle.rules.specs.Choice.{choose};
+ghost use Rattle.sizes.specs.Sizes.{lentSizeAllowed, entryCount, area};
 ghost use Rattle.index.specs.Slots.{rowAt};
 ghost use Rattle.booking.specs.Gather.{Gathered};
 
@@ -14,7 +14,7 @@ fn area_of(entry: Standing) -> u64
     ensures { λ r. ⌜ r ≡ choose (entry .stands) (area (entry .size)) 0 ⌝ }
 {
     if entry.stands {
-        return entries::area(entry.size);
+        return sizes::area(entry.size);
     }
     0
 }
@@ -25,12 +25,12 @@ pub(crate) fn gather(deal: &[u8]) -> Ranges
     ensures { λ r. ⌜ Gathered (rowAt (now (deal .entry))) (entryCount (length (now (deal .entry)))) (r .offsets) (r .areas) ⌝ }
 {
     let deal_size = deal.len() as u64;
-    let slots = entries::entry_count(deal_size) as usize;
+    let slots = sizes::entry_count(deal_size) as usize;
     let mut offsets = [0u64; 128];
     let mut areas = [0u64; 128];
     let mut i: usize = 0;
     while i < slots {
-        let place = entries::slot_place(deal_size, i as u64);
+        let place = sizes::slot_place(deal_size, i as u64);
         let entry = index::standing_at(deal, place as usize);
         offsets[i] = entry.offset;
         areas[i] = area_of(entry);

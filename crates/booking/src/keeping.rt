@@ -5,8 +5,8 @@ ghost use mathlib.Core.Path.{_≡_};
 ghost use mathlib.Core.Bool.{true};
 ghost use Prim.Native.Nat.{_<_};
 ghost use lib.ListN.{length};
-ghost use Rattle.octets.specs.Search.{lowest};
-ghost use Rattle.entries.specs.Sizes.{lentSizeAllowed, segmentSizeAllowed, entryCount};
+ghost use Rattle.rules.specs.Search.{lowest};
+ghost use Rattle.sizes.specs.Sizes.{lentSizeAllowed, segmentSizeAllowed, entryCount};
 ghost use Rattle.index.specs.Slots.{rowAt};
 ghost use Rattle.booking.specs.Booking.{keepsSegment, segmentCommitment};
 ghost use Rattle.booking.specs.Gather.{Gathered, asLowest};
@@ -23,11 +23,11 @@ fn slot_keeps(deal: &[u8], segment: &[u8], commitment: [u8; 32], ranges: Ranges,
     ensures { λ r. ⌜ r ≡ keepsSegment (now (deal .entry)) (now (segment .entry)) i ⌝ }
 {
     let size = segment.len() as u64;
-    let area = entries::area(size);
+    let area = sizes::area(size);
     if ranges.areas[i] != area {
         return false;
     }
-    let place = entries::slot_place(deal.len() as u64, i as u64) as usize;
+    let place = sizes::slot_place(deal.len() as u64, i as u64) as usize;
     if octets::read_u64(deal, place + 40) != size {
         return false;
     }
@@ -51,7 +51,7 @@ pub(crate) fn lowest_keeping(
     requires { ⌜ Gathered (rowAt (now deal)) (entryCount (length (now deal))) (ranges .offsets) (ranges .areas) ⌝ }
     ensures { λ r. ⌜ r ≡ asLowest (lowest (keepsSegment (now (deal .entry)) (now (segment .entry))) 0 (entryCount (length (now (deal .entry))))) ⌝ }
 {
-    let slots = entries::entry_count(deal.len() as u64) as usize;
+    let slots = sizes::entry_count(deal.len() as u64) as usize;
     let mut i: usize = 0;
     while i < slots {
         if slot_keeps(deal, segment, commitment, ranges, i) {

@@ -3,7 +3,7 @@ use crate::Lowest;
 use crate::Ranges;
 ghost use mathlib.Core.Path.{_≡_};
 ghost use Prim.Native.Nat.{_+_, _/_, _^_, _≤_, _<_};
-ghost use Rattle.octets.specs.Search.{lowest};
+ghost use Rattle.rules.specs.Search.{lowest};
 ghost use Rattle.booking.specs.Room as R;
 ghost use Rattle.booking.specs.Gather.{EndBy, emptyAt, overlapsAt, roomAt, asLowest};
 

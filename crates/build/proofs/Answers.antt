@@ -8,13 +8,14 @@ use lib.ListN.{length}
 use borrow.Author.Tests.{le-leb, lt-leb}
 use Rattle.octets.specs.Splice.{splice}
 use Rattle.merkle.specs.Tree.{nodeAt}
-use Rattle.merkle.specs.StrayBits.{noStrayBits}
-use Rattle.paths.specs.NodeSourceLaws.{run-tree}
-use Rattle.entries.specs.Sizes.{lentSizeAllowed, placeAllowed, dealLevel}
+use Rattle.stray.specs.StrayBits.{noStrayBits}
+use Rattle.merkle.specs.NodeSourceLaws.{run-tree}
+use Rattle.sizes.specs.Sizes.{lentSizeAllowed, placeAllowed, dealLevel}
 use Rattle.index.specs.Slots.{entryAt, keptRow, standingOf}
 use Rattle.index.specs.SlotsLaws.{answer-kept, answer-not-kept}
 use Rattle.index.specs.declared.Standing.{Standing}
-use Rattle.build.specs.Build.{lentDeal, built, notBuilt, recordAt, buildAnswer, buildOutput}
+use Rattle.lent.specs.LentDeal.{lentDeal}
+use Rattle.build.specs.Build.{built, notBuilt, recordAt, buildAnswer, buildOutput}
 use Rattle.build.specs.BuildLaws.{InDeal, in-deal, means-build}
 use Rattle.build.specs.Encode.{recordLength, recordFor}
 use Rattle.build.specs.EncodeLaws.{record-of-entry, commitment-in-length, record-length}

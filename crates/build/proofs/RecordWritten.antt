@@ -7,12 +7,13 @@ use lib.ListN.{length}
 use Rattle.octets.specs.LittleEndian.{bytesOf}
 use Rattle.octets.specs.Splice.{splice}
 use Rattle.merkle.specs.Tree.{nodeAt}
-use Rattle.paths.specs.NodeSource.{siblings}
-use Rattle.paths.specs.NodeSourceLaws.{run-tree}
-use Rattle.entries.specs.Sizes.{dealLevel, segmentLevel, segmentPosition}
+use Rattle.paths.specs.Siblings.{siblings}
+use Rattle.merkle.specs.NodeSourceLaws.{run-tree}
+use Rattle.sizes.specs.Sizes.{dealLevel, segmentLevel, segmentPosition}
 use Rattle.index.specs.declared.Standing.{Standing}
 use Rattle.record.specs.Form.{fields, putField}
-use Rattle.build.specs.Build.{lentDeal, segmentPathOf, entryPathOf}
+use Rattle.lent.specs.LentDeal.{lentDeal}
+use Rattle.build.specs.Build.{segmentPathOf, entryPathOf}
 use Rattle.build.specs.BuildLaws.{InDeal, segment-path-length}
 use Rattle.build.specs.Encode.{recordLength, recordFor}
 use Rattle.build.specs.EncodeLaws.{record-length}

@@ -3,30 +3,20 @@ use Prim.Native.Nat.{ℕ}
 use mathlib.Core.List.{List, [], _∷_}
 use lib.ListN.{length}
 use lib.Dec.{leb}
-use Rattle.octets.specs.Choice.{choose}
-use Rattle.octets.specs.Refusals.{Rule, rule, firstRefusal, unlessRefused}
+use Rattle.rules.specs.Choice.{choose}
+use Rattle.rules.specs.Refusals.{Rule, rule, firstRefusal, unlessRefused}
 use Rattle.octets.specs.Splice.{splice}
 use Rattle.merkle.specs.Tree.{nodeAt}
-use Rattle.merkle.specs.StrayBits.{noStrayBits}
-use Rattle.paths.specs.NodeSource.{NodeSource, siblings}
-use Rattle.entries.specs.Sizes.{lentSizeAllowed, placeAllowed, dealLevel, segmentLevel, segmentPathLevels, entryPathLevels, segmentPosition, entryPosition}
+use Rattle.stray.specs.StrayBits.{noStrayBits}
+use Rattle.merkle.specs.NodeSource.{NodeSource}
+use Rattle.lent.specs.LentDeal.{LentDeal, dealSize}
+use Rattle.paths.specs.Siblings.{siblings}
+use Rattle.sizes.specs.Sizes.{lentSizeAllowed, placeAllowed, dealLevel, segmentLevel, segmentPathLevels, entryPathLevels, segmentPosition, entryPosition}
 use Rattle.entries.specs.Entry.{commitmentIn, offsetIn, sizeIn}
 use Rattle.index.specs.Slots.{entryAt, kept}
 use Rattle.record.specs.Form.{Fields, encode}
 use Rattle.record.specs.Check.{DealTerms, dealTerms}
 use Rattle.build.specs.declared.BuildAnswer.{BuildAnswer}
-
--- a deal that is lent, with the source of its nodes
-pub record LentDeal : Type 0 where
-  pub bytes : List ℕ
-  pub nodes : NodeSource
-
--- the deal whose nodes are worked out from its bytes
-abbrev pub lentDeal : List ℕ → LentDeal
-lentDeal bytes = record { bytes = bytes; nodes = nodeAt bytes }
-
-abbrev pub dealSize : LentDeal → ℕ
-dealSize deal = length (deal .bytes)
 
 -- what a record of the deal is checked against: its own commitment and length
 abbrev pub termsOf : LentDeal → DealTerms

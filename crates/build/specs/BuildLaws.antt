@@ -7,20 +7,20 @@ use mathlib.Core.List.{List, _++_}
 use lib.ListN.{length, take, drop}
 use lib.Seq.{take-take, drop-drop, take-add}
 use borrow.Author.Tests.{eq-eqb}
-use Rattle.octets.specs.Refusals.{firstRefusal, unlessRefused}
-use Rattle.octets.specs.RefusalLaws.{none-refused}
+use Rattle.rules.specs.Refusals.{firstRefusal, unlessRefused}
+use Rattle.rules.specs.RefusalLaws.{none-refused}
 use Rattle.octets.specs.Bytes.{Bytes}
 use Rattle.octets.specs.Splice.{part}
 use Rattle.octets.specs.SpliceLaws.{part-length, bytes-part}
 use Rattle.node.specs.Node.{nodeHash}
-use Rattle.merkle.specs.StrayBits.{clearNode, noStrayBits}
-use Rattle.merkle.specs.StrayBitsLaws.{clear-at}
+use Rattle.stray.specs.StrayBits.{clearNode, noStrayBits}
+use Rattle.stray.specs.StrayBitsLaws.{clear-at}
 use Rattle.paths.specs.Path.{pathRoot}
-use Rattle.paths.specs.NodeSource.{NodeSource, siblings}
-use Rattle.paths.specs.IsTree.{IsTree}
-use Rattle.paths.specs.NodeSourceLaws.{path-length, path-clear, own-leads}
-use Rattle.entries.specs.Sizes.{lentSizeAllowed, segmentSizeAllowed, offsetAllowed, placeAllowed, area, indexStart, dealLevel, segmentLevel, segmentPathLevels, entryPathLevels, segmentPosition, entryPosition}
-use Rattle.entries.specs.SizesLaws.{LentSize, lent-size, SegmentSize, segment-size, SegmentPlace, segment-place, EntryPlace, entry-place, index-start-le}
+use Rattle.merkle.specs.NodeSource.{NodeSource, IsTree}
+use Rattle.paths.specs.Siblings.{siblings}
+use Rattle.paths.specs.SiblingsLaws.{path-length, path-clear, own-leads}
+use Rattle.sizes.specs.Sizes.{lentSizeAllowed, segmentSizeAllowed, offsetAllowed, placeAllowed, area, indexStart, dealLevel, segmentLevel, segmentPathLevels, entryPathLevels, segmentPosition, entryPosition}
+use Rattle.sizes.specs.SizesLaws.{LentSize, lent-size, SegmentSize, segment-size, SegmentPlace, segment-place, EntryPlace, entry-place, index-start-le}
 use Rattle.entries.specs.Entry.{entryOf, commitmentIn, offsetIn, sizeIn}
 use Rattle.entries.specs.EntryLaws.{valid-is}
 use Rattle.index.specs.Slots.{entryAt, kept}
@@ -28,7 +28,8 @@ use Rattle.index.specs.SlotsLaws.{Keeps, keeps}
 use Rattle.record.specs.Form.{parsed, parse, encode}
 use Rattle.record.specs.FormLaws.{Sized, parse-encode}
 use Rattle.record.specs.CheckLaws.{Accepted}
-use Rattle.build.specs.Build.{LentDeal, dealSize, termsOf, segmentPathOf, entryPathOf, fieldsFor, built, notBuilt, buildRules, recordAt}
+use Rattle.lent.specs.LentDeal.{LentDeal, dealSize}
+use Rattle.build.specs.Build.{termsOf, segmentPathOf, entryPathOf, fieldsFor, built, notBuilt, buildRules, recordAt}
 
 -- what a record that was built is
 pub record Builds (deal : LentDeal) (place : ℕ) (r : List ℕ) : Type 0 where

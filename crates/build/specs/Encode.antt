@@ -1,9 +1,10 @@
 -- A record as it is written (document 01, "The record"): the head of a field, the whole length, and the record for an entry of a deal.
 use Prim.Native.Nat.{ℕ, _+_, _*_, _/_, _%_}
 use mathlib.Core.List.{List, [], _∷_}
-use Rattle.entries.specs.Sizes.{segmentPathLevels, entryPathLevels}
+use Rattle.sizes.specs.Sizes.{segmentPathLevels, entryPathLevels}
 use Rattle.record.specs.Form.{fields, encode}
-use Rattle.build.specs.Build.{LentDeal, segmentPathOf, entryPathOf}
+use Rattle.lent.specs.LentDeal.{LentDeal}
+use Rattle.build.specs.Build.{segmentPathOf, entryPathOf}
 
 -- the first three bytes of a field: its tag, and the length n of its content
 unfoldable pub fieldHead : ℕ → ℕ → List ℕ

@@ -7,12 +7,13 @@ use lib.ListN.{length, length-append}
 use Rattle.octets.specs.LittleEndian.{bytesOf}
 use Rattle.octets.specs.LittleEndianLaws.{length-bytesOf}
 use Rattle.octets.specs.SpliceLaws.{part-length}
-use Rattle.paths.specs.IsTree.{IsTree}
-use Rattle.entries.specs.Sizes.{dealLevel}
+use Rattle.merkle.specs.NodeSource.{IsTree}
+use Rattle.sizes.specs.Sizes.{dealLevel}
 use Rattle.entries.specs.Entry.{commitmentIn, offsetIn, sizeIn}
 use Rattle.index.specs.Slots.{entryAt}
 use Rattle.record.specs.Form.{Fields, putField, writeContents, encode}
-use Rattle.build.specs.Build.{LentDeal, dealSize, fieldsFor}
+use Rattle.lent.specs.LentDeal.{LentDeal, dealSize}
+use Rattle.build.specs.Build.{fieldsFor}
 use Rattle.build.specs.BuildLaws.{InDeal, in-deal, segment-path-length, entry-path-length, Builds}
 use Rattle.build.specs.Encode.{fieldHead, recordLength, recordFor}
 

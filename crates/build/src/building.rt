@@ -3,7 +3,8 @@ use crate::BuildAnswer;
 use crate::writing::record_length;
 use crate::writing::write_record;
 ghost use mathlib.Core.Path.{_≡_};
-ghost use Rattle.build.specs.Build.{lentDeal, buildAnswer, buildOutput};
+ghost use Rattle.lent.specs.LentDeal.{lentDeal};
+ghost use Rattle.build.specs.Build.{buildAnswer, buildOutput};
 
 // The refusal of a record.
 fn refused(code: u8) -> BuildAnswer
@@ -18,14 +19,14 @@ fn refused(code: u8) -> BuildAnswer
 pub fn build(deal: &[u8], place: u64, out: &mut [u8]) -> BuildAnswer
     ensures { λ r. ⌜ (r ≡ buildAnswer (lentDeal (now (deal .entry))) place (now (out .entry))) × (now (out .exit) ≡ buildOutput (lentDeal (now (deal .entry))) place (now (out .entry))) ⌝ }
 {
-    if !entries::lent_size_allowed(deal.len()) {
+    if !sizes::lent_size_allowed(deal.len()) {
         return refused(2);
     }
-    if !merkle::no_stray_bits(deal) {
+    if !stray::no_stray_bits(deal) {
         return refused(11);
     }
     let deal_size = deal.len() as u64;
-    if !entries::place_allowed(deal_size, place) {
+    if !sizes::place_allowed(deal_size, place) {
         return refused(6);
     }
     let entry = index::kept_at(deal, place as usize);

@@ -6,7 +6,7 @@ ghost use lib.ListN.{length};
 ghost use Rattle.octets.specs.LittleEndian.{bytesOf};
 ghost use Rattle.octets.specs.Splice.{splice};
 ghost use Rattle.merkle.specs.Tree.{nodeAt};
-ghost use Rattle.paths.specs.NodeSource.{siblings};
+ghost use Rattle.paths.specs.Siblings.{siblings};
 ghost use Rattle.record.specs.Form.{putField};
 ghost use Rattle.build.specs.Encode.{fieldHead};
 

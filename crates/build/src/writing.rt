@@ -7,8 +7,8 @@ ghost use mathlib.Core.Path.{_≡_};
 ghost use Prim.Native.Nat.{_≤_};
 ghost use lib.ListN.{length};
 ghost use Rattle.octets.specs.Splice.{splice};
-ghost use Rattle.entries.specs.SizesLaws.{LentSize, SegmentSize};
-ghost use Rattle.build.specs.Build.{lentDeal};
+ghost use Rattle.sizes.specs.SizesLaws.{LentSize, SegmentSize};
+ghost use Rattle.lent.specs.LentDeal.{lentDeal};
 ghost use Rattle.build.specs.BuildLaws.{InDeal};
 ghost use Rattle.build.specs.Encode.{recordLength, recordFor};
 
@@ -17,8 +17,8 @@ pub(crate) fn record_length(d: u64, size: u64) -> usize
     requires { ⌜ LentSize d × SegmentSize d size ⌝ }
     ensures { λ r. ⌜ r ≡ recordLength d size ⌝ }
 {
-    let deal_level = entries::deal_level(d);
-    let levels = deal_level - entries::segment_level(size);
+    let deal_level = sizes::deal_level(d);
+    let levels = deal_level - sizes::segment_level(size);
     let entry_levels = deal_level - 1;
     74 + 32 * levels + 32 * entry_levels
 }
@@ -30,10 +30,10 @@ pub(crate) fn write_record(deal: &[u8], entry: Standing, place: u64, out: &mut [
     requires { ⌜ recordLength (length (now deal)) (entry .size) ≤ length (now out) ⌝ }
     ensures { λ _. ⌜ now (out .exit) ≡ splice (now (out .entry)) 0 (recordFor (lentDeal (now (deal .entry))) (entry .commitment) (entry .offset) (entry .size) place) ⌝ }
 {
-    let deal_level = entries::deal_level(deal.len() as u64);
-    let level = entries::segment_level(entry.size);
+    let deal_level = sizes::deal_level(deal.len() as u64);
+    let level = sizes::segment_level(entry.size);
     let levels = deal_level - level;
-    let position = entries::segment_position(entry.offset, entry.size) as usize;
+    let position = sizes::segment_position(entry.offset, entry.size) as usize;
     let entry_levels = deal_level - 1;
     let entry_position = (place / 64) as usize;
     let entry_path_at = 71 + 32 * levels;

@@ -4,7 +4,8 @@ use Prim.Native.Nat.{ℕ, _≤_}
 use mathlib.Core.List.{List}
 use lib.ListN.{length}
 use Rattle.octets.specs.Splice.{splice}
-use Rattle.build.specs.Build.{LentDeal, buildAnswer, buildOutput}
+use Rattle.lent.specs.LentDeal.{LentDeal}
+use Rattle.build.specs.Build.{buildAnswer, buildOutput}
 
 -- given enough output, building at an entry place answers 0 and writes exactly the record r; the rest of the output stays
 abbrev pub BuildsExactly : LentDeal → ℕ → List ℕ → Type 0

@@ -7,13 +7,14 @@ use mathlib.Core.List.{List}
 use lib.ListN.{length}
 use lib.Dec.{leb}
 use borrow.Author.Tests.{le-leb}
-use Rattle.octets.specs.Choice.{choose}
-use Rattle.octets.specs.Refusals.{firstRefusal, unlessRefused}
+use Rattle.rules.specs.Choice.{choose}
+use Rattle.rules.specs.Refusals.{firstRefusal, unlessRefused}
 use Rattle.octets.specs.Splice.{splice}
 use Rattle.octets.specs.SpliceLaws.{splice-whole}
 use Rattle.index.specs.Slots.{entryAt}
 use Rattle.record.specs.Form.{encode}
-use Rattle.build.specs.Build.{LentDeal, fieldsFor, built, notBuilt, buildRules, recordAt, answerFor, outputFor, buildAnswer, buildOutput}
+use Rattle.lent.specs.LentDeal.{LentDeal}
+use Rattle.build.specs.Build.{fieldsFor, built, notBuilt, buildRules, recordAt, answerFor, outputFor, buildAnswer, buildOutput}
 use Rattle.build.specs.declared.BuildAnswer.{BuildAnswer}
 use Rattle.demands.specs.BuildsExactly.{BuildsExactly}
 

@@ -12,7 +12,7 @@ use Rattle.paths.specs.Difference.{Difference, same, differ, firstDifference}
 use Rattle.paths.specs.Chain.{sides, Chain}
 use Rattle.paths.specs.DifferenceLaws.{Shows, no-difference}
 use Rattle.paths.specs.PathLaws.{strings-chain}
-use Rattle.entries.specs.Sizes.{segmentPathLevels, entryPathLevels, segmentPosition, entryPosition}
+use Rattle.sizes.specs.Sizes.{segmentPathLevels, entryPathLevels, segmentPosition, entryPosition}
 use Rattle.entries.specs.EntryLaws.{entry-length}
 use Rattle.record.specs.Form.{Fields}
 use Rattle.record.specs.Check.{DealTerms, entryFor}

@@ -7,23 +7,24 @@ use mathlib.Core.List.{List}
 use lib.ListN.{length}
 use lib.Dec.{leb}
 use borrow.Author.Tests.{leb-true}
-use Rattle.octets.specs.Choice.{choose}
+use Rattle.rules.specs.Choice.{choose}
 use Rattle.octets.specs.Bytes.{Bytes}
 use Rattle.octets.specs.Splice.{part, splice}
 use Rattle.octets.specs.SpliceLaws.{part-written}
 use Rattle.merkle.specs.Tree.{commitmentOf}
 use Rattle.merkle.specs.TreeLaws.{top-node}
-use Rattle.paths.specs.IsTree.{IsTree}
-use Rattle.paths.specs.NodeSourceLaws.{run-tree}
-use Rattle.entries.specs.Sizes.{dealLevel}
-use Rattle.entries.specs.SizesLaws.{lent-size}
+use Rattle.merkle.specs.NodeSource.{IsTree}
+use Rattle.merkle.specs.NodeSourceLaws.{run-tree}
+use Rattle.sizes.specs.Sizes.{dealLevel}
+use Rattle.sizes.specs.SizesLaws.{lent-size}
 use Rattle.index.specs.Slots.{entryAt}
 use Rattle.record.specs.Check.{dealTerms, checkOf}
 use Rattle.record.specs.CheckLaws.{means-check}
-use Rattle.octets.specs.Refusals.{firstRefusal, unlessRefused}
+use Rattle.rules.specs.Refusals.{firstRefusal, unlessRefused}
 use Rattle.record.specs.Form.{encode}
 use Rattle.build.specs.declared.BuildAnswer.{BuildAnswer}
-use Rattle.build.specs.Build.{LentDeal, lentDeal, buildRules, dealSize, termsOf, fieldsFor, Building, built, notBuilt, recordAt, answerFor, outputFor, buildAnswer, buildOutput}
+use Rattle.lent.specs.LentDeal.{LentDeal, lentDeal, dealSize}
+use Rattle.build.specs.Build.{buildRules, termsOf, fieldsFor, Building, built, notBuilt, recordAt, answerFor, outputFor, buildAnswer, buildOutput}
 use Rattle.booking.specs.Booking.{bookAnswer, bookedDeal}
 use Rattle.booking.specs.Run.{runBookings}
 use Rattle.booking.specs.NeverAgain.{never-again, kept-for-good}

@@ -7,12 +7,13 @@ use lib.ListN.{length}
 use Rattle.octets.specs.Bytes.{Bytes}
 use Rattle.merkle.specs.Tree.{commitmentOf}
 use Rattle.merkle.specs.TreeLaws.{top-node}
-use Rattle.merkle.specs.StrayBits.{noStrayBits}
-use Rattle.entries.specs.Sizes.{lentSizeAllowed, dealLevel}
-use Rattle.entries.specs.SizesLaws.{lent-size}
+use Rattle.stray.specs.StrayBits.{noStrayBits}
+use Rattle.sizes.specs.Sizes.{lentSizeAllowed, dealLevel}
+use Rattle.sizes.specs.SizesLaws.{lent-size}
 use Rattle.record.specs.Form.{parse}
 use Rattle.record.specs.Check.{dealTerms, checkOf}
-use Rattle.build.specs.Build.{lentDeal, recordAt, built}
+use Rattle.lent.specs.LentDeal.{lentDeal}
+use Rattle.build.specs.Build.{recordAt, built}
 use Rattle.settle.specs.Settle.{placeIn, settleRecords, settleWithDeal}
 use Rattle.settle.specs.declared.Settled.{Settled}
 use Rattle.demands.specs.Settles.{Settles}

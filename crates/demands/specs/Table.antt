@@ -3,8 +3,8 @@ use mathlib.Core.Path.{_≡_, refl}
 use Prim.Native.Nat.{ℕ, _^_}
 use mathlib.Core.List.{[], _∷_}
 use lib.Count.{ones, trailingZeros}
-use Rattle.octets.specs.Refusals.{rule, firstRefusal}
-use Rattle.entries.specs.Sizes.{segmentSizeAllowed, area, doubledTo, entryCount, indexStart, offsetAllowed, placeAllowed, dealLevel, segmentLevel}
+use Rattle.rules.specs.Refusals.{rule, firstRefusal}
+use Rattle.sizes.specs.Sizes.{segmentSizeAllowed, area, doubledTo, entryCount, indexStart, offsetAllowed, placeAllowed, dealLevel, segmentLevel}
 use Rattle.build.specs.Encode.{recordLength}
 
 -- rules 4 to 6 of the check, for a deal size, a segment size and offset, and an entry place

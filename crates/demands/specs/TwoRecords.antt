@@ -10,7 +10,7 @@ use Rattle.paths.specs.Difference.{firstDifference}
 use Rattle.paths.specs.Chain.{sides, Chain}
 use Rattle.paths.specs.DifferenceLaws.{Shows, two-chains, two-parts}
 use Rattle.paths.specs.PathLaws.{strings-injective}
-use Rattle.entries.specs.Sizes.{segmentPathLevels, entryPathLevels, segmentPosition, entryPosition}
+use Rattle.sizes.specs.Sizes.{segmentPathLevels, entryPathLevels, segmentPosition, entryPosition}
 use Rattle.record.specs.Form.{Fields, parsed, parse, encode}
 use Rattle.record.specs.FormLaws.{Sized, parse-canonical}
 use Rattle.record.specs.Check.{DealTerms, checkOf}

@@ -12,7 +12,7 @@ use Rattle.paths.specs.Difference.{firstDifference}
 use Rattle.paths.specs.Chain.{sides, Chain}
 use Rattle.paths.specs.DifferenceLaws.{Shows, chain-length, two-chains, two-parts}
 use Rattle.paths.specs.PathLaws.{strings-chain, strings-injective, strings-start}
-use Rattle.entries.specs.Sizes.{lentSizeAllowed, dealLevel, segmentLevel, segmentPathLevels, entryPathLevels, segmentPosition, entryPosition}
+use Rattle.sizes.specs.Sizes.{lentSizeAllowed, dealLevel, segmentLevel, segmentPathLevels, entryPathLevels, segmentPosition, entryPosition}
 use Rattle.entries.specs.Entry.{offsetIn, sizeIn}
 use Rattle.entries.specs.EntryLaws.{commitment-back, offset-back, size-back}
 use Rattle.record.specs.Form.{Fields, parsed, parse, encode}
@@ -21,13 +21,14 @@ use Rattle.record.specs.Check.{entryFor, checkOf}
 use Rattle.record.specs.CheckLaws.{Accepted, check-means}
 use Rattle.settle.specs.Settle.{entryStrings, segmentStrings, stringsOf, placeIn}
 use Rattle.octets.specs.SpliceLaws.{part-length}
-use Rattle.merkle.specs.StrayBits.{noStrayBits}
-use Rattle.paths.specs.IsTree.{IsTree}
-use Rattle.paths.specs.NodeSourceLaws.{run-tree}
-use Rattle.entries.specs.SizesLaws.{lent-size}
+use Rattle.stray.specs.StrayBits.{noStrayBits}
+use Rattle.merkle.specs.NodeSource.{IsTree}
+use Rattle.merkle.specs.NodeSourceLaws.{run-tree}
+use Rattle.sizes.specs.SizesLaws.{lent-size}
 use Rattle.index.specs.Slots.{entryAt, kept}
 use Rattle.index.specs.SlotsLaws.{made-kept}
-use Rattle.build.specs.Build.{LentDeal, lentDeal, dealSize, termsOf, segmentPathOf, entryPathOf, fieldsFor, built, recordAt}
+use Rattle.lent.specs.LentDeal.{LentDeal, lentDeal, dealSize}
+use Rattle.build.specs.Build.{termsOf, segmentPathOf, entryPathOf, fieldsFor, built, recordAt}
 use Rattle.build.specs.BuildLaws.{Builds, build-means, means-build, InDeal, in-deal, segment-path-length, entry-path-length, segment-path-leads, entry-path-leads, place-node, built-in-deal, built-valid, built-parses}
 use Rattle.settle.specs.Settle.{dealStrings, settleWithDeal}
 use Rattle.settle.specs.DealStringsLaws.{deal-entry-strings, deal-segment-strings}

@@ -1,4 +1,2 @@
-pub mod OffsetTest
 pub mod Written
 pub mod OneNode
-pub mod Doubling

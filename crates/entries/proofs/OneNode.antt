@@ -6,7 +6,7 @@ use Prim.Native.Nat.{ℕ, _/_}
 use native.Mathlib.Omega.{arith}
 use lib.ListN.{length, take}
 use lib.Seq.{take-all}
-use Rattle.merkle.specs.StrayBits.{clearNode, clearNodes, noStrayBits}
+use Rattle.stray.specs.StrayBits.{clearNode, clearNodes, noStrayBits}
 
 and-true : (b : Bool) → (b && true) ≡ b
 and-true true = refl

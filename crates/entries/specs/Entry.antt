@@ -4,12 +4,12 @@ use Prim.Native.Nat.{ℕ}
 use mathlib.Core.List.{List, [], _∷_, _++_}
 use lib.ListN.{length, replicate}
 use lib.Dec.{eqb}
-use Rattle.octets.specs.Choice.{choose}
-use Rattle.octets.specs.Refusals.{rule, firstRefusal, unlessRefused}
+use Rattle.rules.specs.Choice.{choose}
+use Rattle.rules.specs.Refusals.{rule, firstRefusal, unlessRefused}
 use Rattle.octets.specs.Equality.{sameBytes, allZero}
 use Rattle.octets.specs.LittleEndian.{numberOf, bytesOf}
 use Rattle.octets.specs.Splice.{part}
-use Rattle.merkle.specs.StrayBits.{clearNode}
+use Rattle.stray.specs.StrayBits.{clearNode}
 use Rattle.entries.specs.Checksum.{checksumOf}
 use Rattle.entries.specs.declared.MadeEntry.{MadeEntry}
 use Rattle.entries.specs.declared.EntryKind.{EntryKind}

@@ -7,7 +7,7 @@ use mathlib.Core.List.{List, [], _∷_}
 use lib.ListN.{take, drop}
 use lib.Dec.{eqb}
 use borrow.Author.Tests.{eqb-true}
-use Rattle.octets.specs.RefusalLaws.{and-left, and-right, and-both}
+use Rattle.rules.specs.RefusalLaws.{and-left, and-right, and-both}
 use Rattle.octets.specs.Equality.{allZero}
 use Rattle.octets.specs.LittleEndian.{numberOf}
 use Rattle.octets.specs.Splice.{part}

@@ -1,9 +1,5 @@
-pub mod Sizes
-pub mod AreaLaws
-pub mod Numbers
 pub mod Checksum
 pub mod Entry
-pub mod SizesLaws
 pub mod EntryLaws
 pub mod KindLaws
 pub mod MadeLaws

@@ -11,8 +11,8 @@ use Rattle.octets.specs.Bytes.{Bytes, bytes-of, bytes-append}
 use Rattle.octets.specs.LittleEndian.{bytesOf}
 use Rattle.octets.specs.LittleEndianLaws.{bytes-bytesOf}
 use Rattle.sha256.specs.DigestLaws.{sha256-byte}
-use Rattle.merkle.specs.StrayBits.{clearNode, clearNodes, noStrayBits}
-use Rattle.merkle.specs.StrayBitsLaws.{node-clear, clear-nodes}
+use Rattle.stray.specs.StrayBits.{clearNode, clearNodes, noStrayBits}
+use Rattle.stray.specs.StrayBitsLaws.{node-clear, clear-nodes}
 use Rattle.entries.specs.Checksum.{checksumOf, checksum-length, checksum-clear, checksum-rest}
 use Rattle.entries.specs.Entry.{entryBody, entryOf}
 use Rattle.entries.specs.EntryLaws.{body-length, entry-length}

@@ -79,7 +79,7 @@ pub fn make_entry(commitment: &[u8], offset: u64, size: u64) -> MadeEntry
     if commitment.len() != 32 {
         return entry_refused(1);
     }
-    if !merkle::no_stray_bits(commitment) {
+    if !stray::no_stray_bits(commitment) {
         return entry_refused(8);
     }
     let node = octets::node_at(commitment, 0);

@@ -1,6 +1,5 @@
-// Index entries, and the numbers of an index.
+// Index entries: their bytes, their checksum, and their kinds.
 mod entry; // entry.rt: entries and their checksum
-mod sizes; // sizes.rt: allowed sizes, offsets and places, and the numbers of an index
 
 pub use entry::checksum;
 pub use entry::checksum_right;
@@ -8,26 +7,6 @@ pub use entry::entry_of;
 pub use entry::kind_of;
 pub use entry::make_entry;
 pub use entry::read_entry;
-pub use sizes::area;
-pub use sizes::deal_level;
-pub use sizes::deal_size_allowed;
-pub use sizes::entry_count;
-pub use sizes::index_numbers;
-pub use sizes::index_start;
-pub use sizes::lent_size_allowed;
-pub use sizes::offset_allowed;
-pub use sizes::place_allowed;
-pub use sizes::segment_level;
-pub use sizes::segment_position;
-pub use sizes::segment_size_allowed;
-pub use sizes::slot_place;
-
-// The number of entries and the index start for a deal size; zeros with code 2.
-pub struct IndexNumbers {
-    pub code: u8,
-    pub entries: u64,
-    pub start: u64,
-}
 
 // An entry of 64 bytes; zeros on a refusal.
 pub struct MadeEntry {

@@ -6,7 +6,7 @@ use mathlib.Core.List.{List}
 use lib.ListN.{length}
 use lib.Dec.{leb}
 use borrow.Author.Tests.{leb-true, le-leb, lt-leb, eq-eqb, ne-eqb}
-use Rattle.octets.specs.RefusalLaws.{and-right}
+use Rattle.rules.specs.RefusalLaws.{and-right}
 use Rattle.octets.specs.Splice.{splice}
 use Rattle.fr32.specs.Padding.{rawLengthAllowed, segmentLength, padded, unpadded, onlyRawBits}
 use Rattle.fr32.specs.Answers.{refused, written, padCode, padAnswer, padOutput, unpadCode, unpadAnswer, unpadOutput}

@@ -7,7 +7,7 @@ use mathlib.Core.List.{List}
 use lib.ListN.{length, getD}
 use lib.Dec.{ltb, eqb}
 use Rattle.octets.specs.Bytes.{Bytes}
-use Rattle.merkle.specs.StrayBits.{noStrayBits}
+use Rattle.stray.specs.StrayBits.{noStrayBits}
 use Rattle.fr32.specs.Padding.{segmentLength, segmentNodes, dataOf, padded, unpadded, onlyRawBits}
 use Rattle.fr32.specs.BitLaws.{byte-of-number}
 use Rattle.fr32.specs.CapacityLaws.{rest-zero}

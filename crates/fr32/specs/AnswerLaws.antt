@@ -7,8 +7,8 @@ use mathlib.Core.List.{List, [], _∷_}
 use lib.ListN.{length}
 use lib.Dec.{leb, eqb}
 use borrow.Author.Tests.{leb-true, eqb-true, le-leb, eq-eqb}
-use Rattle.octets.specs.Refusals.{Rule, rule, unlessRefused}
-use Rattle.octets.specs.RefusalLaws.{none-refused, all-passed}
+use Rattle.rules.specs.Refusals.{Rule, rule, unlessRefused}
+use Rattle.rules.specs.RefusalLaws.{none-refused, all-passed}
 use Rattle.octets.specs.Splice.{part, splice}
 use Rattle.octets.specs.SpliceLaws.{part-written}
 use Rattle.fr32.specs.declared.Written.{Written}

@@ -3,7 +3,7 @@ use Prim.Native.Nat.{ℕ}
 use mathlib.Core.List.{List, [], _∷_}
 use lib.ListN.{length}
 use lib.Dec.{leb, eqb}
-use Rattle.octets.specs.Refusals.{rule, firstRefusal, unlessRefused}
+use Rattle.rules.specs.Refusals.{rule, firstRefusal, unlessRefused}
 use Rattle.octets.specs.Splice.{splice}
 use Rattle.fr32.specs.Padding.{rawLengthAllowed, segmentLength, padded, unpadded, onlyRawBits}
 use Rattle.fr32.specs.declared.Written.{Written}

@@ -11,9 +11,9 @@ use lib.Pow.{pow-pos, pow-mono, shr-lt}
 use Rattle.octets.specs.Bytes.{Bytes, bytes-take, bytes-drop}
 use Rattle.octets.specs.LittleEndian.{numberOf, bytesOf}
 use Rattle.octets.specs.LittleEndianLaws.{length-bytesOf, bytes-bytesOf, number-of-bytes, bytes-of-number}
-use Rattle.octets.specs.RefusalLaws.{and-left, and-right}
-use Rattle.merkle.specs.StrayBits.{clearNode, clearNodes, noStrayBits}
-use Rattle.merkle.specs.StrayBitsLaws.{node-clear, clear-nodes}
+use Rattle.rules.specs.RefusalLaws.{and-left, and-right}
+use Rattle.stray.specs.StrayBits.{clearNode, clearNodes, noStrayBits}
+use Rattle.stray.specs.StrayBitsLaws.{node-clear, clear-nodes}
 use Rattle.fr32.specs.Padding.{segmentLength, segmentNodes, nodesOf, dataOf, padded}
 use Rattle.fr32.specs.BitLaws.{power-of-bytes, take-bytesOf, number-from}
 use Rattle.fr32.specs.PaddingLaws.{length-padded, last-byte-clear}

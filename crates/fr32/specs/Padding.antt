@@ -6,7 +6,7 @@ use mathlib.Core.List.{List, [], _++_}
 use lib.ListN.{length, take, drop}
 use lib.Dec.{leb, ltb}
 use Rattle.octets.specs.LittleEndian.{numberOf, bytesOf}
-use Rattle.merkle.specs.StrayBits.{noStrayBits}
+use Rattle.stray.specs.StrayBits.{noStrayBits}
 
 -- from one byte to those whose segment fills 2^23 bytes
 abbrev pub rawLengthAllowed : ℕ → Bool

@@ -10,8 +10,8 @@ use borrow.Author.Tests.{lt-ltb, ltb-true}
 use Rattle.octets.specs.Bytes.{Bytes}
 use Rattle.octets.specs.LittleEndian.{bytesOf}
 use Rattle.octets.specs.LittleEndianLaws.{number-of-bytes, bytes-of-number}
-use Rattle.octets.specs.RefusalLaws.{and-left, and-right, and-both}
-use Rattle.merkle.specs.StrayBits.{noStrayBits}
+use Rattle.rules.specs.RefusalLaws.{and-left, and-right, and-both}
+use Rattle.stray.specs.StrayBits.{noStrayBits}
 use Rattle.fr32.specs.Padding.{segmentLength, segmentNodes, nodesOf, dataOf, padded, unpadded, onlyRawBits}
 use Rattle.fr32.specs.BitLaws.{power-of-bytes}
 use Rattle.fr32.specs.PaddingLaws.{length-padded}

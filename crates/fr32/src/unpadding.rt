@@ -35,7 +35,7 @@ fn only_raw_bits(n: usize, segment: &[u8]) -> bool
     requires { ⌜ (n ≤ 8323072) × (length (now segment) ≡ segmentLength n) ⌝ }
     ensures { λ r. ⌜ r ≡ onlyRawBits n (now (segment .entry)) ⌝ }
 {
-    merkle::no_stray_bits(segment) && raw_byte(segment, n) == 0
+    stray::no_stray_bits(segment) && raw_byte(segment, n) == 0
 }
 
 // Writes the n raw bytes of a segment into the first bytes of `output`.

@@ -6,11 +6,11 @@ use Prim.Native.Nat.{ℕ, _+_, _-_, _≤_, _<_}
 use native.Mathlib.Omega.{arith}
 use lib.ListN.{length, take, drop}
 use lib.Dec.{eqb}
-use Rattle.octets.specs.Search.{one, count}
-use Rattle.octets.specs.SearchLaws.{count-start, count-turn, count-over}
+use Rattle.rules.specs.Search.{one, count}
+use Rattle.rules.specs.SearchLaws.{count-start, count-turn, count-over}
 use Rattle.octets.specs.Splice.{part}
 use Rattle.octets.specs.SpliceLaws.{part-range}
-use Rattle.entries.specs.Sizes.{entryCount, slotPlace}
+use Rattle.sizes.specs.Sizes.{entryCount, slotPlace}
 use Rattle.entries.specs.Entry.{kindOf, kindNumber, isKind}
 use Rattle.entries.specs.declared.EntryKind.{EntryKind}
 use Rattle.index.specs.Slots.{slotAt}

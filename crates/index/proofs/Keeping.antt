@@ -4,11 +4,11 @@ use mathlib.Core.Bool.{Bool, true, false, _&&_, true≢false}
 use mathlib.Core.List.{List}
 use Prim.Native.Nat.{ℕ}
 use lib.ListN.{length}
-use Rattle.octets.specs.Choice.{choose}
+use Rattle.rules.specs.Choice.{choose}
 use Rattle.octets.specs.Equality.{sameBytes}
-use Rattle.octets.specs.Search.{found}
+use Rattle.rules.specs.Search.{found}
 use Rattle.merkle.specs.Tree.{nodeAt}
-use Rattle.entries.specs.Sizes.{slotPlace}
+use Rattle.sizes.specs.Sizes.{slotPlace}
 use Rattle.entries.specs.Entry.{commitmentIn, offsetIn, sizeIn}
 use Rattle.index.specs.Slots.{entryAt, kept, free, holds, rowOf, keptRow, standingOf}
 use Rattle.index.specs.SlotsLaws.{answer-stands}

@@ -4,8 +4,8 @@ use mathlib.Core.Bool.{true}
 use Prim.Native.Nat.{ℕ, _+_, _*_, _^_, _≤_, _<_}
 use native.Mathlib.Omega.{arith}
 use Rattle.merkle.specs.TreeLaws.{within}
-use Rattle.entries.specs.Sizes.{lentSizeAllowed, segmentSizeAllowed, offsetAllowed, dealLevel, segmentLevel, segmentPathLevels, segmentPosition}
-use Rattle.entries.specs.SizesLaws.{lent-size, segment-size, segment-place}
+use Rattle.sizes.specs.Sizes.{lentSizeAllowed, segmentSizeAllowed, offsetAllowed, dealLevel, segmentLevel, segmentPathLevels, segmentPosition}
+use Rattle.sizes.specs.SizesLaws.{lent-size, segment-size, segment-place}
 
 module _ (d offset size : ℕ) (t : lentSizeAllowed d ≡ true) (z : segmentSizeAllowed d size ≡ true) where
   pub level-low : 2 ≤ segmentLevel size

@@ -6,8 +6,8 @@ use Prim.Native.Nat.{ℕ}
 use Rattle.octets.specs.Equality.{sameBytes}
 use Rattle.octets.specs.LittleEndian.{numberOf}
 use Rattle.octets.specs.Splice.{part}
-use Rattle.paths.specs.NodeSource.{NodeSource}
-use Rattle.entries.specs.Sizes.{segmentSizeAllowed, offsetAllowed, segmentLevel, segmentPosition}
+use Rattle.merkle.specs.NodeSource.{NodeSource}
+use Rattle.sizes.specs.Sizes.{segmentSizeAllowed, offsetAllowed, segmentLevel, segmentPosition}
 use Rattle.entries.specs.Entry.{commitmentIn, offsetIn, sizeIn, isKind}
 use Rattle.entries.specs.declared.EntryKind.{EntryKind}
 use Rattle.index.specs.Slots.{standing, kept, free, rowOf, keptRow, standingOf}

@@ -3,8 +3,8 @@ use mathlib.Core.Path.{_≡_, _∙_}
 use mathlib.Core.Bool.{Bool, true, false}
 use mathlib.Core.List.{List}
 use Prim.Native.Nat.{ℕ}
-use Rattle.octets.specs.Choice.{choose}
-use Rattle.paths.specs.NodeSource.{NodeSource}
+use Rattle.rules.specs.Choice.{choose}
+use Rattle.merkle.specs.NodeSource.{NodeSource}
 use Rattle.index.specs.Slots.{kept, rowOf, standingOf}
 use Rattle.index.specs.SlotsLaws.{answer-stands, answer-free}
 use Rattle.index.specs.Inspect.{nothingStands, slotHolds}

@@ -4,14 +4,14 @@ use Prim.Native.Nat.{ℕ}
 use mathlib.Core.List.{List, [], _∷_}
 use lib.ListN.{length}
 use lib.Dec.{eqb}
-use Rattle.octets.specs.Choice.{choose}
-use Rattle.octets.specs.Refusals.{rule, firstRefusal, unlessRefused}
+use Rattle.rules.specs.Choice.{choose}
+use Rattle.rules.specs.Refusals.{rule, firstRefusal, unlessRefused}
 use Rattle.octets.specs.Equality.{sameBytes}
-use Rattle.octets.specs.Search.{Found, found, missing, lowest}
+use Rattle.rules.specs.Search.{Found, found, missing, lowest}
 use Rattle.octets.specs.Splice.{part}
 use Rattle.merkle.specs.Tree.{nodeAt}
-use Rattle.merkle.specs.StrayBits.{noStrayBits}
-use Rattle.entries.specs.Sizes.{lentSizeAllowed, entryCount, slotPlace}
+use Rattle.stray.specs.StrayBits.{noStrayBits}
+use Rattle.sizes.specs.Sizes.{lentSizeAllowed, entryCount, slotPlace}
 use Rattle.entries.specs.Entry.{commitmentIn, offsetIn, sizeIn}
 use Rattle.index.specs.Slots.{entryAt, slotAt, kept, Row, free, keptRow}
 use Rattle.index.specs.declared.FoundSegment.{FoundSegment}

@@ -7,18 +7,18 @@ use mathlib.Core.List.{List, [], _∷_}
 use lib.ListN.{length}
 use lib.Dec.{eqb}
 use borrow.Author.Tests.{eq-eqb, eqb-true}
-use Rattle.octets.specs.Refusals.{Rule, rule, firstRefusal, unlessRefused}
-use Rattle.octets.specs.RefusalLaws.{and-left, and-right, none-refused}
+use Rattle.rules.specs.Refusals.{Rule, rule, firstRefusal, unlessRefused}
+use Rattle.rules.specs.RefusalLaws.{and-left, and-right, none-refused}
 use Rattle.octets.specs.Equality.{sameBytes}
 use Rattle.octets.specs.EqualityLaws.{same-true}
-use Rattle.octets.specs.Search.{Found, found, missing}
-use Rattle.octets.specs.SearchLaws.{IsLowest, lowest-found, lowest-missing}
+use Rattle.rules.specs.Search.{Found, found, missing}
+use Rattle.rules.specs.SearchLaws.{IsLowest, lowest-found, lowest-missing}
 use Rattle.octets.specs.Splice.{part}
 use Rattle.octets.specs.SpliceLaws.{part-length}
 use Rattle.merkle.specs.Tree.{nodeAt}
-use Rattle.merkle.specs.StrayBits.{clearNode, noStrayBits}
-use Rattle.entries.specs.Sizes.{lentSizeAllowed, entryCount, indexStart}
-use Rattle.entries.specs.SizesLaws.{lent-size, segment-size, segment-place, index-start-le}
+use Rattle.stray.specs.StrayBits.{clearNode, noStrayBits}
+use Rattle.sizes.specs.Sizes.{lentSizeAllowed, entryCount, indexStart}
+use Rattle.sizes.specs.SizesLaws.{lent-size, segment-size, segment-place, index-start-le}
 use Rattle.entries.specs.Entry.{commitmentIn, offsetIn, sizeIn}
 use Rattle.index.specs.Slots.{slotAt, kept}
 use Rattle.index.specs.SlotsLaws.{keeps, kept-clear}

@@ -2,12 +2,12 @@
 use Prim.Native.Nat.{ℕ}
 use mathlib.Core.List.{List, [], _∷_}
 use lib.ListN.{length, replicate}
-use Rattle.octets.specs.Choice.{choose}
-use Rattle.octets.specs.Refusals.{rule, firstRefusal, unlessRefused}
+use Rattle.rules.specs.Choice.{choose}
+use Rattle.rules.specs.Refusals.{rule, firstRefusal, unlessRefused}
 use Rattle.merkle.specs.Tree.{nodeAt}
-use Rattle.merkle.specs.StrayBits.{noStrayBits}
-use Rattle.paths.specs.NodeSource.{NodeSource}
-use Rattle.entries.specs.Sizes.{lentSizeAllowed, placeAllowed}
+use Rattle.stray.specs.StrayBits.{noStrayBits}
+use Rattle.merkle.specs.NodeSource.{NodeSource}
+use Rattle.sizes.specs.Sizes.{lentSizeAllowed, placeAllowed}
 use Rattle.entries.specs.Entry.{commitmentIn, offsetIn, sizeIn}
 use Rattle.index.specs.Slots.{entryAt, standing, kept}
 use Rattle.index.specs.declared.SlotState.{SlotState}

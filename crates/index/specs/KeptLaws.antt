@@ -3,14 +3,14 @@ use mathlib.Core.Path.{_≡_, sym, ap, ap₂, _∙_}
 use mathlib.Core.Bool.{true, false}
 use Prim.Native.Nat.{ℕ, _*_, _^_}
 use mathlib.Core.List.{List}
-use Rattle.octets.specs.RefusalLaws.{and-left, and-same}
+use Rattle.rules.specs.RefusalLaws.{and-left, and-same}
 use Rattle.octets.specs.Equality.{sameBytes}
 use Rattle.octets.specs.Splice.{part}
 use Rattle.merkle.specs.Tree.{commitmentOf, nodeAt}
 use Rattle.merkle.specs.TreeLaws.{node-part}
-use Rattle.paths.specs.NodeSource.{NodeSource}
-use Rattle.entries.specs.Sizes.{area, segmentLevel, segmentPosition}
-use Rattle.entries.specs.SizesLaws.{SegmentSize, SegmentPlace}
+use Rattle.merkle.specs.NodeSource.{NodeSource}
+use Rattle.sizes.specs.Sizes.{area, segmentLevel, segmentPosition}
+use Rattle.sizes.specs.SizesLaws.{SegmentSize, SegmentPlace}
 use Rattle.entries.specs.Entry.{commitmentIn, offsetIn, sizeIn}
 use Rattle.index.specs.Slots.{standing, kept, free, holds, rowOf}
 

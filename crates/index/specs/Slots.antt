@@ -3,11 +3,11 @@ use mathlib.Core.Bool.{Bool, true, false, _&&_}
 use Prim.Native.Nat.{ℕ}
 use mathlib.Core.List.{List}
 use lib.ListN.{length, replicate}
-use Rattle.octets.specs.Choice.{choose}
+use Rattle.rules.specs.Choice.{choose}
 use Rattle.octets.specs.Equality.{sameBytes}
 use Rattle.octets.specs.Splice.{part}
-use Rattle.paths.specs.NodeSource.{NodeSource}
-use Rattle.entries.specs.Sizes.{segmentSizeAllowed, offsetAllowed, slotPlace, segmentLevel, segmentPosition}
+use Rattle.merkle.specs.NodeSource.{NodeSource}
+use Rattle.sizes.specs.Sizes.{segmentSizeAllowed, offsetAllowed, slotPlace, segmentLevel, segmentPosition}
 use Rattle.entries.specs.Entry.{commitmentIn, offsetIn, sizeIn, isKind}
 use Rattle.entries.specs.declared.EntryKind.{EntryKind}
 use Rattle.index.specs.declared.Standing.{Standing}

@@ -6,18 +6,18 @@ use native.Mathlib.Omega.{arith}
 use mathlib.Core.List.{List}
 use lib.ListN.{length, getD, replicate}
 use lib.Dec.{eqb}
-use Rattle.octets.specs.Choice.{choose}
-use Rattle.octets.specs.RefusalLaws.{and-left, and-right}
+use Rattle.rules.specs.Choice.{choose}
+use Rattle.rules.specs.RefusalLaws.{and-left, and-right}
 use Rattle.octets.specs.Equality.{sameBytes, allZero}
 use Rattle.octets.specs.EqualityLaws.{same-true, same-of}
-use Rattle.paths.specs.NodeSource.{NodeSource}
+use Rattle.merkle.specs.NodeSource.{NodeSource}
 use Rattle.merkle.specs.Tree.{nodeAt}
 use Rattle.merkle.specs.TreeLaws.{node-at-clear}
-use Rattle.merkle.specs.StrayBits.{clearNode}
-use Rattle.merkle.specs.StrayBitsLaws.{clear-node}
-use Rattle.entries.specs.Sizes.{segmentSizeAllowed, offsetAllowed, segmentLevel, segmentPosition}
+use Rattle.stray.specs.StrayBits.{clearNode}
+use Rattle.stray.specs.StrayBitsLaws.{clear-node}
+use Rattle.sizes.specs.Sizes.{segmentSizeAllowed, offsetAllowed, segmentLevel, segmentPosition}
 use Rattle.entries.specs.Entry.{entryOf, commitmentIn, offsetIn, sizeIn, checksumRight, kindOf, kindNumber, isKind}
-use Rattle.entries.specs.SizesLaws.{DealSize, segment-size}
+use Rattle.sizes.specs.SizesLaws.{DealSize, segment-size}
 use Rattle.entries.specs.EntryLaws.{made-right, commitment-back, offset-back, size-back}
 use Rattle.entries.specs.KindLaws.{zero-size}
 use Rattle.entries.specs.declared.EntryKind.{EntryKind}

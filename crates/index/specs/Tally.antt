@@ -2,10 +2,10 @@
 use Prim.Native.Nat.{ℕ}
 use mathlib.Core.List.{List, [], _∷_}
 use lib.ListN.{length}
-use Rattle.octets.specs.Refusals.{rule, firstRefusal, unlessRefused}
-use Rattle.octets.specs.Search.{count}
-use Rattle.merkle.specs.StrayBits.{noStrayBits}
-use Rattle.entries.specs.Sizes.{lentSizeAllowed, entryCount}
+use Rattle.rules.specs.Refusals.{rule, firstRefusal, unlessRefused}
+use Rattle.rules.specs.Search.{count}
+use Rattle.stray.specs.StrayBits.{noStrayBits}
+use Rattle.sizes.specs.Sizes.{lentSizeAllowed, entryCount}
 use Rattle.entries.specs.Entry.{isKind}
 use Rattle.entries.specs.declared.EntryKind.{EntryKind}
 use Rattle.index.specs.Slots.{slotAt}

@@ -6,8 +6,8 @@ use native.Mathlib.Omega.{arith}
 use mathlib.Core.List.{List}
 use lib.ListN.{length}
 use lib.Dec.{eqb}
-use Rattle.octets.specs.Search.{one, count}
-use Rattle.entries.specs.Sizes.{entryCount}
+use Rattle.rules.specs.Search.{one, count}
+use Rattle.sizes.specs.Sizes.{entryCount}
 use Rattle.entries.specs.Entry.{kindOf, kindNumber, isKind}
 use Rattle.entries.specs.declared.EntryKind.{EntryKind}
 use Rattle.entries.specs.declared.EntryKind.the-variants.{Blank, Damaged, Valid}

@@ -8,7 +8,7 @@ ghost use mathlib.Core.Path.{_≡_};
 ghost use mathlib.Core.Bool.{true};
 ghost use Prim.Native.Nat.{_+_, _≤_};
 ghost use lib.ListN.{length};
-ghost use Rattle.entries.specs.Sizes.{lentSizeAllowed};
+ghost use Rattle.sizes.specs.Sizes.{lentSizeAllowed};
 ghost use Rattle.index.specs.Slots.{standingOf};
 ghost use Rattle.index.specs.Find.{keepingRow, notFound, foundIn, lowestKeeping, findNumbers, findView};
 
@@ -49,10 +49,10 @@ fn lowest_keeping(deal: &[u8], commitment: &[u8]) -> FoundSegment
     ensures { λ r. ⌜ r ≡ foundIn (now (deal .entry)) (lowestKeeping (now (commitment .entry)) (now (deal .entry))) ⌝ }
 {
     let deal_size = deal.len() as u64;
-    let count = entries::entry_count(deal_size);
+    let count = sizes::entry_count(deal_size);
     let mut i: u64 = 0;
     while i < count {
-        let place = entries::slot_place(deal_size, i);
+        let place = sizes::slot_place(deal_size, i);
         let entry = keeping_at(deal, place as usize, commitment);
         if entry.stands {
             return FoundSegment {
@@ -75,10 +75,10 @@ pub fn find_numbers(deal: &[u8], commitment: &[u8]) -> FoundSegment
     if commitment.len() != 32 {
         return not_found(1);
     }
-    if !entries::lent_size_allowed(deal.len()) {
+    if !sizes::lent_size_allowed(deal.len()) {
         return not_found(2);
     }
-    if !merkle::no_stray_bits(deal) {
+    if !stray::no_stray_bits(deal) {
         return not_found(11);
     }
     lowest_keeping(deal, commitment)

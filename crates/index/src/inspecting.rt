@@ -8,7 +8,7 @@ ghost use mathlib.Core.Bool.{true};
 ghost use Prim.Native.Nat.{_+_, _≤_};
 ghost use lib.ListN.{length};
 ghost use Rattle.merkle.specs.Tree.{nodeAt};
-ghost use Rattle.entries.specs.Sizes.{lentSizeAllowed};
+ghost use Rattle.sizes.specs.Sizes.{lentSizeAllowed};
 ghost use Rattle.index.specs.Slots.{entryAt};
 ghost use Rattle.index.specs.Inspect.{nothingStands, slotHolds, inspected};
 
@@ -60,13 +60,13 @@ fn slot_holds(deal: &[u8], place: usize) -> Inspected
 pub fn inspect(deal: &[u8], place: u64) -> Inspected
     ensures { λ r. ⌜ r ≡ inspected (now (deal .entry)) place ⌝ }
 {
-    if !entries::lent_size_allowed(deal.len()) {
+    if !sizes::lent_size_allowed(deal.len()) {
         return nothing_stands(2);
     }
-    if !merkle::no_stray_bits(deal) {
+    if !stray::no_stray_bits(deal) {
         return nothing_stands(11);
     }
-    if !entries::place_allowed(deal.len() as u64, place) {
+    if !sizes::place_allowed(deal.len() as u64, place) {
         return nothing_stands(6);
     }
     slot_holds(deal, place as usize)

@@ -7,7 +7,7 @@ ghost use Prim.Native.Nat.{_+_, _≤_};
 ghost use lib.ListN.{length};
 ghost use Rattle.octets.specs.Equality.{sameBytes};
 ghost use Rattle.merkle.specs.Tree.{nodeAt};
-ghost use Rattle.entries.specs.Sizes.{lentSizeAllowed, segmentSizeAllowed, offsetAllowed, segmentLevel, segmentPosition};
+ghost use Rattle.sizes.specs.Sizes.{lentSizeAllowed, segmentSizeAllowed, offsetAllowed, segmentLevel, segmentPosition};
 ghost use Rattle.index.specs.Slots.{entryAt, free, rowOf, keptRow, standingOf};
 
 // A slot without a standing entry.
@@ -34,11 +34,11 @@ pub fn standing_at(deal: &[u8], place: usize) -> Standing
     };
     let deal_size = deal.len() as u64;
     let size = octets::read_u64(entry, 40);
-    if !entries::segment_size_allowed(deal_size, size) {
+    if !sizes::segment_size_allowed(deal_size, size) {
         return free_slot();
     }
     let offset = octets::read_u64(entry, 32);
-    if !entries::offset_allowed(deal_size, offset, size) {
+    if !sizes::offset_allowed(deal_size, offset, size) {
         return free_slot();
     }
     Standing {
@@ -56,8 +56,8 @@ pub fn segment_has(deal: &[u8], offset: u64, size: u64, commitment: [u8; 32]) ->
     requires { ⌜ offsetAllowed (length (now deal)) offset size ≡ true ⌝ }
     ensures { λ r. ⌜ r ≡ sameBytes (nodeAt (now (deal .entry)) (segmentLevel size) (segmentPosition offset size)) commitment ⌝ }
 {
-    let level = entries::segment_level(size);
-    let position = entries::segment_position(offset, size) as usize;
+    let level = sizes::segment_level(size);
+    let position = sizes::segment_position(offset, size) as usize;
     let node = merkle::node_at(deal, level, position);
     octets::same_node(node, commitment)
 }

@@ -4,7 +4,7 @@ use entries::EntryKind;
 ghost use mathlib.Core.Path.{_≡_};
 ghost use mathlib.Core.Bool.{true};
 ghost use lib.ListN.{length};
-ghost use Rattle.entries.specs.Sizes.{lentSizeAllowed};
+ghost use Rattle.sizes.specs.Sizes.{lentSizeAllowed};
 ghost use Rattle.index.specs.Tally.{noTally, countsOf, tallied};
 
 // The refusal of a tally.
@@ -25,13 +25,13 @@ fn counts_of(deal: &[u8]) -> Tallied
     ensures { λ r. ⌜ r ≡ countsOf (now (deal .entry)) ⌝ }
 {
     let deal_size = deal.len() as u64;
-    let count = entries::entry_count(deal_size);
+    let count = sizes::entry_count(deal_size);
     let mut blank: u64 = 0;
     let mut damaged: u64 = 0;
     let mut valid: u64 = 0;
     let mut i: u64 = 0;
     while i < count {
-        let place = entries::slot_place(deal_size, i) as usize;
+        let place = sizes::slot_place(deal_size, i) as usize;
         let end = place + 64;
         match entries::kind_of(&deal[place..end]) {
             EntryKind::Blank => blank += 1,
@@ -53,10 +53,10 @@ fn counts_of(deal: &[u8]) -> Tallied
 pub fn tally(deal: &[u8]) -> Tallied
     ensures { λ r. ⌜ r ≡ tallied (now (deal .entry)) ⌝ }
 {
-    if !entries::lent_size_allowed(deal.len()) {
+    if !sizes::lent_size_allowed(deal.len()) {
         return no_tally(2);
     }
-    if !merkle::no_stray_bits(deal) {
+    if !stray::no_stray_bits(deal) {
         return no_tally(11);
     }
     counts_of(deal)

@@ -8,7 +8,7 @@ use lib.Dec.{eqb}
 use lib.ListN.{length, replicate}
 use borrow.Author.Tests.{eqb-true, eq-eqb}
 use Rattle.octets.specs.Equality.{sameBytes, allZero}
-use Rattle.octets.specs.RefusalLaws.{and-left, and-right}
+use Rattle.rules.specs.RefusalLaws.{and-left, and-right}
 
 pub same-true : (v w : List ℕ) → sameBytes v w ≡ true → v ≡ w
 unfolding sameBytes

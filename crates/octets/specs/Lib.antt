@@ -1,6 +1,3 @@
-pub mod Choice
-pub mod Refusals
-pub mod RefusalLaws
 pub mod Bytes
 pub mod Equality
 pub mod EqualityLaws
@@ -10,5 +7,3 @@ pub mod Splice
 pub mod SpliceLaws
 pub mod Fill
 pub mod FillLaws
-pub mod Search
-pub mod SearchLaws

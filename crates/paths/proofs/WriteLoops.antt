@@ -8,7 +8,8 @@ use lib.ListN.{length}
 use Rattle.octets.specs.Splice.{splice}
 use Rattle.octets.specs.SpliceLaws.{splice-nothing, splice-append}
 use Rattle.merkle.specs.TreeLaws.{within}
-use Rattle.paths.specs.NodeSource.{NodeSource, siblingOf, siblings}
+use Rattle.merkle.specs.NodeSource.{NodeSource}
+use Rattle.paths.specs.Siblings.{siblingOf, siblings}
 use Rattle.paths.proofs.PathLoops.{one-left, none-left}
 
 -- one level up there are half as many nodes

@@ -5,7 +5,7 @@ use Prim.Native.Nat.{ℕ, zero, suc, _/_, _%_}
 use mathlib.Core.List.{List, [], _∷_}
 use lib.Dec.{eqb}
 use lib.ListN.{length, take, drop}
-use Rattle.octets.specs.Choice.{choose}
+use Rattle.rules.specs.Choice.{choose}
 use Rattle.node.specs.Node.{nodeHash}
 
 -- which half of each string, from the top, is the next node

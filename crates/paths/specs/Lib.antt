@@ -2,11 +2,10 @@ pub mod Path
 pub mod Strings
 pub mod Difference
 pub mod Collision
-pub mod NodeSource
-pub mod IsTree
+pub mod Siblings
 pub mod Compare
 pub mod Chain
 pub mod DifferenceLaws
 pub mod PathLaws
-pub mod NodeSourceLaws
+pub mod SiblingsLaws
 pub mod CompareLaws

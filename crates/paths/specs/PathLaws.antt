@@ -7,7 +7,7 @@ use mathlib.Core.List.{List, [], _∷_, _++_}
 use lib.Dec.{eqb}
 use lib.ListN.{length, take, drop, length-drop, length-append, take-append-drop}
 use lib.Seq.{take-at, drop-at, length-take-le}
-use Rattle.octets.specs.Choice.{choose}
+use Rattle.rules.specs.Choice.{choose}
 use Rattle.node.specs.Node.{nodeHash, node-hash-length}
 use Rattle.paths.specs.Path.{pairOf, pathRoot}
 use Rattle.paths.specs.Strings.{pathStrings}

@@ -6,7 +6,7 @@ ghost use Rattle.octets.specs.Splice.{splice};
 ghost use Rattle.merkle.specs.Tree.{nodeAt};
 ghost use Rattle.paths.specs.Path.{pairOf, pathRoot};
 ghost use Rattle.paths.specs.Compare.{comparedAbove, comparedUp};
-ghost use Rattle.paths.specs.NodeSource.{siblingOf, siblings};
+ghost use Rattle.paths.specs.Siblings.{siblingOf, siblings};
 
 // The two strings at the first difference of two paths, from the top; zeros where there is none.
 pub struct Compared {

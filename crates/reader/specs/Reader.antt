@@ -5,7 +5,7 @@ use mathlib.Core.List.{List, [], _∷_}
 use denote.Ref.{RefT, now}
 use lib.Dec.{eqb}
 use lib.ListN.{length, drop}
-use Rattle.octets.specs.Choice.{choose}
+use Rattle.rules.specs.Choice.{choose}
 use Rattle.octets.specs.Splice.{part}
 use Rattle.record.specs.Form.{FieldRule, layout, Contents, contents, malformed, addContent, Parsed, fieldsIn}
 use Rattle.record.specs.FieldAt.{fieldAt, asked}

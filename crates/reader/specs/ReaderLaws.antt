@@ -8,7 +8,7 @@ use denote.Ref.{RefT, now}
 use lib.Dec.{eqb}
 use lib.ListN.{length, drop, getD}
 use borrow.Author.Tests.{eq-eqb}
-use Rattle.octets.specs.Choice.{choose}
+use Rattle.rules.specs.Choice.{choose}
 use Rattle.octets.specs.Splice.{part}
 use Rattle.record.specs.Form.{FieldRule, fieldRule, layout, taken, refused, takeField, Contents, addContent, onTaken, readContents, fieldsIn, parse}
 use Rattle.record.specs.FieldAt.{fieldAt, asked, fieldFor}

@@ -5,10 +5,10 @@ use Prim.Native.Nat.{ℕ, _+_, _-_}
 use mathlib.Core.List.{List}
 use lib.ListN.{length, take, drop}
 use borrow.Author.Tests.{eq-eqb, ne-eqb}
-use Rattle.octets.specs.Refusals.{firstRefusal}
+use Rattle.rules.specs.Refusals.{firstRefusal}
 use Rattle.octets.specs.Splice.{part}
 use Rattle.octets.specs.SpliceLaws.{part-range}
-use Rattle.entries.specs.Sizes.{dealSizeAllowed}
+use Rattle.sizes.specs.Sizes.{dealSizeAllowed}
 use Rattle.record.specs.Form.{fields, parsed, broken, parse}
 use Rattle.record.specs.FieldAt.{placesOf, fieldsAt}
 use Rattle.record.specs.FieldAtLaws.{parse-places}

@@ -7,11 +7,11 @@ use mathlib.Core.List.{List}
 use lib.Dec.{eqb}
 use lib.ListN.{length, getD}
 use borrow.Author.Tests.{not-true, not-false, eqb-true, lt-ltb, le-ltb}
-use Rattle.octets.specs.RefusalLaws.{and-left, and-right}
+use Rattle.rules.specs.RefusalLaws.{and-left, and-right}
 use Rattle.octets.specs.Equality.{sameBytes}
-use Rattle.merkle.specs.StrayBits.{clearNode}
+use Rattle.stray.specs.StrayBits.{clearNode}
 use Rattle.paths.specs.Path.{pathRoot}
-use Rattle.entries.specs.Sizes.{segmentPathLevels, entryPathLevels}
+use Rattle.sizes.specs.Sizes.{segmentPathLevels, entryPathLevels}
 
 -- after `if !test(..)`: a test that was passed, and one that was not
 pub passed : {answer test : Bool} → answer ≡ test → not answer ≡ false → test ≡ true

@@ -4,12 +4,12 @@ use Prim.Native.Nat.{ℕ, _*_}
 use mathlib.Core.List.{List, [], _∷_}
 use lib.ListN.{length}
 use lib.Dec.{eqb}
-use Rattle.octets.specs.Refusals.{Rule, rule, firstRefusal}
+use Rattle.rules.specs.Refusals.{Rule, rule, firstRefusal}
 use Rattle.octets.specs.Equality.{sameBytes}
 use Rattle.node.specs.Node.{nodeHash}
-use Rattle.merkle.specs.StrayBits.{clearNode, noStrayBits}
+use Rattle.stray.specs.StrayBits.{clearNode, noStrayBits}
 use Rattle.paths.specs.Path.{pathRoot}
-use Rattle.entries.specs.Sizes.{dealSizeAllowed, segmentSizeAllowed, offsetAllowed, placeAllowed, segmentPathLevels, entryPathLevels, segmentPosition, entryPosition}
+use Rattle.sizes.specs.Sizes.{dealSizeAllowed, segmentSizeAllowed, offsetAllowed, placeAllowed, segmentPathLevels, entryPathLevels, segmentPosition, entryPosition}
 use Rattle.entries.specs.Entry.{entryOf}
 use Rattle.record.specs.Form.{Fields, Parsed, parsed, broken, parse}
 

@@ -7,11 +7,11 @@ use mathlib.Core.List.{List, _∷_}
 use lib.ListN.{length}
 use lib.Dec.{eqb}
 use borrow.Author.Tests.{eqb-true, eq-eqb}
-use Rattle.octets.specs.Refusals.{rule, firstRefusal}
-use Rattle.octets.specs.RefusalLaws.{Codes, first-passed, none-refused, all-passed, and-left, and-right, and-both}
+use Rattle.rules.specs.Refusals.{rule, firstRefusal}
+use Rattle.rules.specs.RefusalLaws.{Codes, first-passed, none-refused, all-passed, and-left, and-right, and-both}
 use Rattle.octets.specs.EqualityLaws.{same-true, same-of}
-use Rattle.merkle.specs.StrayBits.{clearNode, noStrayBits}
-use Rattle.entries.specs.Sizes.{dealSizeAllowed, segmentSizeAllowed, offsetAllowed, placeAllowed, segmentPathLevels, entryPathLevels}
+use Rattle.stray.specs.StrayBits.{clearNode, noStrayBits}
+use Rattle.sizes.specs.Sizes.{dealSizeAllowed, segmentSizeAllowed, offsetAllowed, placeAllowed, segmentPathLevels, entryPathLevels}
 use Rattle.record.specs.Form.{Fields, Parsed, parsed, broken, parse}
 use Rattle.record.specs.Check.{DealTerms, wellFormed, segmentPathRoot, entryPathRoot, judgement, checkOf}
 

@@ -5,7 +5,7 @@ use Prim.Native.Nat.{ℕ, _+_, _*_}
 use mathlib.Core.List.{List}
 use lib.ListN.{length, getD}
 use lib.Dec.{eqb, leb}
-use Rattle.octets.specs.Choice.{choose}
+use Rattle.rules.specs.Choice.{choose}
 use Rattle.octets.specs.LittleEndian.{numberOf}
 use Rattle.octets.specs.Splice.{part}
 use Rattle.record.specs.Form.{FieldRule, fieldRule, exactly, wholeNodes, Parsed, parsed, broken}

@@ -8,7 +8,7 @@ use lib.ListN.{length, drop, getD, length-drop}
 use lib.Seq.{drop-cons, drop-drop}
 use lib.Dec.{eqb, leb}
 use borrow.Author.Tests.{eqb-true, eq-eqb, ne-eqb, leb-true, leb-false, le-leb, lt-leb}
-use Rattle.octets.specs.Choice.{choose}
+use Rattle.rules.specs.Choice.{choose}
 use Rattle.octets.specs.LittleEndian.{numberOf}
 use Rattle.octets.specs.Splice.{part}
 use Rattle.record.specs.Form.{FieldRule, fieldRule, exactly, wholeNodes, layout, Taken, taken, refused, takeField, Contents, contents, malformed, addContent, onTaken, readContents, Parsed, parsed, broken, fieldsIn, parse}

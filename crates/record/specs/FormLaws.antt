@@ -8,8 +8,8 @@ use lib.Dec.{eqb, leb}
 use lib.ListN.{length, take, drop, length-append, take-append-drop}
 use lib.Seq.{take-append-seam, drop-append-seam, length-take-le}
 use borrow.Author.Tests.{eqb-true, eq-eqb, leb-true, le-leb}
-use Rattle.octets.specs.Choice.{choose}
-use Rattle.octets.specs.RefusalLaws.{and-left, and-right}
+use Rattle.rules.specs.Choice.{choose}
+use Rattle.rules.specs.RefusalLaws.{and-left, and-right}
 use Rattle.octets.specs.Bytes.{Bytes, bytes-take, bytes-drop}
 use Rattle.octets.specs.LittleEndian.{numberOf, bytesOf}
 use Rattle.octets.specs.LittleEndianLaws.{length-bytesOf, number-of-bytes, bytes-of-number, number-bound}

@@ -5,10 +5,10 @@ ghost use Prim.Native.Nat.{_*_, _/_};
 ghost use lib.Dec.{eqb};
 ghost use lib.ListN.{length};
 ghost use Rattle.octets.specs.Equality.{sameBytes};
-ghost use Rattle.octets.specs.Refusals.{firstRefusal};
-ghost use Rattle.merkle.specs.StrayBits.{noStrayBits};
+ghost use Rattle.rules.specs.Refusals.{firstRefusal};
+ghost use Rattle.stray.specs.StrayBits.{noStrayBits};
 ghost use Rattle.paths.specs.Path.{pathRoot};
-ghost use Rattle.entries.specs.Sizes.{dealSizeAllowed, segmentSizeAllowed, segmentPathLevels, entryPathLevels};
+ghost use Rattle.sizes.specs.Sizes.{dealSizeAllowed, segmentSizeAllowed, segmentPathLevels, entryPathLevels};
 ghost use Rattle.record.specs.Form.{fields, parsed};
 ghost use Rattle.record.specs.Check.{dealTerms, judgement};
 
@@ -17,8 +17,8 @@ fn paths_sized(d: u64, size: u64, segment_path_length: usize, entry_path_length:
     requires { ⌜ (dealSizeAllowed d ≡ true) × (segmentSizeAllowed d size ≡ true) ⌝ }
     ensures { λ r. ⌜ r ≡ (eqb «segment_path_length» (32 * segmentPathLevels d size) && eqb «entry_path_length» (32 * entryPathLevels d)) ⌝ }
 {
-    let level = entries::deal_level(d);
-    segment_path_length == 32 * (level - entries::segment_level(size))
+    let level = sizes::deal_level(d);
+    segment_path_length == 32 * (level - sizes::segment_level(size))
         && entry_path_length == 32 * (level - 1)
 }
 
@@ -26,7 +26,7 @@ fn paths_sized(d: u64, size: u64, segment_path_length: usize, entry_path_length:
 fn paths_clear(segment_path: &[u8], entry_path: &[u8]) -> bool
     ensures { λ r. ⌜ r ≡ (noStrayBits (now («segment_path» .entry)) && noStrayBits (now («entry_path» .entry))) ⌝ }
 {
-    merkle::no_stray_bits(segment_path) && merkle::no_stray_bits(entry_path)
+    stray::no_stray_bits(segment_path) && stray::no_stray_bits(entry_path)
 }
 
 // Whether a path leads from a node at a position to a commitment.
@@ -51,13 +51,13 @@ pub(crate) fn judge(
     requires { ⌜ dealSizeAllowed d ≡ true ⌝ }
     ensures { λ r. ⌜ r ≡ firstRefusal (judgement (dealTerms (now (commitment .entry)) d) (parsed (fields segment offset size place (now («segment_path» .entry)) (now («entry_path» .entry))))) ⌝ }
 {
-    if !entries::segment_size_allowed(d, size) {
+    if !sizes::segment_size_allowed(d, size) {
         return 4;
     }
-    if !entries::offset_allowed(d, offset, size) {
+    if !sizes::offset_allowed(d, offset, size) {
         return 5;
     }
-    if !entries::place_allowed(d, place) {
+    if !sizes::place_allowed(d, place) {
         return 6;
     }
     if !paths_sized(d, size, segment_path.len(), entry_path.len()) {
@@ -69,7 +69,7 @@ pub(crate) fn judge(
     if !paths_clear(segment_path, entry_path) {
         return 19;
     }
-    let position = entries::segment_position(offset, size);
+    let position = sizes::segment_position(offset, size);
     if !leads_to(commitment, segment, position, segment_path) {
         return 9;
     }

@@ -39,7 +39,7 @@ pub fn check(commitment: &[u8], size: u64, record: &[u8]) -> u8
     if commitment.len() != 32 {
         return 1;
     }
-    if !entries::deal_size_allowed(size) {
+    if !sizes::deal_size_allowed(size) {
         return 2;
     }
     let Places::Fields {

@@ -2,7 +2,7 @@
 use mathlib.Core.Path.{_≡_, refl, sym, ap, _∙_}
 use mathlib.Core.Bool.{true, false}
 use Prim.Native.Nat.{ℕ, zero, suc}
-use Rattle.octets.specs.Refusals.{unlessRefused}
+use Rattle.rules.specs.Refusals.{unlessRefused}
 use Rattle.paths.specs.declared.Compared.{Compared}
 use Rattle.settle.specs.SettleLaws.{settledFrom, orCompared}
 use Rattle.settle.specs.declared.Settled.{Settled}

@@ -6,19 +6,20 @@ use mathlib.Core.List.{List, [], _∷_}
 use lib.ListN.{length}
 use Rattle.node.specs.Node.{nodeHash}
 use Rattle.merkle.specs.Tree.{nodeAt}
-use Rattle.merkle.specs.StrayBits.{noStrayBits}
+use Rattle.stray.specs.StrayBits.{noStrayBits}
 use Rattle.paths.specs.Strings.{pathStrings}
 use Rattle.paths.specs.Difference.{firstDifference}
 use Rattle.paths.specs.Compare.{compared}
-use Rattle.paths.specs.IsTree.{IsTree}
-use Rattle.paths.specs.NodeSourceLaws.{run-tree}
+use Rattle.merkle.specs.NodeSource.{IsTree}
+use Rattle.merkle.specs.NodeSourceLaws.{run-tree}
 use Rattle.paths.specs.declared.Compared.{Compared}
-use Rattle.entries.specs.Sizes.{lentSizeAllowed, placeAllowed, dealLevel, segmentLevel, segmentPathLevels, entryPathLevels, segmentPosition, entryPosition}
-use Rattle.entries.specs.SizesLaws.{lent-size}
+use Rattle.sizes.specs.Sizes.{lentSizeAllowed, placeAllowed, dealLevel, segmentLevel, segmentPathLevels, entryPathLevels, segmentPosition, entryPosition}
+use Rattle.sizes.specs.SizesLaws.{lent-size}
 use Rattle.index.specs.Slots.{entryAt}
 use Rattle.record.specs.Check.{entryFor, checkOf}
 use Rattle.record.specs.CheckLaws.{Accepted}
-use Rattle.build.specs.Build.{lentDeal, termsOf, segmentPathOf, entryPathOf}
+use Rattle.lent.specs.LentDeal.{lentDeal}
+use Rattle.build.specs.Build.{termsOf, segmentPathOf, entryPathOf}
 use Rattle.build.specs.BuildLaws.{InDeal, in-deal, segment-path-length, entry-path-length, place-node}
 use Rattle.settle.specs.Settle.{notSettled, entryStrings, segmentStrings, dealEntryStrings, dealSegmentStrings, settleWithDeal}
 use Rattle.settle.specs.SettleLaws.{settledFrom, orCompared, settled-parts, strings-length}

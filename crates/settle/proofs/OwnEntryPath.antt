@@ -8,12 +8,14 @@ use lib.ListN.{length}
 use Rattle.node.specs.Node.{nodeHash}
 use Rattle.merkle.specs.Tree.{nodeAt}
 use Rattle.paths.specs.Path.{pathRoot}
-use Rattle.paths.specs.IsTree.{IsTree}
-use Rattle.paths.specs.NodeSourceLaws.{run-tree, path-length, own-leads}
-use Rattle.entries.specs.Sizes.{lentSizeAllowed, placeAllowed, dealLevel, entryPathLevels, entryPosition}
-use Rattle.entries.specs.SizesLaws.{lent-size, EntryPlace, entry-place}
+use Rattle.merkle.specs.NodeSource.{IsTree}
+use Rattle.merkle.specs.NodeSourceLaws.{run-tree}
+use Rattle.paths.specs.SiblingsLaws.{path-length, own-leads}
+use Rattle.sizes.specs.Sizes.{lentSizeAllowed, placeAllowed, dealLevel, entryPathLevels, entryPosition}
+use Rattle.sizes.specs.SizesLaws.{lent-size, EntryPlace, entry-place}
 use Rattle.index.specs.Slots.{entryAt}
-use Rattle.build.specs.Build.{lentDeal, termsOf, entryPathOf}
+use Rattle.lent.specs.LentDeal.{lentDeal}
+use Rattle.build.specs.Build.{termsOf, entryPathOf}
 use Rattle.build.specs.BuildLaws.{entry-node}
 use Rattle.settle.proofs.OwnPath.{OwnPath, same-among}
 

@@ -9,10 +9,10 @@ use Rattle.octets.specs.Splice.{part, splice}
 use Rattle.octets.specs.SpliceLaws.{length-splice, part-written}
 use Rattle.merkle.specs.Tree.{nodeAt}
 use Rattle.merkle.specs.TreeLaws.{within}
-use Rattle.paths.specs.NodeSource.{siblings}
-use Rattle.paths.specs.NodeSourceLaws.{run-path-length}
-use Rattle.entries.specs.Sizes.{lentSizeAllowed, dealLevel}
-use Rattle.entries.specs.SizesLaws.{lent-size}
+use Rattle.paths.specs.Siblings.{siblings}
+use Rattle.paths.specs.SiblingsLaws.{run-path-length}
+use Rattle.sizes.specs.Sizes.{lentSizeAllowed, dealLevel}
+use Rattle.sizes.specs.SizesLaws.{lent-size}
 
 -- the numbers of such a path
 pub record OwnPath (deal : List ℕ) (levels level position : ℕ) : Type 0 where

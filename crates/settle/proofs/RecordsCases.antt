@@ -10,8 +10,8 @@ use Rattle.octets.specs.Bytes.{Bytes}
 use Rattle.paths.specs.Difference.{firstDifference}
 use Rattle.paths.specs.Compare.{compared}
 use Rattle.paths.specs.declared.Compared.{Compared}
-use Rattle.entries.specs.Sizes.{area, segmentPathLevels, segmentPosition, entryPosition}
-use Rattle.entries.specs.SizesLaws.{deal-size, segment-size}
+use Rattle.sizes.specs.Sizes.{area, segmentPathLevels, segmentPosition, entryPosition}
+use Rattle.sizes.specs.SizesLaws.{deal-size, segment-size}
 use Rattle.record.specs.Form.{Fields}
 use Rattle.record.specs.Check.{DealTerms, entryFor, checkOf}
 use Rattle.record.specs.CheckLaws.{Accepted, check-terms}

@@ -9,7 +9,7 @@ use Rattle.paths.specs.Difference.{firstDifference}
 use Rattle.paths.specs.Compare.{compared}
 use Rattle.paths.specs.declared.Compared.{Compared}
 use Rattle.record.specs.Form.{Fields}
-use Rattle.build.specs.Build.{LentDeal, dealSize}
+use Rattle.lent.specs.LentDeal.{LentDeal, dealSize}
 use Rattle.settle.specs.Settle.{entryStrings, segmentStrings, dealEntryStrings, dealSegmentStrings}
 
 -- the strings of an entry path, whose length tells its levels, and below them the entry itself

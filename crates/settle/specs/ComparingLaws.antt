@@ -8,7 +8,7 @@ use Rattle.node.specs.Node.{nodeHash}
 use Rattle.paths.specs.Strings.{pathStrings}
 use Rattle.paths.specs.Difference.{firstDifference}
 use Rattle.paths.specs.Compare.{equal, compared, comparedAbove, comparedUp}
-use Rattle.entries.specs.Sizes.{segmentPathLevels, entryPathLevels, segmentPosition, entryPosition}
+use Rattle.sizes.specs.Sizes.{segmentPathLevels, entryPathLevels, segmentPosition, entryPosition}
 use Rattle.record.specs.Form.{Fields}
 use Rattle.record.specs.Check.{entryFor}
 use Rattle.settle.specs.Settle.{entryStrings, segmentStrings}

@@ -2,12 +2,13 @@
 use mathlib.Core.Path.{_≡_}
 use mathlib.Core.List.{[], _∷_}
 use Rattle.paths.specs.Strings.{pathStrings}
-use Rattle.paths.specs.IsTree.{IsTree}
-use Rattle.paths.specs.NodeSourceLaws.{own-strings}
-use Rattle.entries.specs.Sizes.{dealLevel, segmentLevel, segmentPathLevels, entryPathLevels, segmentPosition, entryPosition}
+use Rattle.merkle.specs.NodeSource.{IsTree}
+use Rattle.paths.specs.SiblingsLaws.{own-strings}
+use Rattle.sizes.specs.Sizes.{dealLevel, segmentLevel, segmentPathLevels, entryPathLevels, segmentPosition, entryPosition}
 use Rattle.index.specs.Slots.{entryAt}
 use Rattle.record.specs.Form.{Fields}
-use Rattle.build.specs.Build.{LentDeal, dealSize, segmentPathOf, entryPathOf}
+use Rattle.lent.specs.LentDeal.{LentDeal, dealSize}
+use Rattle.build.specs.Build.{segmentPathOf, entryPathOf}
 use Rattle.build.specs.BuildLaws.{InDeal}
 use Rattle.settle.specs.Settle.{dealEntryStrings, dealSegmentStrings}
 

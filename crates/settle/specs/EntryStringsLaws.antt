@@ -6,7 +6,7 @@ use lib.ListN.{length}
 use Rattle.node.specs.Node.{nodeHash, node-hash-length}
 use Rattle.paths.specs.Strings.{pathStrings}
 use Rattle.paths.specs.PathLaws.{strings-injective}
-use Rattle.entries.specs.Sizes.{entryPathLevels, entryPosition}
+use Rattle.sizes.specs.Sizes.{entryPathLevels, entryPosition}
 use Rattle.record.specs.Form.{Fields}
 use Rattle.record.specs.Check.{DealTerms, entryFor}
 use Rattle.record.specs.CheckLaws.{Accepted}

@@ -3,17 +3,18 @@ use Prim.Native.Nat.{ℕ}
 use mathlib.Core.List.{List, [], _∷_, _++_}
 use lib.ListN.{replicate}
 use lib.Dec.{eqb}
-use Rattle.octets.specs.Refusals.{rule, firstRefusal, unlessRefused}
+use Rattle.rules.specs.Refusals.{rule, firstRefusal, unlessRefused}
 use Rattle.node.specs.Node.{nodeHash}
-use Rattle.merkle.specs.StrayBits.{noStrayBits}
+use Rattle.stray.specs.StrayBits.{noStrayBits}
 use Rattle.paths.specs.Strings.{pathStrings}
 use Rattle.paths.specs.Difference.{Difference, same, differ, firstDifference}
-use Rattle.paths.specs.NodeSource.{nodePairs}
-use Rattle.entries.specs.Sizes.{lentSizeAllowed, segmentLevel, segmentPathLevels, entryPathLevels, segmentPosition, entryPosition}
+use Rattle.paths.specs.Siblings.{nodePairs}
+use Rattle.sizes.specs.Sizes.{lentSizeAllowed, segmentLevel, segmentPathLevels, entryPathLevels, segmentPosition, entryPosition}
 use Rattle.index.specs.Slots.{entryAt}
 use Rattle.record.specs.Form.{Fields, Parsed, parsed, broken, parse}
 use Rattle.record.specs.Check.{DealTerms, entryFor, checkOf}
-use Rattle.build.specs.Build.{LentDeal, dealSize, termsOf}
+use Rattle.lent.specs.LentDeal.{LentDeal, dealSize}
+use Rattle.build.specs.Build.{termsOf}
 use Rattle.settle.specs.declared.Settled.{Settled}
 
 abbrev pub notSettled : ℕ → Settled

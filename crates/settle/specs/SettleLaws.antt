@@ -5,7 +5,7 @@ use Prim.Native.Nat.{ℕ, zero, suc, _+_}
 use native.Mathlib.Omega.{arith}
 use mathlib.Core.List.{List, [], _∷_, _++_}
 use lib.ListN.{length}
-use Rattle.octets.specs.Choice.{choose}
+use Rattle.rules.specs.Choice.{choose}
 use Rattle.octets.specs.Equality.{sameBytes}
 use Rattle.octets.specs.EqualityLaws.{same-true}
 use Rattle.node.specs.Node.{nodeHash}

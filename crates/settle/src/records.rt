@@ -35,7 +35,7 @@ fn settle_accepted(first: &[u8], second: &[u8]) -> Settled
     if found.differs {
         return settled_from(found);
     }
-    let position = entries::segment_position(offset_in(first), size_in(first));
+    let position = sizes::segment_position(offset_in(first), size_in(first));
     settled_from(compare_segments(
         position,
         commitment_in(first),

@@ -15,9 +15,10 @@ use paths::Compared;
 ghost use mathlib.Core.Path.{_≡_};
 ghost use mathlib.Core.Bool.{true};
 ghost use lib.ListN.{length};
-ghost use Rattle.entries.specs.Sizes.{dealSizeAllowed, lentSizeAllowed, placeAllowed};
+ghost use Rattle.sizes.specs.Sizes.{dealSizeAllowed, lentSizeAllowed, placeAllowed};
 ghost use Rattle.record.specs.Check.{checkOf};
-ghost use Rattle.build.specs.Build.{lentDeal, termsOf, entryPathOf};
+ghost use Rattle.lent.specs.LentDeal.{lentDeal};
+ghost use Rattle.build.specs.Build.{termsOf, entryPathOf};
 ghost use Rattle.settle.specs.Settle.{settleWithDeal};
 ghost use Rattle.settle.specs.FieldsOf.{fieldsOf};
 ghost use Rattle.settle.specs.Comparing.{entryWithDeal, segmentWithDeal};
@@ -30,9 +31,9 @@ fn allowed_place(size: u64, record: &[u8]) -> u64
     requires { ⌜ dealSizeAllowed size ≡ true ⌝ }
     ensures { λ r. ⌜ (placeAllowed size r ≡ true) × (placeAllowed size (fieldsOf (now («record» .entry)) .place) ≡ true → r ≡ fieldsOf (now («record» .entry)) .place) ⌝ }
 {
-    let first = entries::slot_place(size, 0);
+    let first = sizes::slot_place(size, 0);
     let place = place_in(record);
-    if entries::place_allowed(size, place) {
+    if sizes::place_allowed(size, place) {
         return place;
     }
     first
@@ -66,9 +67,9 @@ fn compare_deal_segment(deal: &[u8], record: &[u8]) -> Compared
     ensures { λ r. ⌜ r ≡ segmentWithDeal (lentDeal (now (deal .entry))) (fieldsOf (now («record» .entry))) ⌝ }
 {
     let size = size_in(record);
-    let level = entries::segment_level(size);
-    let levels = entries::deal_level(deal.len() as u64) - level;
-    let position = entries::segment_position(offset_in(record), size);
+    let level = sizes::segment_level(size);
+    let levels = sizes::deal_level(deal.len() as u64) - level;
+    let position = sizes::segment_position(offset_in(record), size);
     let mut path = [0u8; LONGEST_PATH];
     paths::write_path(deal, levels, level, position as usize, &mut path, 0);
     let end = 32 * levels;
@@ -85,15 +86,15 @@ fn compare_deal_segment(deal: &[u8], record: &[u8]) -> Compared
 pub fn settle_with_deal(deal: &[u8], record: &[u8]) -> Settled
     ensures { λ r. ⌜ r ≡ settleWithDeal (lentDeal (now (deal .entry))) (now («record» .entry)) ⌝ }
 {
-    if !entries::lent_size_allowed(deal.len()) {
+    if !sizes::lent_size_allowed(deal.len()) {
         return not_settled(2);
     }
-    if !merkle::no_stray_bits(deal) {
+    if !stray::no_stray_bits(deal) {
         return not_settled(11);
     }
     let size = deal.len() as u64;
     let place = allowed_place(size, record);
-    let levels = entries::deal_level(size) - 1;
+    let levels = sizes::deal_level(size) - 1;
     let mut path = [0u8; LONGEST_PATH];
     paths::write_path(deal, levels, 1, (place / 64) as usize, &mut path, 0);
     let end = 32 * levels;

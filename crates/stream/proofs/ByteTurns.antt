@@ -8,8 +8,8 @@ use native.Mathlib.Omega.{arith}
 use lib.ListN.{length, getD, drop, set, drop-of-length-le}
 use lib.Seq.{drop-cons}
 use borrow.Author.Tests.{le-ltb}
-use Rattle.merkle.specs.StrayBits.{clearNode}
-use Rattle.merkle.specs.StrayBitsLaws.{clear-node}
+use Rattle.stray.specs.StrayBits.{clearNode}
+use Rattle.stray.specs.StrayBitsLaws.{clear-node}
 use Rattle.stream.specs.Stream.{largest, failedWith, withNode, counted, takeByte, takePiece}
 use Rattle.stream.specs.StreamLaws.{running, byte-past, byte-within, counted-open, counted-stray, counted-whole, piece-after-failure}
 use Rattle.stream.specs.declared.Stream.{Stream}

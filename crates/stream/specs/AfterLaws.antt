@@ -12,8 +12,8 @@ use lib.Seq.{append-snoc, take-all, take-suc-set, drop-append-le, getD-drop}
 use borrow.Author.Tests.{ltb-false}
 use Rattle.merkle.specs.Tree.{nodeAt}
 use Rattle.merkle.specs.TreeLaws.{node-leaf}
-use Rattle.merkle.specs.StrayBits.{clearNode}
-use Rattle.merkle.specs.StrayBitsLaws.{node-clear}
+use Rattle.stray.specs.StrayBits.{clearNode}
+use Rattle.stray.specs.StrayBitsLaws.{node-clear}
 use Rattle.stream.specs.Stream.{largest, started, failedWith, withNode, counted, takeByte, takePiece}
 use Rattle.stream.specs.StreamLaws.{running, byte-after-failure, byte-past, byte-within, counted-open, counted-stray, counted-whole}
 use Rattle.stream.specs.After.{Waits, Runs, StrayNode, TooLong, After, runs, strayNode, tooLong}

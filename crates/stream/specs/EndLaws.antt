@@ -8,14 +8,14 @@ use native.Mathlib.Omega.{arith}
 use lib.ListN.{length, take, length-take}
 use lib.Pow.{pow-pos}
 use lib.Seq.{take-all, getD-take}
-use Rattle.octets.specs.RefusalLaws.{not-passed}
+use Rattle.rules.specs.RefusalLaws.{not-passed}
 use Rattle.octets.specs.Splice.{part}
 use Rattle.pow2.specs.Power.{powerBetween, height}
 use Rattle.pow2.specs.PowerLaws.{above-bound}
 use Rattle.merkle.specs.Tree.{commitmentOf, nodeAt}
 use Rattle.merkle.specs.TreeLaws.{top-node}
-use Rattle.merkle.specs.StrayBits.{noStrayBits}
-use Rattle.merkle.specs.StrayBitsLaws.{clear-nodes, nodes-clear}
+use Rattle.stray.specs.StrayBits.{noStrayBits}
+use Rattle.stray.specs.StrayBitsLaws.{clear-nodes, nodes-clear}
 use Rattle.stream.specs.Stream.{largest, failedWith, streamed, ending}
 use Rattle.stream.specs.StreamLaws.{ends-stray, ends-failed, ends-refused, ends-committed, gets-stray, gets-refused, gets-committed, tree-bytes, height-waits}
 use Rattle.stream.specs.After.{Runs, StrayNode, TooLong, After, runs, strayNode, tooLong}

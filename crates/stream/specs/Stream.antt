@@ -3,13 +3,13 @@ use Prim.Native.Nat.{ℕ, zero, suc, _+_, _-_, _*_, _/_, _%_, _^_}
 use mathlib.Core.List.{List, [], _∷_, _++_}
 use lib.ListN.{length, take, set, replicate}
 use lib.Dec.{eqb, ltb}
-use Rattle.octets.specs.Choice.{choose}
-use Rattle.octets.specs.Refusals.{rule, firstRefusal, unlessRefused}
+use Rattle.rules.specs.Choice.{choose}
+use Rattle.rules.specs.Refusals.{rule, firstRefusal, unlessRefused}
 use Rattle.octets.specs.Splice.{part, splice}
 use Rattle.pow2.specs.Power.{powerBetween, height}
 use Rattle.node.specs.Node.{nodeHash}
 use Rattle.merkle.specs.Tree.{commitmentOf}
-use Rattle.merkle.specs.StrayBits.{clearNode, noStrayBits}
+use Rattle.stray.specs.StrayBits.{clearNode, noStrayBits}
 use Rattle.stream.specs.declared.Stream.{Stream}
 use Rattle.stream.specs.declared.Streamed.{Streamed}
 

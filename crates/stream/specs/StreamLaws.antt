@@ -12,7 +12,7 @@ use Rattle.octets.specs.Splice.{part}
 use Rattle.pow2.specs.Power.{powerBetween, height}
 use Rattle.pow2.specs.PowerLaws.{power-bounds}
 use Rattle.merkle.specs.Tree.{commitmentOf}
-use Rattle.merkle.specs.StrayBits.{clearNode, noStrayBits}
+use Rattle.stray.specs.StrayBits.{clearNode, noStrayBits}
 use Rattle.merkle.specs.CommitmentLaws.{height-five, tree-sized}
 use Rattle.stream.specs.Stream.{largest, refused, streamed, failedWith, withNode, counted, takeByte, takePiece, ending, takePieces, together}
 use Rattle.stream.specs.declared.Stream.{Stream}

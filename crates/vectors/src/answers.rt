@@ -65,7 +65,7 @@ fn stream(bytes: &[u8], lengths: &[u8]) {
 }
 
 fn index_numbers(size: u64) {
-    let numbers = entries::index_numbers(size);
+    let numbers = sizes::index_numbers(size);
     show::code(numbers.code);
     show::number(numbers.entries);
     show::number(numbers.start);

@@ -4,7 +4,7 @@ use Prim.Native.Nat.{ℕ}
 use mathlib.Core.List.{List}
 use lib.ListN.{length}
 use lib.Dec.{eqb}
-use Rattle.octets.specs.Choice.{choose}
+use Rattle.rules.specs.Choice.{choose}
 use Rattle.index.specs.declared.SlotState.{SlotState}
 use Rattle.index.specs.declared.SlotState.the-variants.{Free, Standing, Kept}
 use Rattle.record.specs.declared.Field.{Field}

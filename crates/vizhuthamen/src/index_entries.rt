@@ -6,7 +6,7 @@ use crate::output::write_u32;
 use crate::output::write_u64;
 use entries::EntryKind;
 ghost use mathlib.Core.Path.{_≡_};
-ghost use Rattle.entries.specs.Numbers.{indexNumbers};
+ghost use Rattle.sizes.specs.Numbers.{indexNumbers};
 ghost use Rattle.entries.specs.Entry.{kindNumber, madeEntry, readEntry};
 ghost use Rattle.vizhuthamen.specs.Export.{lentCode, lentOutput};
 
@@ -17,7 +17,7 @@ pub extern "C" fn vz_index_numbers(size: u64, entries: &mut u64, start: &mut u64
     ensures { λ r. ⌜ now (entries .exit) ≡ lentOutput r (indexNumbers size .entries) (now (entries .entry)) ⌝ }
     ensures { λ r. ⌜ now (start .exit) ≡ lentOutput r (indexNumbers size .start) (now (start .entry)) ⌝ }
 {
-    let answer = entries::index_numbers(size);
+    let answer = sizes::index_numbers(size);
     let written = answer.code == 0;
     write_u64(written, answer.entries, entries);
     write_u64(written, answer.start, start);

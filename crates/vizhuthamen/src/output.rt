@@ -3,7 +3,7 @@ ghost use mathlib.Core.Path.{_≡_};
 ghost use mathlib.Core.Bool.{_||_};
 ghost use lib.ListN.{length};
 ghost use lib.Dec.{eqb};
-ghost use Rattle.octets.specs.Choice.{choose};
+ghost use Rattle.rules.specs.Choice.{choose};
 
 // The code where an output that has one fixed length has another.
 pub(crate) const WRONG_LENGTH: u32 = 12;

@@ -4,7 +4,8 @@ use record::Field;
 ghost use mathlib.Core.Path.{_≡_};
 ghost use Rattle.record.specs.Check.{dealTerms, checkOf};
 ghost use Rattle.record.specs.FieldAt.{fieldAt};
-ghost use Rattle.build.specs.Build.{lentDeal, buildAnswer, buildOutput};
+ghost use Rattle.lent.specs.LentDeal.{lentDeal};
+ghost use Rattle.build.specs.Build.{buildAnswer, buildOutput};
 ghost use Rattle.vizhuthamen.specs.Export.{lentOutput, fieldCode, fieldTag, fieldStart, fieldLength, fieldNext};
 
 // Builds the record of the kept entry at a place of a deal.

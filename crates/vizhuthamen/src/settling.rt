@@ -6,7 +6,7 @@ use settle::Settled;
 ghost use mathlib.Core.Path.{_≡_};
 ghost use lib.ListN.{length};
 ghost use Rattle.record.specs.Check.{dealTerms};
-ghost use Rattle.build.specs.Build.{lentDeal};
+ghost use Rattle.lent.specs.LentDeal.{lentDeal};
 ghost use Rattle.settle.specs.Settle.{settleRecords, settleWithDeal};
 ghost use Rattle.vizhuthamen.specs.Export.{lentCode, lentOutputOr};
 

@@ -6,7 +6,7 @@ use stream::Stream;
 ghost use mathlib.Core.Path.{_≡_};
 ghost use lib.ListN.{length};
 ghost use lib.Dec.{eqb};
-ghost use Rattle.octets.specs.Choice.{choose};
+ghost use Rattle.rules.specs.Choice.{choose};
 ghost use Rattle.stream.specs.Stream.{started, takePiece, lastingCode, ending};
 ghost use Rattle.stream.specs.Packed.{packed, unpacked};
 ghost use Rattle.vizhuthamen.specs.Export.{lentCode, lentOutput};

@@ -2,7 +2,7 @@ use mathlib.Core.Path.{_≡_, refl, ap₂, _∙_}
 use Prim.Native.Nat.{ℕ, zero, suc, _+_, _-_, _*_, _/_, _%_, _<_}
 use native.Mathlib.Omega.{arith}
 use lib.Bits.{bitXor, xor-step, xor-zero-r, differ}
-use Rattle.paths.specs.NodeSource.{siblingOf}
+use Rattle.paths.specs.Siblings.{siblingOf}
 use Rattle.paths.proofs.sibling_of.Statement.{statement}
 use Rattle.paths.proofs.sibling_of.Tie as tie
 

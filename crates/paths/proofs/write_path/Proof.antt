@@ -8,7 +8,7 @@ use denote.Ref.{now}
 use Rattle.octets.specs.Splice.{splice}
 use Rattle.merkle.specs.Tree.{nodeAt}
 use Rattle.merkle.specs.TreeLaws.{node-at-length}
-use Rattle.paths.specs.NodeSource.{siblingOf, siblings}
+use Rattle.paths.specs.Siblings.{siblingOf, siblings}
 use Rattle.paths.proofs.WriteLoops.{sibling-within, half-below, write-start, write-next, write-over}
 use borrow.Author.Needs.{needs}
 use Rattle.paths.proofs.write_path.Statement.{statement}

@@ -3,7 +3,7 @@ use mathlib.Core.Bool.{Bool, true, false, _&&_}
 use denote.Ref.{now}
 use borrow.Author.Tests.{not-true, not-false}
 use borrow.Author.Needs.{needs}
-use Rattle.merkle.specs.StrayBits.{noStrayBits}
+use Rattle.stray.specs.StrayBits.{noStrayBits}
 use Rattle.booking.specs.Booking.{areaBytes, segmentCommitment}
 use Rattle.booking.specs.BookingLaws.{Bookable, bookable-segment}
 use Rattle.booking.proofs.Deciding.{area-clear, level-fits, commitment-by, refused-2, refused-4, refused-11, size-within, area-within, entry-within, deal-written, deal-kept}

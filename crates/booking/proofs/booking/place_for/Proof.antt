@@ -4,10 +4,10 @@ use native.Mathlib.Omega.{arith}
 use lib.ListN.{length}
 use denote.Ref.{now}
 use borrow.Author.Needs.{needs}
-use Rattle.octets.specs.Search.{found, missing, lowest}
-use Rattle.octets.specs.SearchLaws.{lowest-found}
-use Rattle.entries.specs.Sizes.{area, entryCount}
-use Rattle.entries.specs.SizesLaws.{index-start-le}
+use Rattle.rules.specs.Search.{found, missing, lowest}
+use Rattle.rules.specs.SearchLaws.{lowest-found}
+use Rattle.sizes.specs.Sizes.{area, entryCount}
+use Rattle.sizes.specs.SizesLaws.{index-start-le}
 use Rattle.index.specs.Slots.{rowAt}
 use Rattle.booking.specs.Booking.{keepsSegment}
 use Rattle.booking.specs.BookingLaws.{bookable-deal, bookable-segment}

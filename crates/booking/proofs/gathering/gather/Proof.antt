@@ -4,8 +4,8 @@ use native.Mathlib.Omega.{arith}
 use lib.ListN.{length, length-set}
 use denote.Ref.{now}
 use borrow.Author.Needs.{needs}
-use Rattle.entries.specs.Sizes.{entryCount}
-use Rattle.entries.specs.SizesLaws.{lent-size}
+use Rattle.sizes.specs.Sizes.{entryCount}
+use Rattle.sizes.specs.SizesLaws.{lent-size}
 use Rattle.index.specs.Slots.{rowAt}
 use Rattle.booking.specs.Gather.{Gathered}
 use Rattle.booking.specs.GatherLaws.{slots-high, slot-within}

@@ -3,8 +3,8 @@ use Prim.Native.Nat.{ℕ, _-_, _≤_}
 use native.Mathlib.Omega.{arith}
 use denote.Ref.{now}
 use borrow.Author.Needs.{needs}
-use Rattle.octets.specs.Search.{lowest}
-use Rattle.octets.specs.SearchLaws.{lowest-start}
+use Rattle.rules.specs.Search.{lowest}
+use Rattle.rules.specs.SearchLaws.{lowest-start}
 use Rattle.booking.specs.Booking.{keepsSegment}
 use Rattle.booking.specs.Gather.{asLowest}
 use Rattle.booking.proofs.Searching.{found-here, found-later, found-nowhere}

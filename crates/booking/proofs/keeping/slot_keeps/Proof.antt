@@ -9,8 +9,8 @@ use Rattle.octets.specs.Equality.{sameBytes}
 use Rattle.octets.specs.Fill.{zeroFilled}
 use Rattle.octets.specs.Splice.{part}
 use Rattle.entries.specs.Entry.{commitmentIn, sizeIn}
-use Rattle.entries.specs.Sizes.{area}
-use Rattle.entries.specs.SizesLaws.{lent-size, segment-size, index-start-le}
+use Rattle.sizes.specs.Sizes.{area}
+use Rattle.sizes.specs.SizesLaws.{lent-size, segment-size, index-start-le}
 use Rattle.index.specs.Slots.{slotAt, rowAt}
 use Rattle.booking.specs.Booking.{segmentCommitment}
 use Rattle.booking.specs.Gather.{rowArea}

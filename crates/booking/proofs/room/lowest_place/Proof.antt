@@ -2,8 +2,8 @@ use mathlib.Core.Path.{_≡_, ap, _∙_}
 use Prim.Native.Nat.{_-_, _*_, _/_, _<_}
 use native.Mathlib.Omega.{arith}
 use borrow.Author.Needs.{needs}
-use Rattle.octets.specs.Search.{found, lowest}
-use Rattle.octets.specs.SearchLaws.{lowest-start}
+use Rattle.rules.specs.Search.{found, lowest}
+use Rattle.rules.specs.SearchLaws.{lowest-start}
 use Rattle.booking.specs.Gather.{overlapsAt, roomAt}
 use Rattle.booking.specs.Room.{isMissing}
 use Rattle.booking.specs.RoomLaws.{place-ends}

@@ -4,7 +4,7 @@ use lib.ListN.{length}
 use denote.Ref.{now}
 use borrow.Author.Tests.{not-true, not-false}
 use borrow.Author.Needs.{needs}
-use Rattle.entries.specs.SizesLaws.{lent-size, entry-place}
+use Rattle.sizes.specs.SizesLaws.{lent-size, entry-place}
 use Rattle.build.proofs.Answers.{Passed, KeptHere, kept-here, size-refused, stray-refused, place-refused, entry-refused, output-short, record-answered}
 use Rattle.build.proofs.building.build.Statement.{statement}
 use Rattle.build.proofs.building.build.Tie as tie

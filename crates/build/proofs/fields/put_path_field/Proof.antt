@@ -2,8 +2,8 @@ use native.Mathlib.Omega.{arith}
 use denote.Ref.{now}
 use borrow.Author.Needs.{needs}
 use Rattle.merkle.specs.Tree.{nodeAt}
-use Rattle.paths.specs.NodeSource.{siblings}
-use Rattle.paths.specs.NodeSourceLaws.{run-path-length}
+use Rattle.paths.specs.Siblings.{siblings}
+use Rattle.paths.specs.SiblingsLaws.{run-path-length}
 use Rattle.build.proofs.Written.{field-written}
 use Rattle.build.proofs.fields.put_path_field.Statement.{statement}
 use Rattle.build.proofs.fields.put_path_field.Tie as tie

@@ -5,7 +5,7 @@ use borrow.Author.Tests.{eq-eqb, ne-eqb, not-true, not-false}
 use borrow.Author.Needs.{needs}
 use Rattle.octets.specs.Splice.{part}
 use Rattle.octets.specs.SpliceLaws.{part-whole}
-use Rattle.merkle.specs.StrayBits.{clearNode}
+use Rattle.stray.specs.StrayBits.{clearNode}
 use Rattle.entries.specs.Entry.{madeEntry}
 use Rattle.entries.proofs.OneNode.{one-node}
 use Rattle.entries.proofs.entry.make_entry.Statement.{statement}

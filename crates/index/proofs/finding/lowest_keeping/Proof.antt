@@ -6,10 +6,10 @@ use native.Mathlib.Omega.{arith}
 use lib.ListN.{length}
 use denote.Ref.{now}
 use borrow.Author.Needs.{needs}
-use Rattle.octets.specs.Search.{lowest}
-use Rattle.octets.specs.SearchLaws.{lowest-start, lowest-here, lowest-next, lowest-over}
-use Rattle.entries.specs.Sizes.{slotPlace}
-use Rattle.entries.specs.SizesLaws.{lent-size, slot-allowed, entry-place}
+use Rattle.rules.specs.Search.{lowest}
+use Rattle.rules.specs.SearchLaws.{lowest-start, lowest-here, lowest-next, lowest-over}
+use Rattle.sizes.specs.Sizes.{slotPlace}
+use Rattle.sizes.specs.SizesLaws.{lent-size, slot-allowed, entry-place}
 use Rattle.index.specs.Find.{keepsCommitment, lowestKeeping, foundIn}
 use Rattle.index.proofs.Keeping.{answer-keeps, answer-found}
 use Rattle.index.proofs.finding.lowest_keeping.Statement.{statement}

@@ -3,7 +3,7 @@ use lib.ListN.{length}
 use denote.Ref.{now}
 use borrow.Author.Tests.{not-true, not-false}
 use borrow.Author.Needs.{needs}
-use Rattle.entries.specs.SizesLaws.{lent-size, entry-place}
+use Rattle.sizes.specs.SizesLaws.{lent-size, entry-place}
 use Rattle.index.specs.Inspect.{inspected}
 use Rattle.index.proofs.inspecting.inspect.Statement.{statement}
 use Rattle.index.proofs.inspecting.inspect.Tie as tie

@@ -7,7 +7,7 @@ use denote.Ref.{now}
 use borrow.Author.Needs.{needs}
 use Rattle.octets.specs.Equality.{sameBytes}
 use Rattle.merkle.specs.Tree.{nodeAt}
-use Rattle.entries.specs.SizesLaws.{lent-size, segment-size}
+use Rattle.sizes.specs.SizesLaws.{lent-size, segment-size}
 use Rattle.index.proofs.SegmentNode.{level-low, level-high, node-within}
 use Rattle.index.proofs.slots.segment_has.Statement.{statement}
 use Rattle.index.proofs.slots.segment_has.Tie as tie

@@ -6,7 +6,7 @@ use denote.Ref.{now}
 use borrow.Author.Tests.{not-true, not-false}
 use borrow.Author.Needs.{needs}
 use Rattle.octets.specs.SpliceLaws.{part-range}
-use Rattle.entries.specs.SizesLaws.{lent-size}
+use Rattle.sizes.specs.SizesLaws.{lent-size}
 use Rattle.index.specs.Slots.{rowOf, standingOf}
 use Rattle.index.proofs.ValidKind.{is-valid, not-valid}
 use Rattle.index.proofs.SlotAnswers.{row-not-valid, row-size-refused, row-offset-refused, row-stands}

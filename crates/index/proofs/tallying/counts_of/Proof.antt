@@ -5,8 +5,8 @@ use native.Mathlib.Omega.{arith}
 use lib.ListN.{length}
 use denote.Ref.{now}
 use borrow.Author.Needs.{needs}
-use Rattle.entries.specs.Sizes.{slotPlace}
-use Rattle.entries.specs.SizesLaws.{lent-size, slot-allowed, entry-place}
+use Rattle.sizes.specs.Sizes.{slotPlace}
+use Rattle.sizes.specs.SizesLaws.{lent-size, slot-allowed, entry-place}
 use Rattle.entries.specs.Entry.{kindOf}
 use Rattle.entries.specs.declared.EntryKind.{EntryKind}
 use Rattle.index.specs.Slots.{slotAt}

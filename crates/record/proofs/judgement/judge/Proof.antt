@@ -6,11 +6,11 @@ use native.Mathlib.Omega.{arith}
 use mathlib.Core.List.{List}
 use lib.ListN.{length, drop}
 use denote.Ref.{now}
-use Rattle.octets.specs.Refusals.{Rule, firstRefusal}
+use Rattle.rules.specs.Refusals.{Rule, firstRefusal}
 use Rattle.octets.specs.Equality.{sameBytes}
 use Rattle.node.specs.Node.{nodeHash}
-use Rattle.entries.specs.Sizes.{segmentSizeAllowed, segmentPathLevels, entryPathLevels}
-use Rattle.entries.specs.SizesLaws.{deal-size, segment-size}
+use Rattle.sizes.specs.Sizes.{segmentSizeAllowed, segmentPathLevels, entryPathLevels}
+use Rattle.sizes.specs.SizesLaws.{deal-size, segment-size}
 use Rattle.record.specs.Form.{Fields, fields, parsed}
 use Rattle.record.specs.Check.{dealTerms, segmentPathRoot, entryPathRoot, judgement}
 use Rattle.record.proofs.Tests.{passed, failed, clear, stray, sized, leads}

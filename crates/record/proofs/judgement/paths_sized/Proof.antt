@@ -1,7 +1,7 @@
 -- Both lengths against the levels of the deal and of the segment.
 use native.Mathlib.Omega.{arith}
 use borrow.Author.Tests.{eq-eqb, ne-eqb}
-use Rattle.entries.specs.SizesLaws.{DealSize, deal-size, SegmentSize, segment-size}
+use Rattle.sizes.specs.SizesLaws.{DealSize, deal-size, SegmentSize, segment-size}
 use borrow.Author.Needs.{needs}
 use Rattle.record.proofs.judgement.paths_sized.Statement.{statement}
 use Rattle.record.proofs.judgement.paths_sized.Tie as tie

@@ -5,7 +5,7 @@ use mathlib.Core.List.{List}
 use lib.ListN.{length}
 use denote.Ref.{now}
 use Rattle.octets.specs.Bytes.{bytes-of-slice}
-use Rattle.entries.specs.Sizes.{segmentPosition, entryPosition}
+use Rattle.sizes.specs.Sizes.{segmentPosition, entryPosition}
 use Rattle.record.specs.Check.{entryFor}
 use Rattle.settle.specs.FieldsOf.{fieldsOf}
 use Rattle.settle.specs.Comparing.{entriesCompared, segmentsCompared}

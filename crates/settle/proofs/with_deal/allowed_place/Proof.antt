@@ -3,8 +3,8 @@ use mathlib.Core.Path.{sym, ap, _∙_}
 use mathlib.Core.Bool.{true≢false}
 use Prim.Native.Nat.{_≤_, _<_}
 use native.Mathlib.Omega.{arith}
-use Rattle.entries.specs.Sizes.{entryCount, placeAllowed}
-use Rattle.entries.specs.SizesLaws.{DealSize, deal-size, index-area, slot-allowed}
+use Rattle.sizes.specs.Sizes.{entryCount, placeAllowed}
+use Rattle.sizes.specs.SizesLaws.{DealSize, deal-size, index-area, slot-allowed}
 use borrow.Author.Needs.{needs}
 use Rattle.settle.proofs.with_deal.allowed_place.Statement.{statement}
 use Rattle.settle.proofs.with_deal.allowed_place.Tie as tie

@@ -6,9 +6,10 @@ use mathlib.Core.List.{List}
 use lib.ListN.{length, take}
 use denote.Ref.{now}
 use Rattle.merkle.specs.Tree.{nodeAt}
-use Rattle.paths.specs.NodeSource.{siblings}
-use Rattle.entries.specs.Sizes.{area, segmentLevel, segmentPosition}
-use Rattle.build.specs.Build.{lentDeal, segmentPathOf}
+use Rattle.paths.specs.Siblings.{siblings}
+use Rattle.sizes.specs.Sizes.{area, segmentLevel, segmentPosition}
+use Rattle.lent.specs.LentDeal.{lentDeal}
+use Rattle.build.specs.Build.{segmentPathOf}
 use Rattle.build.specs.BuildLaws.{InDeal}
 use Rattle.settle.specs.FieldsOf.{fieldsOf}
 use Rattle.settle.specs.Comparing.{segmentsCompared}

@@ -9,12 +9,13 @@ use lib.ListN.{length, take}
 use denote.Ref.{now}
 use borrow.Author.Tests.{not-true, not-false}
 use Rattle.merkle.specs.Tree.{nodeAt}
-use Rattle.merkle.specs.StrayBits.{noStrayBits}
-use Rattle.paths.specs.NodeSource.{siblings}
-use Rattle.entries.specs.Sizes.{lentSizeAllowed, entryPosition}
-use Rattle.entries.specs.SizesLaws.{lent-size}
+use Rattle.stray.specs.StrayBits.{noStrayBits}
+use Rattle.paths.specs.Siblings.{siblings}
+use Rattle.sizes.specs.Sizes.{lentSizeAllowed, entryPosition}
+use Rattle.sizes.specs.SizesLaws.{lent-size}
 use Rattle.record.specs.Check.{dealTerms, checkOf}
-use Rattle.build.specs.Build.{lentDeal, termsOf, entryPathOf}
+use Rattle.lent.specs.LentDeal.{lentDeal}
+use Rattle.build.specs.Build.{termsOf, entryPathOf}
 use Rattle.settle.specs.FieldsOf.{fieldsOf}
 use Rattle.settle.proofs.OwnPath.{OwnPath, path-room, path-written, written-length, written-fits}
 use Rattle.settle.proofs.OwnEntryPath.{entry-path}

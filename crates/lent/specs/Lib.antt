@@ -1,0 +1,2 @@
+pub mod LentDeal
+pub mod LentDealLaws

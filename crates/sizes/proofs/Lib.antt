@@ -1,0 +1,2 @@
+pub mod OffsetTest
+pub mod Doubling

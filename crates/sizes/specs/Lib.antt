@@ -1,0 +1,4 @@
+pub mod Sizes
+pub mod SizesLaws
+pub mod AreaLaws
+pub mod Numbers

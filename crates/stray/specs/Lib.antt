@@ -1,0 +1,2 @@
+pub mod StrayBits
+pub mod StrayBitsLaws
