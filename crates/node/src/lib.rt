@@ -1,6 +1,7 @@
 // The node hash: SHA-256 of the 64 bytes of two nodes, with the two high bits of its last byte cleared.
 mod padding_block; // padding_block.rt: the second block, which is always the same
 
+pub use padding_block::padding_sums;
 use sha256::INITIAL;
 use sha256::block_at;
 use sha256::compress;

@@ -2,11 +2,14 @@
 use sha256::round;
 use sha256::sums;
 ghost use mathlib.Core.Path.{_≡_};
+ghost use mathlib.Core.List.{[]};
+ghost use Prim.Native.Nat.{_*_, _<_};
+ghost use lib.ListN.{take, drop};
 ghost use Rattle.sha256.specs.Fips as F;
-ghost use Rattle.node.specs.PaddingBlock.{paddingBlock};
+ghost use Rattle.node.specs.PaddingBlock.{paddingBlock, paddingSums};
 
-// The words of its schedule, with the constants added to them.
-const PADDING_SUMS: [u32; 64] = [
+// The words of its schedule, with the constants added to them: words 0 to 15 and so on.
+const SUMS_0: [u32; 16] = [
     0xc28a2f98,
     0x71374491,
     0xb5c0fbcf,
@@ -23,6 +26,9 @@ const PADDING_SUMS: [u32; 64] = [
     0x80deb1fe,
     0x9bdc06a7,
     0xc19bf374,
+];
+
+const SUMS_16: [u32; 16] = [
     0x649b69c1,
     0xf0fe4786,
     0x0fe1edc6,
@@ -39,6 +45,9 @@ const PADDING_SUMS: [u32; 64] = [
     0xe70eeaa0,
     0xfdb1232b,
     0xc7353eb0,
+];
+
+const SUMS_32: [u32; 16] = [
     0x3069bad5,
     0xcb976d5f,
     0x5a0f118f,
@@ -55,6 +64,9 @@ const PADDING_SUMS: [u32; 64] = [
     0x0d8cd6f1,
     0xcdaa3b6d,
     0xc0bbbe37,
+];
+
+const SUMS_48: [u32; 16] = [
     0x83613bda,
     0xdb48a363,
     0x0b02e931,
@@ -73,23 +85,51 @@ const PADDING_SUMS: [u32; 64] = [
     0x4c191d76,
 ];
 
-// The hash value after this block, eight rounds a turn.
+// Those of the rounds 16 * turn to 16 * turn + 15, by cases, as sha256::constants.
+pub fn padding_sums(turn: usize) -> [u32; 16]
+    requires { ⌜ turn < 4 ⌝ }
+    ensures { λ r. ⌜ r ≡ take 16 (drop (16 * turn) paddingSums) ⌝ }
+{
+    match turn {
+        0 => SUMS_0,
+        1 => SUMS_16,
+        2 => SUMS_32,
+        _ => SUMS_48,
+    }
+}
+
+// Sixteen rounds with the sums as constants and no words.
+fn sixteen_rounds(s: [u32; 8], k: [u32; 16]) -> [u32; 8]
+    ensures { λ r. ⌜ r ≡ F.rounds k [] s 16 ⌝ }
+{
+    let s1 = round(s, k[0], 0);
+    let s2 = round(s1, k[1], 0);
+    let s3 = round(s2, k[2], 0);
+    let s4 = round(s3, k[3], 0);
+    let s5 = round(s4, k[4], 0);
+    let s6 = round(s5, k[5], 0);
+    let s7 = round(s6, k[6], 0);
+    let s8 = round(s7, k[7], 0);
+    let s9 = round(s8, k[8], 0);
+    let s10 = round(s9, k[9], 0);
+    let s11 = round(s10, k[10], 0);
+    let s12 = round(s11, k[11], 0);
+    let s13 = round(s12, k[12], 0);
+    let s14 = round(s13, k[13], 0);
+    let s15 = round(s14, k[14], 0);
+    round(s15, k[15], 0)
+}
+
+// The hash value after this block.
 pub fn finish(hash: [u32; 8]) -> [u32; 8]
     ensures { λ r. ⌜ r ≡ F.compress hash paddingBlock ⌝ }
 {
-    let k = PADDING_SUMS;
     let mut s = hash;
-    let mut t = 0;
-    while t < 64 {
-        let s1 = round(s, k[t], 0);
-        let s2 = round(s1, k[t + 1], 0);
-        let s3 = round(s2, k[t + 2], 0);
-        let s4 = round(s3, k[t + 3], 0);
-        let s5 = round(s4, k[t + 4], 0);
-        let s6 = round(s5, k[t + 5], 0);
-        let s7 = round(s6, k[t + 6], 0);
-        s = round(s7, k[t + 7], 0);
-        t += 8;
+    let mut turn = 0;
+    while turn < 4 {
+        let after = sixteen_rounds(s, padding_sums(turn));
+        s = after;
+        turn += 1;
     }
     sums(hash, s)
 }
