@@ -14,7 +14,8 @@ returns c =
     let start = c .before .before .before in
     let a = start .args in
     λ x held.
-    held-above (a .nodes) (left .result) (right .result) (c .hash-nodes .result) (a .count) x (start .pre) (left .ensures) (right .ensures)
+    held-above (a .nodes) (left .result) (right .result) (c .hash-nodes .result) (a .count) x (start .pre)
+    (left .ensures) (right .ensures)
     (c .hash-nodes .ensures) held
 
 pub level-above-spec : {M : Type 1} → statement M

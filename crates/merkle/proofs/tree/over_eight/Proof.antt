@@ -25,7 +25,8 @@ returns c =
     λ x held.
     let bytes : (l : ℕ) → l < 4 → digest (lane 8 (four .result) l) ≡ pairsOf x l
     = λ l b.
-    held-pair (four .result) (x (2 * l)) (x (2 * l + 1)) l (held (2 * l) (omega arith) .sized) (held (2 * l + 1) (omega arith) .sized)
+    held-pair (four .result) (x (2 * l)) (x (2 * l + 1)) l (held (2 * l) (omega arith) .sized)
+    (held (2 * l + 1) (omega arith) .sized)
     (four .ensures x held l b) in
     c .node-hash3 .ensures
     ∙ ap nodeHash
@@ -34,11 +35,13 @@ returns c =
     (hashed .before .node-hash .ensures
     ∙ ap nodeHash
     (left .join .ensures
-    ∙ ap₂ _++_ (left .before .before .node-of-lane .ensures ∙ bytes 0 (omega arith)) (left .before .node-of-lane2 .ensures ∙ bytes 1 (omega arith))))
+    ∙ ap₂ _++_ (left .before .before .node-of-lane .ensures ∙ bytes 0 (omega arith))
+    (left .before .node-of-lane2 .ensures ∙ bytes 1 (omega arith))))
     (hashed .node-hash2 .ensures
     ∙ ap nodeHash
     (right .join2 .ensures
-    ∙ ap₂ _++_ (right .before .before .node-of-lane3 .ensures ∙ bytes 2 (omega arith)) (right .before .node-of-lane4 .ensures ∙ bytes 3 (omega arith)))))
+    ∙ ap₂ _++_ (right .before .before .node-of-lane3 .ensures ∙ bytes 2 (omega arith))
+    (right .before .node-of-lane4 .ensures ∙ bytes 3 (omega arith)))))
     ∙ over-eight x
 
 pub over-eight-spec : {M : Type 1} → statement M

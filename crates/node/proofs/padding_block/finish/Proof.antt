@@ -1,4 +1,5 @@
--- `finish`: after some turns the working variables are those after sixteen rounds for each, with the sums as constants and no schedule.
+-- `finish`: after some turns the working variables are those after sixteen rounds for each, with the sums as constants
+-- and no schedule.
 use mathlib.Core.Path.{_≡_, refl, ap, _∙_}
 use Prim.Native.Nat.{_-_, _*_, _≤_}
 use mathlib.Core.List.{[]}
@@ -25,7 +26,8 @@ loop-again : tie.Need-loop-again Inv-loop μ-loop
 loop-again c =
     let l = c .before .before .before .loop in (
       omega arith,
-      rounds-turn paddingSums [] _ (l .s) _ [] _ (l .turn) (l .inv .1) (c .before .padding-sums .ensures) (λ i b. refl) (c .sixteen-rounds .ensures),
+      rounds-turn paddingSums [] _ (l .s) _ [] _ (l .turn) (l .inv .1) (c .before .padding-sums .ensures) (λ i b. refl)
+          (c .sixteen-rounds .ensures),
     )
 
 returns : tie.Need-returns Inv-loop μ-loop
