@@ -1,5 +1,4 @@
 -- `level_above`: the left nodes, the right nodes, and the nodes over them.
-use native.Mathlib.Omega.{arith}
 use Rattle.merkle.proofs.Parts.{held-above}
 use borrow.Author.Needs.{needs}
 use Rattle.merkle.proofs.tree.level_above.Statement.{statement}
