@@ -19,10 +19,9 @@ use Rattle.entries.specs.Entry.{commitmentIn, offsetIn, sizeIn}
 use Rattle.sizes.specs.Sizes.{area, slotPlace, segmentLevel, segmentPosition}
 use Rattle.sizes.specs.SizesLaws.{DealSize, segment-size, segment-place}
 use Rattle.index.specs.KeptLaws.{row-stands, kept-stands, segment-node}
-use Rattle.index.specs.Slots.{slotAt, standing, kept, rowAt}
+use Rattle.index.specs.Slots.{slotAt, standing, kept, rowAt, rowOffset, rowArea}
 use Rattle.index.specs.SlotsLaws.{Stands, stands, keeps}
 use Rattle.booking.specs.Booking.{areaBytes, keepsSegment, segmentCommitment}
-use Rattle.booking.specs.Gather.{rowOffset, rowArea}
 use Rattle.booking.specs.GatherLaws.{row-some}
 
 module _ (deal segment : List ℕ) (i : ℕ) where

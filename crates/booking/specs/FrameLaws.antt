@@ -1,7 +1,7 @@
 -- What booking writes, and that nothing else changes: the segment's area, its slot, and their consequences for rows, kept entries and stray bits.
 -- (document 01, "Booking, finding, building, settling": the segment and its entry are written; no other byte changes)
 use mathlib.Core.Path.{_≡_, refl, sym, ap, ap₂, _∙_, subst}
-use mathlib.Core.Bool.{Bool, true, false, _&&_}
+use mathlib.Core.Bool.{Bool, true, false, _&&_, true≢false}
 use mathlib.Core.Logic.{_≢_, ⊎-elim}
 use Prim.Native.Nat.{ℕ, _+_, _*_, _/_, _%_, _^_, _≤_, _<_}
 use native.Mathlib.Nat.{add-zero}
@@ -27,7 +27,8 @@ use Rattle.sizes.specs.SizesLaws.{DealSize, SegmentSize, SegmentPlace, segment-
 use Rattle.entries.specs.Entry.{entryOf, commitmentIn, offsetIn, sizeIn}
 use Rattle.entries.specs.EntryLaws.{entry-length, offset-back, size-back}
 use Rattle.entries.specs.MadeLaws.{made-bytes, made-clear}
-use Rattle.index.specs.Slots.{slotAt, standing, kept, free, holds, rowOf, rowAt}
+use Rattle.index.specs.Slots.{slotAt, standing, kept, holds, rowOf, rowAt}
+use Rattle.index.specs.declared.Row.{Row}
 use Rattle.index.specs.SlotsLaws.{Stands, stands, made-kept, made-row}
 use Rattle.index.specs.KeptLaws.{row-stands, kept-stands, kept-cong, segment-node}
 use Rattle.booking.specs.Room.{overlap, rowOverlaps}
@@ -226,10 +227,9 @@ module _ (deal segment : List ℕ) (i o : ℕ) (e : decision deal segment ≡ pl
     -- slot i was free, so it held no standing entry
     pub stands-elsewhere : j ≢ i
     stands-elsewhere same =
-        let f : rowAt deal i ≡ free = free-row (rowAt deal i) (facts .free-slot .passes) in
+        let f : rowAt deal i .stands ≡ false = free-row (rowAt deal i) (facts .free-slot .passes) in
         let r : rowAt deal j ≡ holds (commitmentIn (slotAt deal j)) (offsetIn (slotAt deal j)) (sizeIn (slotAt deal j)) = row-stands (length deal) (slotAt deal j) s in
-        let z : _≡_ {A = ℕ} 0 1 = cc (ap (rowAt deal) same) in
-        omega arith
+        true≢false (ap (λ (x : Row). x .stands) (sym r ∙ ap (rowAt deal) same) ∙ f)
 
   -- the new entry is kept; of every other slot it is the same whether it keeps its entry
   pub kept-written : kept (nodeAt (bookedDeal deal segment)) (length (bookedDeal deal segment)) (slotAt (bookedDeal deal segment) i) ≡ true

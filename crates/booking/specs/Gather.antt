@@ -7,19 +7,10 @@ use Prim.Native.Nat.{ℕ, _+_, _*_, _≤_, _<_}
 use lib.ListN.{getD}
 use lib.Dec.{eqb}
 use Rattle.rules.specs.Search.{Found, found, missing, lowest}
-use Rattle.sizes.specs.Sizes.{area}
-use Rattle.index.specs.Slots.{Row, free, holds}
+use Rattle.index.specs.Slots.{rowOffset, rowArea}
+use Rattle.index.specs.declared.Row.{Row}
 use Rattle.booking.specs.Room.{overlap, isMissing}
 use Rattle.booking.specs.declared.Lowest.{Lowest}
-
--- where a row's bytes start, and how many they are: none for a free row
-abbrev pub rowOffset : Row → ℕ
-rowOffset free = 0
-rowOffset (holds commitment offset size) = offset
-
-abbrev pub rowArea : Row → ℕ
-rowArea free = 0
-rowArea (holds commitment offset size) = area size
 
 -- two lists that hold the ranges of the first rows
 pub record Gathered (rows : ℕ → Row) (slots : ℕ) (offsets areas : List ℕ) : Type 0 where

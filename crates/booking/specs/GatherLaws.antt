@@ -1,27 +1,36 @@
 -- Searches over gathered ranges are searches over the rows that they were gathered from.
 use mathlib.Core.Path.{_≡_, refl, sym, ap, ap₂, _∙_}
-use mathlib.Core.Bool.{Bool, true, false}
+use mathlib.Core.Bool.{Bool, true, false, _&&_}
 use mathlib.Core.List.{List}
 use Prim.Native.Nat.{ℕ, _+_, _*_, _/_, _≤_, _<_}
 use native.Mathlib.Omega.{arith}
 use lib.Dec.{eqb}
 use borrow.Author.Tests.{le-ltb, ne-eqb}
+use Rattle.rules.specs.Choice.{choose}
 use Rattle.rules.specs.Search.{lowest}
 use Rattle.rules.specs.SearchLaws.{lowest-cong}
 use Rattle.entries.specs.Entry.{offsetIn, sizeIn}
 use Rattle.sizes.specs.Sizes.{lentSizeAllowed, area, entryCount, indexStart, slotPlace}
 use Rattle.sizes.specs.SizesLaws.{DealSize, lent-size, segment-size, segment-place, slot-allowed, entry-place}
 use Rattle.index.specs.KeptLaws.{row-stands, row-free}
-use Rattle.index.specs.Slots.{Row, free, holds, standing, rowOf}
+use Rattle.index.specs.Slots.{standing, rowOf, rowOffset, rowArea}
+use Rattle.index.specs.declared.Row.{Row}
 use Rattle.index.specs.SlotsLaws.{stands}
-use Rattle.booking.specs.Gather.{rowOffset, rowArea, Gathered, EndBy, emptyAt, overlapsAt, roomAt}
+use Rattle.booking.specs.Gather.{Gathered, EndBy, emptyAt, overlapsAt, roomAt}
 use Rattle.booking.specs.Room.{overlap, rowOverlaps, isFree, isMissing, lowestFreeSlot, lowestPlace}
 
 -- a free row has no bytes, and so overlaps nothing
-pub row-overlaps : (o n : ℕ) (row : Row) → rowOverlaps o n row ≡ overlap o n (rowOffset row) (rowArea row)
+nothing-overlaps : (o n : ℕ) → false ≡ overlap o n 0 0
 unfolding overlap
-row-overlaps o n free = rw (le-ltb o 0 (omega arith))
-row-overlaps o n (holds commitment offset size) = refl
+nothing-overlaps o n = rw (le-ltb o 0 (omega arith))
+
+pub row-overlaps : (o n : ℕ) (row : Row) → rowOverlaps o n row ≡ overlap o n (rowOffset row) (rowArea row)
+row-overlaps o n row = by-test (row .stands)
+  where
+    by-test : (b : Bool)
+        → (b && overlap o n (row .offset) (area (row .size))) ≡ overlap o n (choose b (row .offset) 0) (choose b (area (row .size)) 0)
+    by-test true = refl
+    by-test false = nothing-overlaps o n
 
 -- a row of a deal
 module _ (d : ℕ) (entry : List ℕ) (t : DealSize d) where

@@ -1,10 +1,10 @@
 -- Free slots and free places of a deal, as functions of its rows alone (document 01, "Booking, finding, building, settling": book).
-use mathlib.Core.Bool.{Bool, true, false, _&&_}
+use mathlib.Core.Bool.{Bool, true, false, _&&_, not}
 use Prim.Native.Nat.{ℕ, _+_, _*_, _/_}
 use lib.Dec.{ltb}
 use Rattle.rules.specs.Search.{Found, found, missing, lowest}
 use Rattle.sizes.specs.Sizes.{area}
-use Rattle.index.specs.Slots.{Row, free, holds}
+use Rattle.index.specs.declared.Row.{Row}
 
 -- the n bytes from o and the m bytes from p have a byte in common
 unfoldable pub overlap : ℕ → ℕ → ℕ → ℕ → Bool
@@ -12,12 +12,10 @@ overlap o n p m = ltb o (p + m) && ltb p (o + n)
 
 -- a standing entry's bytes overlap the n bytes from o
 abbrev pub rowOverlaps : ℕ → ℕ → Row → Bool
-rowOverlaps o n free = false
-rowOverlaps o n (holds commitment offset size) = overlap o n offset (area size)
+rowOverlaps o n row = row .stands && overlap o n (row .offset) (area (row .size))
 
 abbrev pub isFree : Row → Bool
-isFree free = true
-isFree (holds commitment offset size) = false
+isFree row = not (row .stands)
 
 abbrev pub isMissing : Found → Bool
 isMissing (found i) = false

@@ -1,6 +1,6 @@
 -- Overlap as facts on numbers, and what the searches for a free slot and a free place say: over rows alone.
 use mathlib.Core.Path.{_≡_, refl, sym, ap, _∙_}
-use mathlib.Core.Bool.{Bool, true, false, and-comm, true≢false, false≢true}
+use mathlib.Core.Bool.{Bool, true, false, not, and-comm, true≢false, false≢true}
 use mathlib.Core.Logic.{_↔_, _⊎_, inl, inr, ⊎-elim}
 use mathlib.Core.List.{List}
 use Prim.Native.Nat.{ℕ, suc, _+_, _-_, _*_, _/_, _%_, _^_, _≤_, _<_}
@@ -14,7 +14,8 @@ use Rattle.rules.specs.RefusalLaws.{and-left, and-right, not-passed}
 use Rattle.rules.specs.Search.{Found, found, missing, lowest}
 use Rattle.rules.specs.SearchLaws.{lowest-found, lowest-missing, lowest-is, lowest-none, lowest-skip}
 use Rattle.sizes.specs.Sizes.{area}
-use Rattle.index.specs.Slots.{Row, free, holds}
+use Rattle.index.specs.Slots.{holds}
+use Rattle.index.specs.declared.Row.{Row}
 use Rattle.booking.specs.Room.{overlap, rowOverlaps, isFree, isMissing, fits, lowestPlace}
 
 -- the n bytes from o and the m bytes from p overlap exactly if each starts before the other ends
@@ -85,10 +86,13 @@ overlap-jump n p m k j e h g =
     let t = overlap-true (k * n) n p m .0 e in
     overlap-true (j * n) n p m .1 (g, omega (arith, mul-le-mul-right n h, t .1))
 
--- a row that holds nothing is free
-pub free-row : (r : Row) → isFree r ≡ true → r ≡ free
-free-row free e = refl
-free-row (holds commitment offset size) e = absurd (false≢true e)
+-- in a free row nothing stands
+pub free-row : (r : Row) → isFree r ≡ true → r .stands ≡ false
+free-row r e = by-test (r .stands) e
+  where
+    by-test : (b : Bool) → not b ≡ true → b ≡ false
+    by-test true e = absurd (false≢true e)
+    by-test false e = refl
 
 missing-is : (f : Found) → isMissing f ≡ true → f ≡ missing
 missing-is (found k) e = absurd (false≢true e)

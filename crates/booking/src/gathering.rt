@@ -1,6 +1,6 @@
 // The standing entries of a lent deal, each slot read and judged once.
 use crate::Ranges;
-use index::Standing;
+use index::Row;
 ghost use mathlib.Core.Path.{_≡_};
 ghost use mathlib.Core.Bool.{true};
 ghost use lib.ListN.{length};
@@ -10,7 +10,7 @@ ghost use Rattle.index.specs.Slots.{rowAt};
 ghost use Rattle.booking.specs.Gather.{Gathered};
 
 // How many bytes the segment of a standing entry takes up; 0 where nothing stands.
-fn area_of(entry: Standing) -> u64
+fn area_of(entry: Row) -> u64
     ensures { λ r. ⌜ r ≡ choose (entry .stands) (area (entry .size)) 0 ⌝ }
 {
     if entry.stands {

@@ -5,14 +5,14 @@ use mathlib.Core.List.{List}
 use Prim.Native.Nat.{ℕ}
 use Rattle.rules.specs.Choice.{choose}
 use Rattle.merkle.specs.NodeSource.{NodeSource}
-use Rattle.index.specs.Slots.{kept, rowOf, standingOf}
+use Rattle.index.specs.Slots.{kept, rowOf}
 use Rattle.index.specs.SlotsLaws.{answer-stands, answer-free}
 use Rattle.index.specs.Inspect.{nothingStands, slotHolds}
-use Rattle.index.specs.declared.Standing.{Standing}
+use Rattle.index.specs.declared.Row.{Row}
 use Rattle.index.specs.declared.SlotState.{SlotState}
 use Rattle.index.proofs.SlotAnswers.{nodeTest, kept-test}
 
-module _ (nodes : NodeSource) (d : ℕ) (entry : List ℕ) (answer : Standing) (e : answer ≡ standingOf (rowOf d entry)) where
+module _ (nodes : NodeSource) (d : ℕ) (entry : List ℕ) (answer : Row) (e : answer ≡ rowOf d entry) where
   pub state-free : answer .stands ≡ false → nothingStands 0 ≡ slotHolds nodes d entry
   unfolding slotHolds
   state-free h = rw (answer-free d entry answer e h)

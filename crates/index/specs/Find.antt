@@ -13,7 +13,8 @@ use Rattle.merkle.specs.Tree.{nodeAt}
 use Rattle.stray.specs.StrayBits.{noStrayBits}
 use Rattle.sizes.specs.Sizes.{lentSizeAllowed, entryCount, slotPlace}
 use Rattle.entries.specs.Entry.{commitmentIn, offsetIn, sizeIn}
-use Rattle.index.specs.Slots.{entryAt, slotAt, kept, Row, free, keptRow}
+use Rattle.index.specs.Slots.{entryAt, slotAt, kept, free, keptRow}
+use Rattle.index.specs.declared.Row.{Row}
 use Rattle.index.specs.declared.FoundSegment.{FoundSegment}
 
 -- slot i holds a kept entry with this commitment

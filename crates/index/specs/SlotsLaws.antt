@@ -21,8 +21,8 @@ use Rattle.sizes.specs.SizesLaws.{DealSize, segment-size}
 use Rattle.entries.specs.EntryLaws.{made-right, commitment-back, offset-back, size-back}
 use Rattle.entries.specs.KindLaws.{zero-size}
 use Rattle.entries.specs.declared.EntryKind.{EntryKind}
-use Rattle.index.specs.Slots.{standing, kept, free, holds, rowOf, keptRow, standingOf}
-use Rattle.index.specs.declared.Standing.{Standing}
+use Rattle.index.specs.Slots.{standing, kept, free, holds, rowOf, keptRow, rowOffset}
+use Rattle.index.specs.declared.Row.{Row}
 
 and-false : (b : Bool) → (b && false) ≡ false
 and-false true = refl
@@ -116,18 +116,27 @@ pub zero-free : (d : ℕ) → standing d (replicate 64 0) ≡ false
 unfolding standing isKind kindOf allZero
 zero-free d = refl
 
--- an answer by the test that decides on its row
-module _ (commitment : List ℕ) (offset size : ℕ) (answer : Standing) where
-  answer-test : (t : Bool) → answer ≡ standingOf (choose t (holds commitment offset size) free) → answer .stands ≡ t
-  answer-test true e = ap (λ (a : Standing). a .stands) e
-  answer-test false e = ap (λ (a : Standing). a .stands) e
+-- the offset of a row, which is 0 where nothing stands
+pub row-offset : (d : ℕ) (entry : List ℕ) → rowOf d entry .offset ≡ rowOffset (rowOf d entry)
+unfolding rowOf
+row-offset d entry = by-test (standing d entry)
+  where
+    by-test : (b : Bool) → let row = choose b (holds (commitmentIn entry) (offsetIn entry) (sizeIn entry)) free in row .offset ≡ rowOffset row
+    by-test true = refl
+    by-test false = refl
 
-  answer-row : (t : Bool) → answer ≡ standingOf (choose t (holds commitment offset size) free) → t ≡ true → answer ≡ standingOf (holds commitment offset size)
+-- an answer by the test that decides on its row
+module _ (commitment : List ℕ) (offset size : ℕ) (answer : Row) where
+  answer-test : (t : Bool) → answer ≡ choose t (holds commitment offset size) free → answer .stands ≡ t
+  answer-test true e = ap (λ (a : Row). a .stands) e
+  answer-test false e = ap (λ (a : Row). a .stands) e
+
+  answer-row : (t : Bool) → answer ≡ choose t (holds commitment offset size) free → t ≡ true → answer ≡ holds commitment offset size
   answer-row true e h = e
   answer-row false e h = absurd (true≢false (sym h))
 
 -- an answer that stands: what it says of the entry that it was read from, and its bounds
-pub record StandsAs (d : ℕ) (entry : List ℕ) (answer : Standing) : Type 0 where
+pub record StandsAs (d : ℕ) (entry : List ℕ) (answer : Row) : Type 0 where
   pub is-standing : standing d entry ≡ true
   pub commitment-is : answer .commitment ≡ commitmentIn entry
   pub offset-is : answer .offset ≡ offsetIn entry
@@ -135,38 +144,38 @@ pub record StandsAs (d : ℕ) (entry : List ℕ) (answer : Standing) : Type 0 wh
   pub size-allowed : segmentSizeAllowed d (answer .size) ≡ true
   pub offset-allowed : offsetAllowed d (answer .offset) (answer .size) ≡ true
 
-module _ (d : ℕ) (entry : List ℕ) (answer : Standing) where
-  stands-as : standing d entry ≡ true → answer ≡ standingOf (holds (commitmentIn entry) (offsetIn entry) (sizeIn entry)) → StandsAs d entry answer
+module _ (d : ℕ) (entry : List ℕ) (answer : Row) where
+  stands-as : standing d entry ≡ true → answer ≡ holds (commitmentIn entry) (offsetIn entry) (sizeIn entry) → StandsAs d entry answer
   stands-as t e =
       let s = stands d entry t in
-      let o : answer .offset ≡ offsetIn entry = ap (λ (a : Standing). a .offset) e in
-      let z : answer .size ≡ sizeIn entry = ap (λ (a : Standing). a .size) e in
+      let o : answer .offset ≡ offsetIn entry = ap (λ (a : Row). a .offset) e in
+      let z : answer .size ≡ sizeIn entry = ap (λ (a : Row). a .size) e in
       record {
         is-standing = t;
-        commitment-is = ap (λ (a : Standing). a .commitment) e;
+        commitment-is = ap (λ (a : Row). a .commitment) e;
         offset-is = o;
         size-is = z;
         size-allowed = ap (segmentSizeAllowed d) z ∙ s .size-allowed;
         offset-allowed = ap₂ (offsetAllowed d) o z ∙ s .offset-allowed;
       }
 
-  pub answer-stands : answer ≡ standingOf (rowOf d entry) → answer .stands ≡ true → StandsAs d entry answer
+  pub answer-stands : answer ≡ rowOf d entry → answer .stands ≡ true → StandsAs d entry answer
   unfolding rowOf
   answer-stands e h =
       let t : standing d entry ≡ true = sym (answer-test (commitmentIn entry) (offsetIn entry) (sizeIn entry) answer (standing d entry) e) ∙ h in
       stands-as t (answer-row (commitmentIn entry) (offsetIn entry) (sizeIn entry) answer (standing d entry) e t)
 
-  pub answer-free : answer ≡ standingOf (rowOf d entry) → answer .stands ≡ false → standing d entry ≡ false
+  pub answer-free : answer ≡ rowOf d entry → answer .stands ≡ false → standing d entry ≡ false
   unfolding rowOf
   answer-free e h = sym (answer-test (commitmentIn entry) (offsetIn entry) (sizeIn entry) answer (standing d entry) e) ∙ h
 
 -- the same for an answer about a kept entry
-pub record KeptAs (nodes : NodeSource) (d : ℕ) (entry : List ℕ) (answer : Standing) : Type 0 where
+pub record KeptAs (nodes : NodeSource) (d : ℕ) (entry : List ℕ) (answer : Row) : Type 0 where
   pub is-kept : kept nodes d entry ≡ true
   pub as-standing : StandsAs d entry answer
 
-module _ (nodes : NodeSource) (d : ℕ) (entry : List ℕ) (answer : Standing) where
-  pub answer-kept : answer ≡ standingOf (keptRow nodes d entry) → answer .stands ≡ true → KeptAs nodes d entry answer
+module _ (nodes : NodeSource) (d : ℕ) (entry : List ℕ) (answer : Row) where
+  pub answer-kept : answer ≡ keptRow nodes d entry → answer .stands ≡ true → KeptAs nodes d entry answer
   unfolding keptRow kept
   answer-kept e h =
       let t : kept nodes d entry ≡ true = sym (answer-test (commitmentIn entry) (offsetIn entry) (sizeIn entry) answer (kept nodes d entry) e) ∙ h in
@@ -175,6 +184,6 @@ module _ (nodes : NodeSource) (d : ℕ) (entry : List ℕ) (answer : Standing) w
         as-standing = stands-as d entry answer (and-left (standing d entry) _ t) (answer-row (commitmentIn entry) (offsetIn entry) (sizeIn entry) answer (kept nodes d entry) e t);
       }
 
-  pub answer-not-kept : answer ≡ standingOf (keptRow nodes d entry) → answer .stands ≡ false → kept nodes d entry ≡ false
+  pub answer-not-kept : answer ≡ keptRow nodes d entry → answer .stands ≡ false → kept nodes d entry ≡ false
   unfolding keptRow
   answer-not-kept e h = sym (answer-test (commitmentIn entry) (offsetIn entry) (sizeIn entry) answer (kept nodes d entry) e) ∙ h

@@ -1,7 +1,7 @@
 // Finding a segment of a lent deal by its commitment.
 use crate::FoundSegment;
-use crate::Standing;
-use crate::slots::free_slot;
+use crate::Row;
+use crate::slots::free_row;
 use crate::slots::segment_has;
 use crate::slots::standing_at;
 ghost use mathlib.Core.Path.{_≡_};
@@ -9,13 +9,12 @@ ghost use mathlib.Core.Bool.{true};
 ghost use Prim.Native.Nat.{_+_, _≤_};
 ghost use lib.ListN.{length};
 ghost use Rattle.sizes.specs.Sizes.{lentSizeAllowed};
-ghost use Rattle.index.specs.Slots.{standingOf};
 ghost use Rattle.index.specs.Find.{keepingRow, notFound, foundIn, lowestKeeping, findNumbers, findView};
 
 // The kept entry at a place of a lent deal, where it names this commitment. Only then are its segment's bytes hashed.
-fn keeping_at(deal: &[u8], place: usize, commitment: &[u8]) -> Standing
+fn keeping_at(deal: &[u8], place: usize, commitment: &[u8]) -> Row
     requires { ⌜ (lentSizeAllowed (length (now deal)) ≡ true) × (place + 64 ≤ length (now deal)) ⌝ }
-    ensures { λ r. ⌜ r ≡ standingOf (keepingRow (now (commitment .entry)) (now (deal .entry)) place) ⌝ }
+    ensures { λ r. ⌜ r ≡ keepingRow (now (commitment .entry)) (now (deal .entry)) place ⌝ }
 {
     let entry = standing_at(deal, place);
     if !entry.stands {
@@ -23,10 +22,10 @@ fn keeping_at(deal: &[u8], place: usize, commitment: &[u8]) -> Standing
     }
     let named = entry.commitment;
     if !octets::same(&named, commitment) {
-        return free_slot();
+        return free_row();
     }
     if !segment_has(deal, entry.offset, entry.size, named) {
-        return free_slot();
+        return free_row();
     }
     entry
 }

@@ -11,9 +11,8 @@ use Rattle.octets.specs.Splice.{part}
 use Rattle.entries.specs.Entry.{commitmentIn, sizeIn}
 use Rattle.sizes.specs.Sizes.{area}
 use Rattle.sizes.specs.SizesLaws.{lent-size, segment-size, index-start-le}
-use Rattle.index.specs.Slots.{slotAt, rowAt}
+use Rattle.index.specs.Slots.{slotAt, rowAt, rowArea}
 use Rattle.booking.specs.Booking.{segmentCommitment}
-use Rattle.booking.specs.Gather.{rowArea}
 use Rattle.booking.specs.GatherLaws.{row-ends, slots-high, slot-within}
 use Rattle.booking.proofs.KeepingSlot.{other-area, other-size, other-commitment, offset-there, bytes-decide, size-there, commitment-there}
 use Rattle.booking.proofs.keeping.slot_keeps.Statement.{statement}

@@ -25,8 +25,8 @@ slice-aggregate-same c = search needs
 same-requires : tie.Need-same-requires
 same-requires c κs = search needs
 
-free-slot-requires : tie.Need-free-slot-requires
-free-slot-requires c κs = search needs
+free-row-requires : tie.Need-free-row-requires
+free-row-requires c κs = search needs
 
 returns-2 : tie.Need-returns-2
 returns-2 c =
@@ -35,7 +35,7 @@ returns-2 c =
     let k = i .before .before in
     let s = k .before .before .before in
     let deal = now (s .args .deal) in
-    c .free-slot .ensures
+    c .free-row .ensures
     ∙ keeping-other-name deal (now (s .args .commitment)) (s .args .place) (k .standing-at .result) (k .standing-at .ensures)
     (m .same .result) (m .same .ensures) (not-false _ (i .if1 .left)) (not-true _ (c .before .if2 .taken))
 
@@ -48,8 +48,8 @@ segment-has-requires c κs =
     let a = answer-stands (length deal) (entryAt deal (s .args .place)) (k .standing-at .result) (k .standing-at .ensures) (not-false _ (i .if1 .left)) in
     (s .pre .0, (a .size-allowed, a .offset-allowed))
 
-free-slot-requires-2 : tie.Need-free-slot-requires-2
-free-slot-requires-2 c κs = search needs
+free-row-requires-2 : tie.Need-free-row-requires-2
+free-row-requires-2 c κs = search needs
 
 returns-3 : tie.Need-returns-3
 returns-3 c =
@@ -59,7 +59,7 @@ returns-3 c =
     let k = i .before .before in
     let s = k .before .before .before in
     let deal = now (s .args .deal) in
-    c .free-slot2 .ensures
+    c .free-row2 .ensures
     ∙ keeping-other-bytes deal (now (s .args .commitment)) (s .args .place) (k .standing-at .result) (k .standing-at .ensures)
     (m .same .result) (m .same .ensures) (not-false _ (i .if1 .left)) (not-false _ (h .before .if2 .left))
     (h .segment-has .result) (h .segment-has .ensures) (not-true _ (c .before .if3 .taken))
@@ -84,9 +84,9 @@ keeping-at-spec =
     returns
     slice-aggregate-same
     same-requires
-    free-slot-requires
+    free-row-requires
     returns-2
     segment-has-requires
-    free-slot-requires-2
+    free-row-requires-2
     returns-3
     returns-4)

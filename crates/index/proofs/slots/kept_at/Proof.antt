@@ -28,8 +28,8 @@ segment-has-requires c κs =
     let a = answer-stands (length deal) (entryAt deal (s .args .place)) (k .standing-at .result) (k .standing-at .ensures) (not-false _ (c .before .if1 .left)) in
     (s .pre .0, (a .size-allowed, a .offset-allowed))
 
-free-slot-requires : tie.Need-free-slot-requires
-free-slot-requires c κs = search needs
+free-row-requires : tie.Need-free-row-requires
+free-row-requires c κs = search needs
 
 returns-2 : tie.Need-returns-2
 returns-2 c =
@@ -37,7 +37,7 @@ returns-2 c =
     let k = h .before .before .before .before in
     let s = k .before .before in
     let deal = now (s .args .deal) in
-    c .free-slot .ensures
+    c .free-row .ensures
     ∙ kept-other (nodeAt deal) (length deal) (entryAt deal (s .args .place)) (k .standing-at .result) (k .standing-at .ensures) (h .segment-has .result) (h .segment-has .ensures) (not-false _ (h .before .before .if1 .left)) (not-true _ (c .before .if2 .taken))
 
 returns-3 : tie.Need-returns-3
@@ -55,6 +55,6 @@ kept-at-spec =
     standing-at-requires
     returns
     segment-has-requires
-    free-slot-requires
+    free-row-requires
     returns-2
     returns-3)
