@@ -10,6 +10,7 @@ use Rattle.merkle.specs.NodeSource.{NodeSource}
 use Rattle.sizes.specs.Sizes.{segmentSizeAllowed, offsetAllowed, area, slotPlace, segmentLevel, segmentPosition}
 use Rattle.entries.specs.Entry.{commitmentIn, offsetIn, sizeIn, isKind}
 use Rattle.entries.specs.declared.EntryKind.{EntryKind}
+use Rattle.lent.specs.LentDeal.{LentDeal, dealSize}
 use Rattle.index.specs.declared.Row.{Row}
 
 -- the 64 bytes at a place, and those in slot i
@@ -33,6 +34,10 @@ nodeOver nodes entry = nodes (segmentLevel (sizeIn entry)) (segmentPosition (off
 -- asked to be zeros (docs/DECISIONS.md, request (iii))
 unfoldable pub kept : NodeSource → ℕ → List ℕ → Bool
 kept nodes d entry = standing d entry && sameBytes (nodeOver nodes entry) (commitmentIn entry)
+
+-- slot i of a lent deal keeps its entry
+abbrev pub keptAt : LentDeal → ℕ → Bool
+keptAt deal i = kept (deal .nodes) (dealSize deal) (slotAt (deal .bytes) i)
 
 -- a row says what stands in a slot: commitment, offset and size. A slot without a standing entry is free
 abbrev pub free : Row

@@ -7,9 +7,7 @@ mod tallying; // tallying.rt: how many slots are of each kind
 pub use finding::find;
 pub use finding::find_numbers;
 pub use inspecting::inspect;
-pub use slots::free_row;
 pub use slots::kept_at;
-pub use slots::segment_has;
 pub use slots::standing_at;
 pub use tallying::tally;
 

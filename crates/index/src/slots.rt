@@ -10,8 +10,8 @@ ghost use Rattle.merkle.specs.Tree.{nodeAt};
 ghost use Rattle.sizes.specs.Sizes.{lentSizeAllowed, segmentSizeAllowed, offsetAllowed, segmentLevel, segmentPosition};
 ghost use Rattle.index.specs.Slots.{entryAt, free, rowOf, keptRow};
 
-// A slot without a standing entry.
-pub fn free_row() -> Row
+// The row of a slot without a standing entry.
+pub(crate) fn free_row() -> Row
     ensures { λ r. ⌜ r ≡ free ⌝ }
 {
     Row {
@@ -22,7 +22,7 @@ pub fn free_row() -> Row
     }
 }
 
-// The standing entry at a place of a lent deal.
+// The row of the entry at a place of a lent deal.
 pub fn standing_at(deal: &[u8], place: usize) -> Row
     requires { ⌜ (lentSizeAllowed (length (now deal)) ≡ true) × (place + 64 ≤ length (now deal)) ⌝ }
     ensures { λ r. ⌜ r ≡ rowOf (length (now (deal .entry))) (entryAt (now (deal .entry)) place) ⌝ }
@@ -50,7 +50,7 @@ pub fn standing_at(deal: &[u8], place: usize) -> Row
 }
 
 // Whether the bytes of a segment of a lent deal have this commitment.
-pub fn segment_has(deal: &[u8], offset: u64, size: u64, commitment: [u8; 32]) -> bool
+pub(crate) fn segment_has(deal: &[u8], offset: u64, size: u64, commitment: [u8; 32]) -> bool
     requires { ⌜ lentSizeAllowed (length (now deal)) ≡ true ⌝ }
     requires { ⌜ segmentSizeAllowed (length (now deal)) size ≡ true ⌝ }
     requires { ⌜ offsetAllowed (length (now deal)) offset size ≡ true ⌝ }
@@ -62,18 +62,18 @@ pub fn segment_has(deal: &[u8], offset: u64, size: u64, commitment: [u8; 32]) ->
     octets::same_node(node, commitment)
 }
 
-// The kept entry at a place of a lent deal.
+// The row of the entry at a place of a lent deal, where it is kept.
 pub fn kept_at(deal: &[u8], place: usize) -> Row
     requires { ⌜ (lentSizeAllowed (length (now deal)) ≡ true) × (place + 64 ≤ length (now deal)) ⌝ }
     ensures { λ r. ⌜ r ≡ keptRow (nodeAt (now (deal .entry))) (length (now (deal .entry))) (entryAt (now (deal .entry)) place) ⌝ }
 {
-    let entry = standing_at(deal, place);
-    if !entry.stands {
-        return entry;
+    let row = standing_at(deal, place);
+    if !row.stands {
+        return row;
     }
-    let commitment = entry.commitment;
-    if !segment_has(deal, entry.offset, entry.size, commitment) {
+    let commitment = row.commitment;
+    if !segment_has(deal, row.offset, row.size, commitment) {
         return free_row();
     }
-    entry
+    row
 }

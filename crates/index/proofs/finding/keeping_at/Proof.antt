@@ -3,6 +3,7 @@ use lib.ListN.{length}
 use denote.Ref.{now}
 use borrow.Author.Tests.{not-true, not-false}
 use borrow.Author.Needs.{needs}
+use Rattle.lent.specs.LentDeal.{lentDeal}
 use Rattle.index.specs.Slots.{entryAt}
 use Rattle.index.specs.SlotsLaws.{answer-stands}
 use Rattle.index.proofs.Keeping.{keeping-free, keeping-other-name, keeping-other-bytes, keeping-here}
@@ -17,7 +18,7 @@ returns c =
     let k = c .before .before in
     let s = k .before .before .before in
     let deal = now (s .args .deal) in
-    keeping-free deal (now (s .args .commitment)) (s .args .place) (k .standing-at .result) (k .standing-at .ensures) (not-true _ (c .if1 .taken))
+    keeping-free (lentDeal deal) (now (s .args .commitment)) (s .args .place) (k .standing-at .result) (k .standing-at .ensures) (not-true _ (c .if1 .taken))
 
 slice-aggregate-same : tie.Need-slice-aggregate-same
 slice-aggregate-same c = search needs
@@ -36,7 +37,7 @@ returns-2 c =
     let s = k .before .before .before in
     let deal = now (s .args .deal) in
     c .free-row .ensures
-    ∙ keeping-other-name deal (now (s .args .commitment)) (s .args .place) (k .standing-at .result) (k .standing-at .ensures)
+    ∙ keeping-other-name (lentDeal deal) (now (s .args .commitment)) (s .args .place) (k .standing-at .result) (k .standing-at .ensures)
     (m .same .result) (m .same .ensures) (not-false _ (i .if1 .left)) (not-true _ (c .before .if2 .taken))
 
 segment-has-requires : tie.Need-segment-has-requires
@@ -60,7 +61,7 @@ returns-3 c =
     let s = k .before .before .before in
     let deal = now (s .args .deal) in
     c .free-row2 .ensures
-    ∙ keeping-other-bytes deal (now (s .args .commitment)) (s .args .place) (k .standing-at .result) (k .standing-at .ensures)
+    ∙ keeping-other-bytes (lentDeal deal) (now (s .args .commitment)) (s .args .place) (k .standing-at .result) (k .standing-at .ensures)
     (m .same .result) (m .same .ensures) (not-false _ (i .if1 .left)) (not-false _ (h .before .if2 .left))
     (h .segment-has .result) (h .segment-has .ensures) (not-true _ (c .before .if3 .taken))
 
@@ -72,7 +73,7 @@ returns-4 c =
     let k = i .before .before in
     let s = k .before .before .before in
     let deal = now (s .args .deal) in
-    keeping-here deal (now (s .args .commitment)) (s .args .place) (k .standing-at .result) (k .standing-at .ensures)
+    keeping-here (lentDeal deal) (now (s .args .commitment)) (s .args .place) (k .standing-at .result) (k .standing-at .ensures)
     (m .same .result) (m .same .ensures) (not-false _ (i .if1 .left)) (not-false _ (h .before .if2 .left))
     (h .segment-has .result) (h .segment-has .ensures) (not-false _ (c .if3 .left))
 

@@ -10,13 +10,14 @@ use Rattle.rules.specs.Search.{lowest}
 use Rattle.rules.specs.SearchLaws.{lowest-start, lowest-here, lowest-next, lowest-over}
 use Rattle.sizes.specs.Sizes.{slotPlace}
 use Rattle.sizes.specs.SizesLaws.{lent-size, slot-allowed, entry-place}
-use Rattle.index.specs.Find.{keepsCommitment, lowestKeeping, foundIn}
+use Rattle.lent.specs.LentDeal.{lentDeal}
+use Rattle.index.specs.Find.{keepsCommitment, lowestWithCommitment, foundIn}
 use Rattle.index.proofs.Keeping.{answer-keeps, answer-found}
-use Rattle.index.proofs.finding.lowest_keeping.Statement.{statement}
-use Rattle.index.proofs.finding.lowest_keeping.Tie as tie
+use Rattle.index.proofs.finding.lowest_with_commitment.Statement.{statement}
+use Rattle.index.proofs.finding.lowest_with_commitment.Tie as tie
 
 abbrev Inv-loop : tie.InvT-loop
-Inv-loop deal commitment deal-size count i₀ i = (i ≤ count) × (lowestKeeping commitment deal ≡ lowest (keepsCommitment commitment deal) i (count - i))
+Inv-loop deal commitment deal-size count i₀ i = (i ≤ count) × (lowestWithCommitment (lentDeal deal) commitment ≡ lowest (keepsCommitment (lentDeal deal) commitment) i (count - i))
 
 abbrev μ-loop : tie.MeasureT-loop
 μ-loop deal commitment deal-size count i₀ i = count - i
@@ -27,7 +28,7 @@ entry-count-requires c κs = search needs
 loop-holds : tie.Need-loop-holds Inv-loop μ-loop
 loop-holds c =
     let s = c .before .before .before in
-    let keeps = keepsCommitment (now (s .args .commitment)) (now (s .args .deal)) in
+    let keeps = keepsCommitment (lentDeal (now (s .args .deal))) (now (s .args .commitment)) in
     (search needs, ap (lowest keeps 0) (sym (c .entry-count .ensures)) ∙ lowest-start keeps (c .entry-count .result))
 
 slot-place-requires : tie.Need-slot-place-requires Inv-loop μ-loop
@@ -54,9 +55,9 @@ returns c =
     let commitment = now (s .args .commitment) in
     let i = l .loop .i in
     let place = k .before .slot-place .result in
-    let keeps : keepsCommitment commitment deal i ≡ true = sym (answer-keeps deal commitment i place (k .keeping-at .result) (k .before .slot-place .ensures) (k .keeping-at .ensures)) ∙ c .if1 .taken in
-    answer-found deal commitment i place (k .keeping-at .result) (k .before .slot-place .ensures) (k .keeping-at .ensures) (c .if1 .taken)
-    ∙ ap (foundIn deal) (sym (l .loop .inv .1 ∙ lowest-here (keepsCommitment commitment deal) (l .before .entry-count .result) i (omega arith) keeps))
+    let keeps : keepsCommitment (lentDeal deal) commitment i ≡ true = sym (answer-keeps (lentDeal deal) commitment i place (k .keeping-at .result) (k .before .slot-place .ensures) (k .keeping-at .ensures)) ∙ c .if1 .taken in
+    answer-found (lentDeal deal) commitment i place (k .keeping-at .result) (k .before .slot-place .ensures) (k .keeping-at .ensures) (c .if1 .taken)
+    ∙ ap (foundIn deal) (sym (l .loop .inv .1 ∙ lowest-here (keepsCommitment (lentDeal deal) commitment) (l .before .entry-count .result) i (omega arith) keeps))
 
 add-i : tie.Need-add-i Inv-loop μ-loop
 add-i c = search needs
@@ -72,11 +73,11 @@ loop-again c =
     let deal = now (s .args .deal) in
     let commitment = now (s .args .commitment) in
     let i = l .loop .i in
-    let keeps : keepsCommitment commitment deal i ≡ false = sym (answer-keeps deal commitment i (k .before .slot-place .result) (k .keeping-at .result) (k .before .slot-place .ensures) (k .keeping-at .ensures)) ∙ c .if1 .left in
-    (search needs, l .loop .inv .1 ∙ lowest-next (keepsCommitment commitment deal) (l .before .entry-count .result) i (omega arith) keeps)
+    let keeps : keepsCommitment (lentDeal deal) commitment i ≡ false = sym (answer-keeps (lentDeal deal) commitment i (k .before .slot-place .result) (k .keeping-at .result) (k .before .slot-place .ensures) (k .keeping-at .ensures)) ∙ c .if1 .left in
+    (search needs, l .loop .inv .1 ∙ lowest-next (keepsCommitment (lentDeal deal) commitment) (l .before .entry-count .result) i (omega arith) keeps)
 
-not-found-requires : tie.Need-not-found-requires Inv-loop μ-loop
-not-found-requires c κs = search needs
+refused-requires : tie.Need-refused-requires Inv-loop μ-loop
+refused-requires c κs = search needs
 
 returns-2 : tie.Need-returns-2 Inv-loop μ-loop
 returns-2 c =
@@ -84,11 +85,11 @@ returns-2 c =
     let s = l .before .before .before .before in
     let deal = now (s .args .deal) in
     let commitment = now (s .args .commitment) in
-    c .not-found .ensures
-    ∙ ap (foundIn deal) (sym (l .loop .inv .1 ∙ lowest-over (keepsCommitment commitment deal) (l .before .entry-count .result) (l .loop .i) (omega arith)))
+    c .refused .ensures
+    ∙ ap (foundIn deal) (sym (l .loop .inv .1 ∙ lowest-over (keepsCommitment (lentDeal deal) commitment) (l .before .entry-count .result) (l .loop .i) (omega arith)))
 
-pub lowest-keeping-spec : {M : Type 1} → statement M
-lowest-keeping-spec =
+pub lowest-with-commitment-spec : {M : Type 1} → statement M
+lowest-with-commitment-spec =
     tie.close
     (tie.spec
     Inv-loop
@@ -101,5 +102,5 @@ lowest-keeping-spec =
     add-i
     loop-less
     loop-again
-    not-found-requires
+    refused-requires
     returns-2)
