@@ -6,11 +6,10 @@ use mathlib.Core.List.{List}
 use Prim.Native.Nat.{ℕ, _+_, _*_, _≤_, _<_}
 use lib.ListN.{getD}
 use lib.Dec.{eqb}
-use Rattle.rules.specs.Search.{Found, found, missing, lowest}
+use Rattle.rules.specs.Search.{lowest}
 use Rattle.sizes.specs.Sizes.{area}
 use Rattle.index.specs.Slots.{Row, free, holds}
 use Rattle.booking.specs.Room.{overlap, isMissing}
-use Rattle.booking.specs.declared.Lowest.{Lowest}
 
 -- where a row's bytes start, and how many they are: none for a free row
 abbrev pub rowOffset : Row → ℕ
@@ -41,8 +40,3 @@ overlapsAt offsets areas o n i = overlap o n (getD offsets i 0) (getD areas i 0)
 -- the n bytes from k * n overlap none of the first ranges
 abbrev pub roomAt : List ℕ → List ℕ → ℕ → ℕ → ℕ → Bool
 roomAt offsets areas slots n k = isMissing (lowest (overlapsAt offsets areas (k * n) n) 0 slots)
-
--- what a search found, as the code answers it
-abbrev pub asLowest : Found → Lowest
-asLowest (found i) = Lowest.At i
-asLowest missing = Lowest.Nothing

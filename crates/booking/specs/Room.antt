@@ -2,7 +2,9 @@
 use mathlib.Core.Bool.{Bool, true, false, _&&_}
 use Prim.Native.Nat.{ℕ, _+_, _*_, _/_}
 use lib.Dec.{ltb}
-use Rattle.rules.specs.Search.{Found, found, missing, lowest}
+use Rattle.rules.specs.declared.Found.{Found}
+use Rattle.rules.specs.declared.Found.the-variants.{At, Missing}
+use Rattle.rules.specs.Search.{lowest}
 use Rattle.sizes.specs.Sizes.{area}
 use Rattle.index.specs.Slots.{Row, free, holds}
 
@@ -20,8 +22,8 @@ isFree free = true
 isFree (holds commitment offset size) = false
 
 abbrev pub isMissing : Found → Bool
-isMissing (found i) = false
-isMissing missing = true
+isMissing (At i) = false
+isMissing Missing = true
 
 -- the lowest free one of the slots
 abbrev pub lowestFreeSlot : (ℕ → Row) → ℕ → Found

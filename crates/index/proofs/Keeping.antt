@@ -6,7 +6,7 @@ use Prim.Native.Nat.{ℕ}
 use lib.ListN.{length}
 use Rattle.rules.specs.Choice.{choose}
 use Rattle.octets.specs.Equality.{sameBytes}
-use Rattle.rules.specs.Search.{found}
+use Rattle.rules.specs.declared.Found.the-variants.{At}
 use Rattle.merkle.specs.Tree.{nodeAt}
 use Rattle.sizes.specs.Sizes.{slotPlace}
 use Rattle.entries.specs.Entry.{commitmentIn, offsetIn, sizeIn}
@@ -64,7 +64,7 @@ module _ (deal commitment : List ℕ) (i place : ℕ) (answer : Standing) (p : p
       by-tests (commitmentIn q) (offsetIn q) (sizeIn q) answer (kept (nodeAt deal) (length deal) q) (sameBytes (commitmentIn q) commitment) e
       ∙ ap (λ (at : ℕ). kept (nodeAt deal) (length deal) (entryAt deal at) && sameBytes (commitmentIn (entryAt deal at)) commitment) p
 
-  pub answer-found : answer .stands ≡ true → record { code = 0; offset = answer .offset; size = answer .size; place = place } ≡ foundIn deal (found i)
+  pub answer-found : answer .stands ≡ true → record { code = 0; offset = answer .offset; size = answer .size; place = place } ≡ foundIn deal (At i)
   unfolding keptRow
   answer-found h =
       let q = entryAt deal place in

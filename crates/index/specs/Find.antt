@@ -7,7 +7,9 @@ use lib.Dec.{eqb}
 use Rattle.rules.specs.Choice.{choose}
 use Rattle.rules.specs.Refusals.{rule, firstRefusal, unlessRefused}
 use Rattle.octets.specs.Equality.{sameBytes}
-use Rattle.rules.specs.Search.{Found, found, missing, lowest}
+use Rattle.rules.specs.declared.Found.{Found}
+use Rattle.rules.specs.declared.Found.the-variants.{At, Missing}
+use Rattle.rules.specs.Search.{lowest}
 use Rattle.octets.specs.Splice.{part}
 use Rattle.merkle.specs.Tree.{nodeAt}
 use Rattle.stray.specs.StrayBits.{noStrayBits}
@@ -34,8 +36,8 @@ notFound code = record { code = code; offset = 0; size = 0; place = 0 }
 
 -- the numbers of what was found
 abbrev pub foundIn : List ℕ → Found → FoundSegment
-foundIn deal (found i) = record { code = 0; offset = offsetIn (slotAt deal i); size = sizeIn (slotAt deal i); place = slotPlace (length deal) i }
-foundIn deal missing = notFound 16
+foundIn deal (At i) = record { code = 0; offset = offsetIn (slotAt deal i); size = sizeIn (slotAt deal i); place = slotPlace (length deal) i }
+foundIn deal Missing = notFound 16
 
 unfoldable pub findNumbers : List ℕ → List ℕ → FoundSegment
 findNumbers deal commitment =

@@ -11,7 +11,8 @@ use Rattle.rules.specs.Refusals.{Rule, rule, firstRefusal, unlessRefused}
 use Rattle.rules.specs.RefusalLaws.{and-left, and-right, none-refused}
 use Rattle.octets.specs.Equality.{sameBytes}
 use Rattle.octets.specs.EqualityLaws.{same-true}
-use Rattle.rules.specs.Search.{Found, found, missing}
+use Rattle.rules.specs.declared.Found.{Found}
+use Rattle.rules.specs.declared.Found.the-variants.{At, Missing}
 use Rattle.rules.specs.SearchLaws.{IsLowest, lowest-found, lowest-missing}
 use Rattle.octets.specs.Splice.{part}
 use Rattle.octets.specs.SpliceLaws.{part-length}
@@ -48,7 +49,7 @@ pub record FoundIn (deal commitment : List ℕ) (i : ℕ) : Type 0 where
   pub searched : Searched deal commitment
   pub is-lowest : IsLowest (keepsCommitment commitment deal) 0 (entryCount (length deal)) i
   pub keeps-it : SlotKeeps commitment deal i
-  pub numbers : findNumbers deal commitment ≡ foundIn deal (found i)
+  pub numbers : findNumbers deal commitment ≡ foundIn deal (At i)
 
 module _ (deal commitment : List ℕ) where
   rules : List Rule
@@ -69,16 +70,16 @@ module _ (deal commitment : List ℕ) where
   searched-is s = rw (eq-eqb (length commitment) 32 (s .commitment-length), s .size-allowed, s .clear)
 
   -- every answer is a refusal before the slots are looked at, that of a segment in a slot, or 16
-  by-answer : (P : FoundSegment → Type 0) → ((code : ℕ) → P (notFound (suc code))) → ((i : ℕ) → FoundIn deal commitment i → P (foundIn deal (found i)))
+  by-answer : (P : FoundSegment → Type 0) → ((code : ℕ) → P (notFound (suc code))) → ((i : ℕ) → FoundIn deal commitment i → P (foundIn deal (At i)))
       → P (findNumbers deal commitment)
   by-answer P refusal segment = start (firstRefusal rules) refl
     where
       searched-by : Searched deal commitment → (f : Found) → lowestKeeping commitment deal ≡ f → P (findNumbers deal commitment)
-      searched-by s (found i) e =
-          let n : findNumbers deal commitment ≡ foundIn deal (found i) = searched-is s ∙ ap (foundIn deal) e in
+      searched-by s (At i) e =
+          let n : findNumbers deal commitment ≡ foundIn deal (At i) = searched-is s ∙ ap (foundIn deal) e in
           let l = lowest-found (keepsCommitment commitment deal) 0 (entryCount (length deal)) i e in
           subst P (sym n) (segment i (record { searched = s; is-lowest = l; keeps-it = slot-keeps commitment deal i (l .passes); numbers = n }))
-      searched-by s missing e = subst P (sym (searched-is s ∙ ap (foundIn deal) e)) (refusal 15)
+      searched-by s Missing e = subst P (sym (searched-is s ∙ ap (foundIn deal) e)) (refusal 15)
 
       start : (code : ℕ) → firstRefusal rules ≡ code → P (findNumbers deal commitment)
       start zero e = searched-by (passed e) (lowestKeeping commitment deal) refl
@@ -93,8 +94,8 @@ module _ (deal commitment : List ℕ) where
   find-some s i h k = go (lowestKeeping commitment deal) refl
     where
       go : (f : Found) → lowestKeeping commitment deal ≡ f → findNumbers deal commitment .code ≡ 0
-      go (found j) e = ap (λ (n : FoundSegment). n .code) (searched-is s ∙ ap (foundIn deal) e)
-      go missing e =
+      go (At j) e = ap (λ (n : FoundSegment). n .code) (searched-is s ∙ ap (foundIn deal) e)
+      go Missing e =
           absurd (true≢false (sym k ∙ lowest-missing (keepsCommitment commitment deal) 0 (entryCount (length deal)) e i (omega arith) (omega arith)))
 
   -- 16 where none does
@@ -102,10 +103,10 @@ module _ (deal commitment : List ℕ) where
   find-none s none = go (lowestKeeping commitment deal) refl
     where
       go : (f : Found) → lowestKeeping commitment deal ≡ f → findNumbers deal commitment ≡ notFound 16
-      go (found j) e =
+      go (At j) e =
           let l = lowest-found (keepsCommitment commitment deal) 0 (entryCount (length deal)) j e in
           absurd (true≢false (sym (l .passes) ∙ none j (omega (arith, l .below))))
-      go missing e = searched-is s ∙ ap (foundIn deal) e
+      go Missing e = searched-is s ∙ ap (foundIn deal) e
 
   -- a commitment with stray bits is kept nowhere
   pub find-stray : Searched deal commitment → clearNode commitment ≡ false → findNumbers deal commitment ≡ notFound 16
