@@ -6,7 +6,8 @@ use mathlib.Core.List.{List}
 use Prim.Native.Nat.{ℕ, _+_, _*_, _/_, _^_, _≤_, _<_}
 use native.Mathlib.Omega.{arith}
 use lib.ListN.{length}
-use Rattle.rules.specs.Search.{found, missing, lowest}
+use Rattle.rules.specs.declared.Found.the-variants.{At, Missing}
+use Rattle.rules.specs.Search.{lowest}
 use Rattle.octets.specs.Fill.{zeroFilled}
 use Rattle.octets.specs.Splice.{splice}
 use Rattle.merkle.specs.Tree.{commitmentOf}
@@ -75,18 +76,18 @@ module _ (deal segment : List ℕ) where
     unfolding decision
     searched = rw (b .deal-allowed, b .segment-allowed, b .deal-clear, b .segment-clear)
 
-    pub answer-15 : (i : ℕ) → lowest (keepsSegment deal segment) 0 (entryCount (length deal)) ≡ found i → answerTo deal (already i) ≡ bookAnswer deal segment
+    pub answer-15 : (i : ℕ) → lowest (keepsSegment deal segment) 0 (entryCount (length deal)) ≡ At i → answerTo deal (already i) ≡ bookAnswer deal segment
     answer-15 i k = sym (answer-is deal segment (already i) (searched ∙ rw k))
 
-    module _ (k : lowest (keepsSegment deal segment) 0 (entryCount (length deal)) ≡ missing) where
-      pub answer-13 : lowestFreeSlot (rowAt deal) (entryCount (length deal)) ≡ missing → answerTo deal (refuse 13) ≡ bookAnswer deal segment
+    module _ (k : lowest (keepsSegment deal segment) 0 (entryCount (length deal)) ≡ Missing) where
+      pub answer-13 : lowestFreeSlot (rowAt deal) (entryCount (length deal)) ≡ Missing → answerTo deal (refuse 13) ≡ bookAnswer deal segment
       answer-13 s = sym (answer-is deal segment (refuse 13) (searched ∙ rw (k, s)))
 
-      module _ (i : ℕ) (s : lowestFreeSlot (rowAt deal) (entryCount (length deal)) ≡ found i) where
-        pub answer-14 : lowestPlace (rowAt deal) (entryCount (length deal)) (area (length segment)) (indexStart (length deal)) ≡ missing → answerTo deal (refuse 14) ≡ bookAnswer deal segment
+      module _ (i : ℕ) (s : lowestFreeSlot (rowAt deal) (entryCount (length deal)) ≡ At i) where
+        pub answer-14 : lowestPlace (rowAt deal) (entryCount (length deal)) (area (length segment)) (indexStart (length deal)) ≡ Missing → answerTo deal (refuse 14) ≡ bookAnswer deal segment
         answer-14 p = sym (answer-is deal segment (refuse 14) (searched ∙ rw (k, s, p)))
 
-        pub answer-0 : (q : ℕ) → lowestPlace (rowAt deal) (entryCount (length deal)) (area (length segment)) (indexStart (length deal)) ≡ found q
+        pub answer-0 : (q : ℕ) → lowestPlace (rowAt deal) (entryCount (length deal)) (area (length segment)) (indexStart (length deal)) ≡ At q
             → answerTo deal (place i (q * area (length segment))) ≡ bookAnswer deal segment
         answer-0 q p = sym (answer-is deal segment (place i (q * area (length segment))) (searched ∙ rw (k, s, p)))
 

@@ -5,27 +5,28 @@ use mathlib.Core.List.{List}
 use Prim.Native.Nat.{ℕ, _+_, _-_, _*_, _/_, _≤_, _<_}
 use native.Mathlib.Omega.{arith}
 use lib.ListN.{getD}
-use Rattle.rules.specs.Search.{Found, found, missing, lowest}
-use Rattle.rules.specs.SearchLaws.{IsLowest, lowest-found, lowest-missing, lowest-skip}
+use Rattle.rules.specs.declared.Found.{Found}
+use Rattle.rules.specs.declared.Found.the-variants.{At, Missing}
+use Rattle.rules.specs.Search.{lowest}
+use Rattle.rules.specs.SearchLaws.{IsLowest, lowest-found, lowest-missing, lowest-skip, found-below}
 use Rattle.booking.specs.Gather.{overlapsAt, roomAt}
 use Rattle.booking.specs.Room.{isMissing}
 use Rattle.booking.specs.RoomLaws.{overlap-true, overlap-jump, place-ends}
-use Rattle.booking.proofs.Searching.{found-below}
 
 -- where one passes, the search does not miss
 not-missing : (p : ℕ → Bool) (n i : ℕ) → i < n → p i ≡ true → isMissing (lowest p 0 n) ≡ false
 not-missing p n i h e = by-answer (lowest p 0 n) refl
   where
     by-answer : (f : Found) → lowest p 0 n ≡ f → isMissing f ≡ false
-    by-answer (found k) q = refl
-    by-answer missing q = absurd (true≢false (sym e ∙ lowest-missing p 0 n q i (omega arith) (omega arith)))
+    by-answer (At k) q = refl
+    by-answer Missing q = absurd (true≢false (sym e ∙ lowest-missing p 0 n q i (omega arith) (omega arith)))
 
 -- where the range ends that slot i holds
 abbrev pub endAt : List ℕ → List ℕ → ℕ → ℕ
 endAt offsets areas i = getD offsets i 0 + getD areas i 0
 
 -- the n bytes from k * n overlap the range of slot i
-module _ (offsets areas : List ℕ) (slots n k i : ℕ) (z : 0 < n) (e : lowest (overlapsAt offsets areas (k * n) n) 0 slots ≡ found i) where
+module _ (offsets areas : List ℕ) (slots n k i : ℕ) (z : 0 < n) (e : lowest (overlapsAt offsets areas (k * n) n) 0 slots ≡ At i) where
   met : IsLowest (overlapsAt offsets areas (k * n) n) 0 slots i
   met = lowest-found (overlapsAt offsets areas (k * n) n) 0 slots i e
 

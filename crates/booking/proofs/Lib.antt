@@ -1,4 +1,3 @@
-pub mod Searching
 pub mod Jump
 pub mod GatherTurn
 pub mod KeepingSlot

@@ -6,7 +6,9 @@ use lib.ListN.{length}
 use lib.Dec.{eqb}
 use Rattle.rules.specs.Refusals.{rule, firstRefusal, unlessRefused}
 use Rattle.octets.specs.Equality.{sameBytes}
-use Rattle.rules.specs.Search.{Found, found, missing, lowest}
+use Rattle.rules.specs.declared.Found.{Found}
+use Rattle.rules.specs.declared.Found.the-variants.{At, Missing}
+use Rattle.rules.specs.Search.{lowest}
 use Rattle.octets.specs.Splice.{part, splice}
 use Rattle.octets.specs.Fill.{zeroFilled}
 use Rattle.merkle.specs.Tree.{commitmentOf, nodeAt}
@@ -35,13 +37,13 @@ pub data Decision : Type 0 where
 
 -- 13 with no free slot, and with one at hand 14 with no free place
 abbrev pub inRoom : ℕ → Found → Found → Decision
-inRoom n missing at = refuse 13
-inRoom n (found i) missing = refuse 14
-inRoom n (found i) (found k) = place i (k * n)
+inRoom n Missing at = refuse 13
+inRoom n (At i) Missing = refuse 14
+inRoom n (At i) (At k) = place i (k * n)
 
 abbrev pub unlessKept : Found → Decision → Decision
-unlessKept (found i) other = already i
-unlessKept missing other = other
+unlessKept (At i) other = already i
+unlessKept Missing other = other
 
 unfoldable pub decision : List ℕ → List ℕ → Decision
 decision deal segment =

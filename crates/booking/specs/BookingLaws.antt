@@ -8,7 +8,9 @@ use mathlib.Core.List.{List, [], _∷_}
 use lib.ListN.{length}
 use Rattle.rules.specs.Refusals.{Rule, rule, firstRefusal, unlessRefused}
 use Rattle.rules.specs.RefusalLaws.{none-refused, all-passed, and-left, and-right, and-both}
-use Rattle.rules.specs.Search.{Found, found, missing, lowest}
+use Rattle.rules.specs.declared.Found.{Found}
+use Rattle.rules.specs.declared.Found.the-variants.{At, Missing}
+use Rattle.rules.specs.Search.{lowest}
 use Rattle.rules.specs.SearchLaws.{IsLowest, lowest-found, lowest-missing, lowest-is, lowest-none}
 use Rattle.octets.specs.FillLaws.{filled-length}
 use Rattle.stray.specs.StrayBits.{noStrayBits}
@@ -78,34 +80,34 @@ impossible : {A : Type 0} → _≡_ {A = ℕ} 0 1 → A
 impossible e = absurd (omega arith)
 
 decided-place : (n code : ℕ) (keeping slot at : Found) (i o : ℕ) → decided n code keeping slot at ≡ place i o
-    → (code ≡ 0) × (keeping ≡ missing) × (slot ≡ found i) × ((k : ℕ) × (at ≡ found k) × (k * n ≡ o))
+    → (code ≡ 0) × (keeping ≡ Missing) × (slot ≡ At i) × ((k : ℕ) × (at ≡ At k) × (k * n ≡ o))
 decided-place n (suc code) keeping slot at i o e = impossible (cc)
-decided-place n zero (found j) slot at i o e = impossible (cc)
-decided-place n zero missing missing at i o e = impossible (cc)
-decided-place n zero missing (found j) missing i o e = impossible (cc)
-decided-place n zero missing (found j) (found k) i o e = (refl, refl, cc, (k, refl, cc))
+decided-place n zero (At j) slot at i o e = impossible (cc)
+decided-place n zero Missing Missing at i o e = impossible (cc)
+decided-place n zero Missing (At j) Missing i o e = impossible (cc)
+decided-place n zero Missing (At j) (At k) i o e = (refl, refl, cc, (k, refl, cc))
 
-decided-already : (n code : ℕ) (keeping slot at : Found) (i : ℕ) → decided n code keeping slot at ≡ already i → (code ≡ 0) × (keeping ≡ found i)
+decided-already : (n code : ℕ) (keeping slot at : Found) (i : ℕ) → decided n code keeping slot at ≡ already i → (code ≡ 0) × (keeping ≡ At i)
 decided-already n (suc code) keeping slot at i e = impossible (cc)
-decided-already n zero (found j) slot at i e = (refl, cc)
-decided-already n zero missing missing at i e = impossible (cc)
-decided-already n zero missing (found j) missing i e = impossible (cc)
-decided-already n zero missing (found j) (found k) i e = impossible (cc)
+decided-already n zero (At j) slot at i e = (refl, cc)
+decided-already n zero Missing Missing at i e = impossible (cc)
+decided-already n zero Missing (At j) Missing i e = impossible (cc)
+decided-already n zero Missing (At j) (At k) i e = impossible (cc)
 
-decided-13 : (n code : ℕ) (keeping slot at : Found) → code ≤ 11 → decided n code keeping slot at ≡ refuse 13 → (code ≡ 0) × (keeping ≡ missing) × (slot ≡ missing)
+decided-13 : (n code : ℕ) (keeping slot at : Found) → code ≤ 11 → decided n code keeping slot at ≡ refuse 13 → (code ≡ 0) × (keeping ≡ Missing) × (slot ≡ Missing)
 decided-13 n (suc code) keeping slot at h e = let z : suc code ≡ 13 = cc in absurd (omega arith)
-decided-13 n zero (found j) slot at h e = impossible (cc)
-decided-13 n zero missing missing at h e = (refl, refl, refl)
-decided-13 n zero missing (found j) missing h e = let z : _≡_ {A = ℕ} 14 13 = cc in absurd (omega arith)
-decided-13 n zero missing (found j) (found k) h e = impossible (cc)
+decided-13 n zero (At j) slot at h e = impossible (cc)
+decided-13 n zero Missing Missing at h e = (refl, refl, refl)
+decided-13 n zero Missing (At j) Missing h e = let z : _≡_ {A = ℕ} 14 13 = cc in absurd (omega arith)
+decided-13 n zero Missing (At j) (At k) h e = impossible (cc)
 
 decided-14 : (n code : ℕ) (keeping slot at : Found) → code ≤ 11 → decided n code keeping slot at ≡ refuse 14
-    → (code ≡ 0) × (keeping ≡ missing) × ((j : ℕ) × (slot ≡ found j)) × (at ≡ missing)
+    → (code ≡ 0) × (keeping ≡ Missing) × ((j : ℕ) × (slot ≡ At j)) × (at ≡ Missing)
 decided-14 n (suc code) keeping slot at h e = let z : suc code ≡ 14 = cc in absurd (omega arith)
-decided-14 n zero (found j) slot at h e = impossible (cc)
-decided-14 n zero missing missing at h e = let z : _≡_ {A = ℕ} 13 14 = cc in absurd (omega arith)
-decided-14 n zero missing (found j) missing h e = (refl, refl, (j, refl), refl)
-decided-14 n zero missing (found j) (found k) h e = impossible (cc)
+decided-14 n zero (At j) slot at h e = impossible (cc)
+decided-14 n zero Missing Missing at h e = let z : _≡_ {A = ℕ} 13 14 = cc in absurd (omega arith)
+decided-14 n zero Missing (At j) Missing h e = (refl, refl, (j, refl), refl)
+decided-14 n zero Missing (At j) (At k) h e = impossible (cc)
 
 module _ (deal segment : List ℕ) where
   code : ℕ
@@ -142,7 +144,7 @@ module _ (deal segment : List ℕ) where
     λ b. all-passed (bookRules deal segment) (b .deal-allowed, (b .segment-allowed, (and-both (noStrayBits deal) (noStrayBits (areaBytes segment)) (b .deal-clear) (b .segment-clear), tt))),
   )
 
-  not-kept : ((code ≡ 0) × (keeping ≡ missing)) ↔ Unkept deal segment
+  not-kept : ((code ≡ 0) × (keeping ≡ Missing)) ↔ Unkept deal segment
   unfolding keeping
   not-kept = (
     λ e.
@@ -182,8 +184,8 @@ module _ (deal segment : List ℕ) where
         },
     λ b.
         let u = not-kept .1 (b .unkept) in
-        let s : slot ≡ found i = lowest-is (λ j. isFree (rowAt deal j)) 0 (entryCount (length deal)) i (b .free-slot) in
-        let l : at ≡ found (o / area (length segment)) = place-is (rowAt deal) (entryCount (length deal)) (area (length segment)) (indexStart (length deal)) o (area-some (b .unkept .bookable)) (b .free-place) in
+        let s : slot ≡ At i = lowest-is (λ j. isFree (rowAt deal j)) 0 (entryCount (length deal)) i (b .free-slot) in
+        let l : at ≡ At (o / area (length segment)) = place-is (rowAt deal) (entryCount (length deal)) (area (length segment)) (indexStart (length deal)) o (area-some (b .unkept .bookable)) (b .free-place) in
         decision-is ∙ rw (u .0, u .1, s, l) (ap (place i) (sym (multiple o (area (length segment)) (b .free-place .aligned)))),
   )
 
@@ -194,7 +196,7 @@ module _ (deal segment : List ℕ) where
         let p = decided-already (area (length segment)) code keeping slot at i (sym decision-is ∙ e) in
         record { bookable = not-refused .0 (p .0); lowest-keeping = lowest-found (keepsSegment deal segment) 0 (entryCount (length deal)) i (p .1) },
     λ a.
-        let k : keeping ≡ found i = lowest-is (keepsSegment deal segment) 0 (entryCount (length deal)) i (a .lowest-keeping) in
+        let k : keeping ≡ At i = lowest-is (keepsSegment deal segment) 0 (entryCount (length deal)) i (a .lowest-keeping) in
         decision-is ∙ rw (not-refused .1 (a .bookable), k),
   )
 
@@ -209,7 +211,7 @@ module _ (deal segment : List ℕ) where
         },
     λ b.
         let u = not-kept .1 (b .unkept) in
-        let s : slot ≡ missing = lowest-none (λ j. isFree (rowAt deal j)) 0 (entryCount (length deal)) (λ j h k. b .none-free j (omega arith)) in
+        let s : slot ≡ Missing = lowest-none (λ j. isFree (rowAt deal j)) 0 (entryCount (length deal)) (λ j h k. b .none-free j (omega arith)) in
         decision-is ∙ rw (u .0, u .1, s),
   )
 
@@ -227,8 +229,8 @@ module _ (deal segment : List ℕ) where
         },
     λ b.
         let u = not-kept .1 (b .unkept) in
-        let s : slot ≡ found (b .slot) = lowest-is (λ j. isFree (rowAt deal j)) 0 (entryCount (length deal)) (b .slot) (b .free-slot) in
-        let l : at ≡ missing = place-missing (rowAt deal) (entryCount (length deal)) (area (length segment)) (indexStart (length deal)) (area-some (b .unkept .bookable)) .1 (b .none-fits) in
+        let s : slot ≡ At (b .slot) = lowest-is (λ j. isFree (rowAt deal j)) 0 (entryCount (length deal)) (b .slot) (b .free-slot) in
+        let l : at ≡ Missing = place-missing (rowAt deal) (entryCount (length deal)) (area (length segment)) (indexStart (length deal)) (area-some (b .unkept .bookable)) .1 (b .none-fits) in
         decision-is ∙ rw (u .0, u .1, s, l),
   )
 
@@ -236,18 +238,18 @@ module _ (deal segment : List ℕ) where
 coded-0 : (deal : List ℕ) (n code : ℕ) (keeping slot at : Found) → answerTo deal (decided n code keeping slot at) .code ≡ 0
     → (i : ℕ) × (o : ℕ) × (decided n code keeping slot at ≡ place i o)
 coded-0 deal n (suc code) keeping slot at e = absurd (omega arith)
-coded-0 deal n zero (found j) slot at e = absurd (omega arith)
-coded-0 deal n zero missing missing at e = absurd (omega arith)
-coded-0 deal n zero missing (found j) missing e = absurd (omega arith)
-coded-0 deal n zero missing (found j) (found k) e = (j, k * n, refl)
+coded-0 deal n zero (At j) slot at e = absurd (omega arith)
+coded-0 deal n zero Missing Missing at e = absurd (omega arith)
+coded-0 deal n zero Missing (At j) Missing e = absurd (omega arith)
+coded-0 deal n zero Missing (At j) (At k) e = (j, k * n, refl)
 
 coded-15 : (deal : List ℕ) (n code : ℕ) (keeping slot at : Found) → code ≤ 11 → answerTo deal (decided n code keeping slot at) .code ≡ 15
     → (i : ℕ) × (decided n code keeping slot at ≡ already i)
 coded-15 deal n (suc code) keeping slot at h e = absurd (omega arith)
-coded-15 deal n zero (found j) slot at h e = (j, refl)
-coded-15 deal n zero missing missing at h e = absurd (omega arith)
-coded-15 deal n zero missing (found j) missing h e = absurd (omega arith)
-coded-15 deal n zero missing (found j) (found k) h e = absurd (omega arith)
+coded-15 deal n zero (At j) slot at h e = (j, refl)
+coded-15 deal n zero Missing Missing at h e = absurd (omega arith)
+coded-15 deal n zero Missing (At j) Missing h e = absurd (omega arith)
+coded-15 deal n zero Missing (At j) (At k) h e = absurd (omega arith)
 
 coded-other : (deal : List ℕ) (x : Decision) (c : ℕ) → c ≢ 0 → c ≢ 15 → answerTo deal x .code ≡ c → x ≡ refuse c
 coded-other deal (refuse code) c h k e = ap refuse e

@@ -6,11 +6,10 @@ use mathlib.Core.List.{List}
 use Prim.Native.Nat.{ℕ, _+_, _*_, _≤_, _<_}
 use lib.ListN.{getD}
 use lib.Dec.{eqb}
-use Rattle.rules.specs.Search.{Found, found, missing, lowest}
+use Rattle.rules.specs.Search.{lowest}
 use Rattle.index.specs.Slots.{rowOffset, rowArea}
 use Rattle.index.specs.declared.Row.{Row}
 use Rattle.booking.specs.Room.{overlap, isMissing}
-use Rattle.booking.specs.declared.Lowest.{Lowest}
 
 -- two lists that hold the ranges of the first rows
 pub record Gathered (rows : ℕ → Row) (slots : ℕ) (offsets areas : List ℕ) : Type 0 where
@@ -32,8 +31,3 @@ overlapsAt offsets areas o n i = overlap o n (getD offsets i 0) (getD areas i 0)
 -- the n bytes from k * n overlap none of the first ranges
 abbrev pub roomAt : List ℕ → List ℕ → ℕ → ℕ → ℕ → Bool
 roomAt offsets areas slots n k = isMissing (lowest (overlapsAt offsets areas (k * n) n) 0 slots)
-
--- what a search found, as the code answers it
-abbrev pub asLowest : Found → Lowest
-asLowest (found i) = Lowest.At i
-asLowest missing = Lowest.Nothing

@@ -2,7 +2,9 @@
 use mathlib.Core.Bool.{Bool, true, false, _&&_, not}
 use Prim.Native.Nat.{ℕ, _+_, _*_, _/_}
 use lib.Dec.{ltb}
-use Rattle.rules.specs.Search.{Found, found, missing, lowest}
+use Rattle.rules.specs.declared.Found.{Found}
+use Rattle.rules.specs.declared.Found.the-variants.{At, Missing}
+use Rattle.rules.specs.Search.{lowest}
 use Rattle.sizes.specs.Sizes.{area}
 use Rattle.index.specs.declared.Row.{Row}
 
@@ -18,8 +20,8 @@ abbrev pub isFree : Row → Bool
 isFree row = not (row .stands)
 
 abbrev pub isMissing : Found → Bool
-isMissing (found i) = false
-isMissing missing = true
+isMissing (At i) = false
+isMissing Missing = true
 
 -- the lowest free one of the slots
 abbrev pub lowestFreeSlot : (ℕ → Row) → ℕ → Found

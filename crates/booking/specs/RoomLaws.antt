@@ -11,7 +11,9 @@ use lib.Dec.{ltb}
 use lib.Pow.{pow-pos, pow-add}
 use borrow.Author.Tests.{ltb-true, lt-ltb}
 use Rattle.rules.specs.RefusalLaws.{and-left, and-right, not-passed}
-use Rattle.rules.specs.Search.{Found, found, missing, lowest}
+use Rattle.rules.specs.declared.Found.{Found}
+use Rattle.rules.specs.declared.Found.the-variants.{At, Missing}
+use Rattle.rules.specs.Search.{lowest}
 use Rattle.rules.specs.SearchLaws.{lowest-found, lowest-missing, lowest-is, lowest-none, lowest-skip}
 use Rattle.sizes.specs.Sizes.{area}
 use Rattle.index.specs.Slots.{holds}
@@ -94,13 +96,13 @@ free-row r e = by-test (r .stands) e
     by-test true e = absurd (false≢true e)
     by-test false e = refl
 
-missing-is : (f : Found) → isMissing f ≡ true → f ≡ missing
-missing-is (found k) e = absurd (false≢true e)
-missing-is missing e = refl
+missing-is : (f : Found) → isMissing f ≡ true → f ≡ Missing
+missing-is (At k) e = absurd (false≢true e)
+missing-is Missing e = refl
 
-found-is : (f : Found) → isMissing f ≡ false → (k : ℕ) × (f ≡ found k)
-found-is (found k) e = (k, refl)
-found-is missing e = absurd (true≢false e)
+found-is : (f : Found) → isMissing f ≡ false → (k : ℕ) × (f ≡ At k)
+found-is (At k) e = (k, refl)
+found-is Missing e = absurd (true≢false e)
 
 module _ (rows : ℕ → Row) (slots n : ℕ) where
   -- row i overlaps the n bytes from o, and the n bytes from k * n fit
@@ -149,7 +151,7 @@ module _ (rows : ℕ → Row) (slots n : ℕ) where
       pub first : (q : ℕ) → q % n ≡ 0 → q < o → fits rows slots n q ≡ false
 
     -- what the search says: the lowest place, or that there is none
-    pub place-found : (k : ℕ) → 0 < n → lowestPlace rows slots n limit ≡ found k → IsPlace (k * n)
+    pub place-found : (k : ℕ) → 0 < n → lowestPlace rows slots n limit ≡ At k → IsPlace (k * n)
     place-found k z e =
         let l = lowest-found fitsAt 0 (limit / n) k e in
         record {
@@ -162,7 +164,7 @@ module _ (rows : ℕ → Row) (slots n : ℕ) where
               ap (fits rows slots n) at ∙ l .first (q / n) (omega arith) b;
         }
 
-    pub place-is : (o : ℕ) → 0 < n → IsPlace o → lowestPlace rows slots n limit ≡ found (o / n)
+    pub place-is : (o : ℕ) → 0 < n → IsPlace o → lowestPlace rows slots n limit ≡ At (o / n)
     place-is o z l =
         let at : o ≡ o / n * n = multiple o n (l .aligned) in
         lowest-is fitsAt 0 (limit / n) (o / n)
@@ -173,7 +175,7 @@ module _ (rows : ℕ → Row) (slots n : ℕ) where
           first = λ j a b. l .first (j * n) (mul-mod-left j n) (omega (arith, mul-lt-mul-of-pos-right b z));
         })
 
-    pub place-missing : 0 < n → (lowestPlace rows slots n limit ≡ missing) ↔ ((o : ℕ) → o % n ≡ 0 → o + n ≤ limit → fits rows slots n o ≡ false)
+    pub place-missing : 0 < n → (lowestPlace rows slots n limit ≡ Missing) ↔ ((o : ℕ) → o % n ≡ 0 → o + n ≤ limit → fits rows slots n o ≡ false)
     place-missing z = (
       λ e o m h.
           let at : o ≡ o / n * n = multiple o n m in

@@ -1,10 +1,10 @@
 // Booking: the place for a segment, and writing it there.
 use crate::Booked;
-use crate::Lowest;
 use crate::gathering::gather;
 use crate::keeping::lowest_keeping;
 use crate::room::lowest_free_slot;
 use crate::room::lowest_place;
+use rules::Found;
 ghost use mathlib.Core.Path.{_≡_};
 ghost use Prim.Native.Nat.{_+_, _≤_};
 ghost use lib.ListN.{length};
@@ -34,7 +34,7 @@ fn place_for(deal: &[u8], segment: &[u8], commitment: [u8; 32]) -> Booked
 {
     let deal_size = deal.len() as u64;
     let ranges = gather(deal);
-    if let Lowest::At(i) = lowest_keeping(deal, segment, commitment, ranges) {
+    if let Found::At(i) = lowest_keeping(deal, segment, commitment, ranges) {
         return Booked {
             code: 15,
             offset: ranges.offsets[i],
@@ -42,11 +42,11 @@ fn place_for(deal: &[u8], segment: &[u8], commitment: [u8; 32]) -> Booked
         };
     }
     let slots = sizes::entry_count(deal_size) as usize;
-    let Lowest::At(i) = lowest_free_slot(ranges, slots) else {
+    let Found::At(i) = lowest_free_slot(ranges, slots) else {
         return refused(13);
     };
     let area = sizes::area(segment.len() as u64);
-    let Lowest::At(k) = lowest_place(ranges, slots, area, sizes::index_start(deal_size)) else {
+    let Found::At(k) = lowest_place(ranges, slots, area, sizes::index_start(deal_size)) else {
         return refused(14);
     };
     Booked {

@@ -18,9 +18,3 @@ pub struct Ranges {
     pub offsets: [u64; 128],
     pub areas: [u64; 128],
 }
-
-// The lowest number that passes a test.
-pub enum Lowest {
-    At(usize),
-    Nothing,
-}

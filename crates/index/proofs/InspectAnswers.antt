@@ -19,19 +19,18 @@ use Rattle.index.specs.declared.Inspected.{Inspected}
 use Rattle.index.proofs.SlotAnswers.{nodeTest, kept-test}
 
 -- from the answer about a standing entry
-module _ (nodes : NodeSource) (d : ℕ) (entry : List ℕ) (answer : Row) (e : answer ≡ rowOf d entry) where
+module _ (nodes : NodeSource) (d : ℕ) (entry : List ℕ) {answer : Row} (e : answer ≡ rowOf d entry) where
   pub state-free : answer .stands ≡ false → inspectedRow SlotState.Free answer ≡ slotHolds nodes d entry
   unfolding slotHolds
   state-free h = ap (inspectedRow SlotState.Free) e ∙ rw (answer-free d entry answer e h)
 
   -- an entry that stands, by the test whether it is kept
-  pub state-stands : (has : Bool) → has ≡ nodeTest nodes answer → answer .stands ≡ true → (t : Bool) → has ≡ t
+  pub state-stands : {has : Bool} → answer .stands ≡ true → has ≡ nodeTest nodes answer → (t : Bool) → has ≡ t
       → inspectedRow (choose t SlotState.Kept SlotState.Standing) answer ≡ slotHolds nodes d entry
   unfolding slotHolds
-  state-stands has f h t g =
-      let s = answer-stands d entry answer e h in
+  state-stands h f t g =
       ap (inspectedRow (choose t SlotState.Kept SlotState.Standing)) e
-      ∙ rw (s .is-standing, kept-test nodes d entry answer e h, ← f, g)
+      ∙ rw (answer-stands d entry answer e h .is-standing, kept-test nodes d entry e h, ← f, g)
 
 -- the ways through the rules
 module _ (deal : LentDeal) (place : ℕ) where

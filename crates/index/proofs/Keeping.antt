@@ -4,7 +4,7 @@ use mathlib.Core.Bool.{Bool, true, false, _&&_, true≢false}
 use mathlib.Core.List.{List}
 use Prim.Native.Nat.{ℕ}
 use Rattle.rules.specs.Choice.{choose}
-use Rattle.rules.specs.Search.{found}
+use Rattle.rules.specs.declared.Found.the-variants.{At}
 use Rattle.octets.specs.Equality.{sameBytes}
 use Rattle.sizes.specs.Sizes.{slotPlace}
 use Rattle.entries.specs.Entry.{commitmentIn, offsetIn, sizeIn}
@@ -20,7 +20,7 @@ either-free true = refl
 either-free false = refl
 
 -- one law for each answer about a place, from the answer about a standing entry there
-module _ (deal : LentDeal) (commitment : List ℕ) (place : ℕ) (answer : Row)
+module _ (deal : LentDeal) (commitment : List ℕ) (place : ℕ) {answer : Row}
     (e : answer ≡ rowOf (dealSize deal) (entryAt (deal .bytes) place)) where
   abbrev here : List ℕ
   here = entryAt (deal .bytes) place
@@ -28,11 +28,11 @@ module _ (deal : LentDeal) (commitment : List ℕ) (place : ℕ) (answer : Row)
   pub keeping-free : answer .stands ≡ false → answer ≡ keepingRow deal commitment place
   unfolding keptRow
   keeping-free h =
-      kept-free (deal .nodes) (dealSize deal) here answer e h
-      ∙ rw (free-not-kept (deal .nodes) (dealSize deal) here answer e h)
+      kept-free (deal .nodes) (dealSize deal) here e h
+      ∙ rw (free-not-kept (deal .nodes) (dealSize deal) here e h)
       (either-free (sameBytes (commitmentIn here) commitment))
 
-  module _ (named : Bool) (n : named ≡ sameBytes (answer .commitment) commitment) (h : answer .stands ≡ true) where
+  module _ (h : answer .stands ≡ true) {named : Bool} (n : named ≡ sameBytes (answer .commitment) commitment) where
     names-is : sameBytes (commitmentIn here) commitment ≡ named
     names-is =
         let s = answer-stands (dealSize deal) here answer e h in
@@ -41,12 +41,12 @@ module _ (deal : LentDeal) (commitment : List ℕ) (place : ℕ) (answer : Row)
     pub keeping-other-name : named ≡ false → free ≡ keepingRow deal commitment place
     keeping-other-name t = rw (names-is, t)
 
-    module _ (t : named ≡ true) (has : Bool) (f : has ≡ nodeTest (deal .nodes) answer) where
+    module _ (t : named ≡ true) {has : Bool} (f : has ≡ nodeTest (deal .nodes) answer) where
       pub keeping-other-bytes : has ≡ false → free ≡ keepingRow deal commitment place
-      keeping-other-bytes k = rw (names-is, t) (kept-other (deal .nodes) (dealSize deal) here answer e has f h k)
+      keeping-other-bytes k = rw (names-is, t) (kept-other (deal .nodes) (dealSize deal) here e h f k)
 
       pub keeping-here : has ≡ true → answer ≡ keepingRow deal commitment place
-      keeping-here k = rw (names-is, t) (kept-here (deal .nodes) (dealSize deal) here answer e has f h k)
+      keeping-here k = rw (names-is, t) (kept-here (deal .nodes) (dealSize deal) here e h f k)
 
 -- an answer by the two tests: kept, and names the commitment
 module _ (commitment : List ℕ) (offset size : ℕ) (answer : Row) where
@@ -68,7 +68,7 @@ module _ (commitment : List ℕ) (offset size : ℕ) (answer : Row) where
   by-both false n e h = absurd (true≢false (sym h))
 
 -- a turn of the search, at slot i
-module _ (deal : LentDeal) (commitment : List ℕ) (i place : ℕ) (answer : Row)
+module _ (deal : LentDeal) (commitment : List ℕ) (i : ℕ) {place : ℕ} {answer : Row}
     (p : place ≡ slotPlace (dealSize deal) i) (e : answer ≡ keepingRow deal commitment place) where
   -- the two tests about the entry at a place
   abbrev keeps : ℕ → Bool
@@ -85,7 +85,7 @@ module _ (deal : LentDeal) (commitment : List ℕ) (i place : ℕ) (answer : Row
       ∙ ap (λ (at : ℕ). keeps at && names at) p
 
   pub answer-found : answer .stands ≡ true
-      → record { code = 0; offset = answer .offset; size = answer .size; place = place } ≡ foundIn (deal .bytes) (found i)
+      → record { code = 0; offset = answer .offset; size = answer .size; place = place } ≡ foundIn (deal .bytes) (At i)
   unfolding keptRow
   answer-found h =
       let q = entryAt (deal .bytes) place in

@@ -10,7 +10,8 @@ use Rattle.index.specs.Find.{findNumbers, findView}
 use Rattle.index.specs.FindLaws.{find-within, view-length}
 use Rattle.index.specs.declared.FoundSegment.{FoundSegment}
 
-module _ (deal : LentDeal) (commitment : List ℕ) (answer : FoundSegment) (e : answer ≡ findNumbers deal commitment) where
+module _ (deal : LentDeal) (commitment : List ℕ) (answer : FoundSegment)
+    (e : answer ≡ findNumbers deal commitment) where
   pub answer-within : answer .offset + answer .size ≤ dealSize deal
   answer-within =
       subst (λ (n : FoundSegment). n .offset + n .size ≤ dealSize deal) (sym e) (find-within deal commitment)

@@ -6,7 +6,9 @@ use lib.ListN.{length}
 use lib.Dec.{eqb}
 use Rattle.rules.specs.Choice.{choose}
 use Rattle.rules.specs.Refusals.{rule, firstRefusal, unlessRefused}
-use Rattle.rules.specs.Search.{Found, found, missing, lowest}
+use Rattle.rules.specs.Search.{lowest}
+use Rattle.rules.specs.declared.Found.{Found}
+use Rattle.rules.specs.declared.Found.the-variants.{At, Missing}
 use Rattle.octets.specs.Equality.{sameBytes}
 use Rattle.octets.specs.Splice.{part}
 use Rattle.sizes.specs.Sizes.{entryCount, slotPlace}
@@ -37,14 +39,14 @@ refused code = record { code = code; offset = 0; size = 0; place = 0 }
 
 -- the numbers of what was found: offset, size and entry place
 abbrev pub foundIn : List ℕ → Found → FoundSegment
-foundIn deal (found i) =
+foundIn deal (At i) =
     record {
       code = 0;
       offset = offsetIn (slotAt deal i);
       size = sizeIn (slotAt deal i);
       place = slotPlace (length deal) i;
     }
-foundIn deal missing = refused 16
+foundIn deal Missing = refused 16
 
 -- 1, 2, 11, then the lowest slot that keeps the commitment, or 16
 unfoldable pub findNumbers : LentDeal → List ℕ → FoundSegment

@@ -10,7 +10,8 @@ use lib.Dec.{eqb}
 use borrow.Author.Tests.{eq-eqb, ne-eqb, eqb-true}
 use Rattle.rules.specs.Refusals.{Rule, rule, firstRefusal, unlessRefused}
 use Rattle.rules.specs.RefusalLaws.{and-left, and-right, none-refused}
-use Rattle.rules.specs.Search.{Found, found, missing}
+use Rattle.rules.specs.declared.Found.{Found}
+use Rattle.rules.specs.declared.Found.the-variants.{At, Missing}
 use Rattle.rules.specs.SearchLaws.{IsLowest, lowest-found, lowest-missing}
 use Rattle.octets.specs.Equality.{sameBytes}
 use Rattle.octets.specs.EqualityLaws.{same-true}
@@ -54,7 +55,7 @@ pub record FoundIn (deal : LentDeal) (commitment : List ℕ) (i : ℕ) : Type 0 
   pub searched : Searched deal commitment
   pub is-lowest : IsLowest (keepsCommitment deal commitment) 0 (entryCount (dealSize deal)) i
   pub keeps-it : SlotKeeps deal commitment i
-  pub numbers : findNumbers deal commitment ≡ foundIn (deal .bytes) (found i)
+  pub numbers : findNumbers deal commitment ≡ foundIn (deal .bytes) (At i)
 
 module _ (deal : LentDeal) (commitment : List ℕ) where
   rules : List Rule
@@ -90,19 +91,19 @@ module _ (deal : LentDeal) (commitment : List ℕ) where
 
   -- every answer is a refusal before the slots are looked at, that of a segment in a slot, or 16
   by-answer : (P : FoundSegment → Type 0) → ((code : ℕ) → P (refused (suc code)))
-      → ((i : ℕ) → FoundIn deal commitment i → P (foundIn (deal .bytes) (found i)))
+      → ((i : ℕ) → FoundIn deal commitment i → P (foundIn (deal .bytes) (At i)))
       → P (findNumbers deal commitment)
   by-answer P refusal segment = start (firstRefusal rules) refl
     where
       searched-by : Searched deal commitment → (f : Found) → lowestWithCommitment deal commitment ≡ f
           → P (findNumbers deal commitment)
-      searched-by s (found i) e =
-          let n : findNumbers deal commitment ≡ foundIn (deal .bytes) (found i) =
+      searched-by s (At i) e =
+          let n : findNumbers deal commitment ≡ foundIn (deal .bytes) (At i) =
           searched-is s ∙ ap (foundIn (deal .bytes)) e in
           let l = lowest-found (keepsCommitment deal commitment) 0 (entryCount (dealSize deal)) i e in
           let k = slot-keeps deal commitment i (l .passes) in
           subst P (sym n) (segment i (record { searched = s; is-lowest = l; keeps-it = k; numbers = n }))
-      searched-by s missing e = subst P (sym (searched-is s ∙ ap (foundIn (deal .bytes)) e)) (refusal 15)
+      searched-by s Missing e = subst P (sym (searched-is s ∙ ap (foundIn (deal .bytes)) e)) (refusal 15)
 
       start : (code : ℕ) → firstRefusal rules ≡ code → P (findNumbers deal commitment)
       start zero e = searched-by (passed e) (lowestWithCommitment deal commitment) refl
@@ -121,8 +122,8 @@ module _ (deal : LentDeal) (commitment : List ℕ) where
   find-some s i h k = go (lowestWithCommitment deal commitment) refl
     where
       go : (f : Found) → lowestWithCommitment deal commitment ≡ f → findNumbers deal commitment .code ≡ 0
-      go (found j) e = ap (λ (n : FoundSegment). n .code) (searched-is s ∙ ap (foundIn (deal .bytes)) e)
-      go missing e =
+      go (At j) e = ap (λ (n : FoundSegment). n .code) (searched-is s ∙ ap (foundIn (deal .bytes)) e)
+      go Missing e =
           let none = lowest-missing (keepsCommitment deal commitment) 0 (entryCount (dealSize deal)) e in
           absurd (true≢false (sym k ∙ none i (omega arith) (omega arith)))
 
@@ -133,10 +134,10 @@ module _ (deal : LentDeal) (commitment : List ℕ) where
   find-none s none = go (lowestWithCommitment deal commitment) refl
     where
       go : (f : Found) → lowestWithCommitment deal commitment ≡ f → findNumbers deal commitment ≡ refused 16
-      go (found j) e =
+      go (At j) e =
           let l = lowest-found (keepsCommitment deal commitment) 0 (entryCount (dealSize deal)) j e in
           absurd (true≢false (sym (l .passes) ∙ none j (omega (arith, l .below))))
-      go missing e = searched-is s ∙ ap (foundIn (deal .bytes)) e
+      go Missing e = searched-is s ∙ ap (foundIn (deal .bytes)) e
 
   -- a commitment with stray bits is kept nowhere
   pub find-stray : IsTree (deal .nodes) (deal .bytes) (dealLevel (dealSize deal)) → Searched deal commitment

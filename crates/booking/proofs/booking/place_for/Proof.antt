@@ -4,8 +4,9 @@ use native.Mathlib.Omega.{arith}
 use lib.ListN.{length}
 use denote.Ref.{now}
 use borrow.Author.Needs.{needs}
-use Rattle.rules.specs.Search.{found, missing, lowest}
-use Rattle.rules.specs.SearchLaws.{lowest-found}
+use Rattle.rules.specs.declared.Found.the-variants.{At, Missing}
+use Rattle.rules.specs.Search.{lowest}
+use Rattle.rules.specs.SearchLaws.{lowest-found, found-below}
 use Rattle.sizes.specs.Sizes.{area, entryCount}
 use Rattle.sizes.specs.SizesLaws.{index-start-le}
 use Rattle.index.specs.Slots.{rowAt}
@@ -15,7 +16,6 @@ use Rattle.booking.specs.Gather.{emptyAt, roomAt}
 use Rattle.booking.specs.GatherLaws.{slots-high}
 use Rattle.booking.specs.Room.{isFree, lowestFreeSlot}
 use Rattle.booking.specs.RoomLaws.{place-ends}
-use Rattle.booking.proofs.Searching.{found-below, is-found, is-missing}
 use Rattle.booking.proofs.KeepingSlot.{keeps-offset}
 use Rattle.booking.proofs.Deciding.{answer-15, answer-13, answer-14, answer-0, free-slot-is, free-place-is, ranges-end}
 use Rattle.booking.proofs.booking.place_for.Statement.{statement}
@@ -35,10 +35,10 @@ enum-known-i c = search needs
 -- the slot that keeps the segment
 kept-at : (c : tie.After-known-told)
     → let s = c .before .before .before .before .before .before .before in
-    lowest (keepsSegment (now (s .args .deal)) (now (s .args .segment))) 0 (entryCount (length (now (s .args .deal)))) ≡ found (c .before .i .given .0 .0)
+    lowest (keepsSegment (now (s .args .deal)) (now (s .args .segment))) 0 (entryCount (length (now (s .args .deal)))) ≡ At (c .before .i .given .0 .0)
 kept-at c =
     let k = c .before .before .before in
-    is-found _ (k .lowest-keeping .result) (k .lowest-keeping .ensures) (c .before .i .given .0 .0) (c .before .i .given .1)
+    sym (k .lowest-keeping .ensures) ∙ c .before .i .given .1
 
 kept-below : (c : tie.After-known-told) → c .before .i .given .0 .0 < entryCount (length (now (c .before .before .before .before .before .before .before .args .deal)))
 kept-below c =
@@ -97,10 +97,10 @@ refused-requires c κs = search needs
 -- no slot keeps it
 unkept : (c : tie.After-enum-told)
     → let s = c .before .before .before .before .before .before in
-    lowest (keepsSegment (now (s .args .deal)) (now (s .args .segment))) 0 (entryCount (length (now (s .args .deal)))) ≡ missing
+    lowest (keepsSegment (now (s .args .deal)) (now (s .args .segment))) 0 (entryCount (length (now (s .args .deal)))) ≡ Missing
 unkept c =
     let k = c .before .before in
-    is-missing _ (k .lowest-keeping .result) (k .lowest-keeping .ensures) (c .enum-told .given .1)
+    sym (k .lowest-keeping .ensures) ∙ c .enum-told .given .1
 
 returns-2 : tie.Need-returns-2
 returns-2 c =
@@ -113,19 +113,19 @@ returns-2 c =
     c .refused .ensures
     ∙ answer-13 deal segment (s .pre .0) (unkept (n .before))
     (sym (free-slot-is deal segment (s .pre .0) (g .gather .ensures) (n .entry-count .result) (n .entry-count .ensures))
-    ∙ is-missing (lowest (emptyAt (g .gather .result .areas)) 0 (n .entry-count .result)) (f .lowest-free-slot .result) (f .lowest-free-slot .ensures) (c .before .enum-told2 .given .1))
+    ∙ (sym (f .lowest-free-slot .ensures) ∙ c .before .enum-told2 .given .1))
 
 -- the free slot
 slot-at : (c : tie.After-known-told2)
     → let s = c .before .before .before .before .before .before .before .before .before .before .before in
-    lowestFreeSlot (rowAt (now (s .args .deal))) (entryCount (length (now (s .args .deal)))) ≡ found (c .before .i2 .given .0 .0)
+    lowestFreeSlot (rowAt (now (s .args .deal))) (entryCount (length (now (s .args .deal)))) ≡ At (c .before .i2 .given .0 .0)
 slot-at c =
     let f = c .before .before .before in
     let n = f .before in
     let g = n .before .before .before .before in
     let s = g .before .before .before in
     sym (free-slot-is (now (s .args .deal)) (now (s .args .segment)) (s .pre .0) (g .gather .ensures) (n .entry-count .result) (n .entry-count .ensures))
-    ∙ is-found (lowest (emptyAt (g .gather .result .areas)) 0 (n .entry-count .result)) (f .lowest-free-slot .result) (f .lowest-free-slot .ensures) (c .before .i2 .given .0 .0) (c .before .i2 .given .1)
+    ∙ (sym (f .lowest-free-slot .ensures) ∙ c .before .i2 .given .1)
 
 area-requires : tie.Need-area-requires
 area-requires c κs = search needs
@@ -173,7 +173,7 @@ returns-3 c =
     c .refused2 .ensures
     ∙ answer-14 deal segment (s .pre .0) (unkept (n .before)) (w .before .i2 .given .0 .0) (slot-at w)
     (sym (free-place-is deal segment (s .pre .0) (g .gather .ensures) (n .entry-count .result) (n .entry-count .ensures) (a .area .result) (p .before .index-start .result) (a .area .ensures) (p .before .index-start .ensures))
-    ∙ is-missing _ (p .lowest-place .result) (p .lowest-place .ensures) (c .before .enum-told3 .given .1))
+    ∙ (sym (p .lowest-place .ensures) ∙ c .before .enum-told3 .given .1))
 
 -- the free place
 room-at : (c : tie.After-known-told3)
@@ -182,10 +182,10 @@ room-at : (c : tie.After-known-told3)
     let n = w .before .before .before .before in
     let g = n .before .before .before .before in
     lowest (roomAt (g .gather .result .offsets) (g .gather .result .areas) (n .entry-count .result) (p .before .before .area .result)) 0 (p .before .index-start .result / p .before .before .area .result)
-    ≡ found (c .before .k .given .0 .0)
+    ≡ At (c .before .k .given .0 .0)
 room-at c =
     let p = c .before .before .before in
-    is-found _ (p .lowest-place .result) (p .lowest-place .ensures) (c .before .k .given .0 .0) (c .before .k .given .1)
+    sym (p .lowest-place .ensures) ∙ c .before .k .given .1
 
 mul-t23 : tie.Need-mul-t23
 mul-t23 c =

@@ -4,10 +4,8 @@ use native.Mathlib.Omega.{arith}
 use denote.Ref.{now}
 use borrow.Author.Needs.{needs}
 use Rattle.rules.specs.Search.{lowest}
-use Rattle.rules.specs.SearchLaws.{lowest-start}
+use Rattle.rules.specs.SearchLaws.{lowest-start, found-here, found-later, found-nowhere}
 use Rattle.booking.specs.Booking.{keepsSegment}
-use Rattle.booking.specs.Gather.{asLowest}
-use Rattle.booking.proofs.Searching.{found-here, found-later, found-nowhere}
 use Rattle.booking.proofs.keeping.lowest_keeping.Statement.{statement}
 use Rattle.booking.proofs.keeping.lowest_keeping.Tie as tie
 
@@ -39,7 +37,7 @@ returns c =
     let s = n .before .before .before in
     let keeps = keepsSegment (now (s .args .deal)) (now (s .args .segment)) in
     found-here keeps (n .entry-count .result) (l .loop .i) (l .loop .inv .1) (omega arith) (sym (k .slot-keeps .ensures) ∙ c .if1 .taken)
-    ∙ ap (λ (m : ℕ). asLowest (lowest keeps 0 m)) (n .entry-count .ensures)
+    ∙ ap (λ (m : ℕ). lowest keeps 0 m) (n .entry-count .ensures)
 
 add-i : tie.Need-add-i Inv-loop μ-loop
 add-i c = search needs
@@ -62,7 +60,7 @@ returns-2 c =
     let n = l .before in
     let s = n .before .before .before in
     let keeps = keepsSegment (now (s .args .deal)) (now (s .args .segment)) in
-    found-nowhere keeps (n .entry-count .result) (l .loop .i) (l .loop .inv .1) (omega arith) ∙ ap (λ (m : ℕ). asLowest (lowest keeps 0 m)) (n .entry-count .ensures)
+    found-nowhere keeps (n .entry-count .result) (l .loop .i) (l .loop .inv .1) (omega arith) ∙ ap (λ (m : ℕ). lowest keeps 0 m) (n .entry-count .ensures)
 
 pub lowest-keeping-spec : {M : Type 1} → statement M
 lowest-keeping-spec =

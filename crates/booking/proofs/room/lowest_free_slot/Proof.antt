@@ -4,9 +4,8 @@ use native.Mathlib.Omega.{arith}
 use borrow.Author.Tests.{eq-eqb, ne-eqb}
 use borrow.Author.Needs.{needs}
 use Rattle.rules.specs.Search.{lowest}
-use Rattle.rules.specs.SearchLaws.{lowest-start}
+use Rattle.rules.specs.SearchLaws.{lowest-start, found-here, found-later, found-nowhere}
 use Rattle.booking.specs.Gather.{emptyAt}
-use Rattle.booking.proofs.Searching.{found-here, found-later, found-nowhere}
 use Rattle.booking.proofs.room.lowest_free_slot.Statement.{statement}
 use Rattle.booking.proofs.room.lowest_free_slot.Tie as tie
 

@@ -3,9 +3,8 @@ use Prim.Native.Nat.{_-_, _≤_}
 use native.Mathlib.Omega.{arith}
 use borrow.Author.Needs.{needs}
 use Rattle.rules.specs.Search.{lowest}
-use Rattle.rules.specs.SearchLaws.{lowest-start}
+use Rattle.rules.specs.SearchLaws.{lowest-start, found-here, found-later, found-nowhere}
 use Rattle.booking.specs.Gather.{overlapsAt}
-use Rattle.booking.proofs.Searching.{found-here, found-later, found-nowhere}
 use Rattle.booking.proofs.room.lowest_overlap.Statement.{statement}
 use Rattle.booking.proofs.room.lowest_overlap.Tie as tie
 

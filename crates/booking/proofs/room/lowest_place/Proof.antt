@@ -1,13 +1,13 @@
-use mathlib.Core.Path.{_≡_, ap, _∙_}
+use mathlib.Core.Path.{_≡_, sym, ap, _∙_}
 use Prim.Native.Nat.{_-_, _*_, _/_, _<_}
 use native.Mathlib.Omega.{arith}
 use borrow.Author.Needs.{needs}
-use Rattle.rules.specs.Search.{found, lowest}
-use Rattle.rules.specs.SearchLaws.{lowest-start}
+use Rattle.rules.specs.declared.Found.the-variants.{At}
+use Rattle.rules.specs.Search.{lowest}
+use Rattle.rules.specs.SearchLaws.{lowest-start, found-here, found-nowhere}
 use Rattle.booking.specs.Gather.{overlapsAt, roomAt}
 use Rattle.booking.specs.Room.{isMissing}
 use Rattle.booking.specs.RoomLaws.{place-ends}
-use Rattle.booking.proofs.Searching.{found-here, found-nowhere, is-found, is-missing}
 use Rattle.booking.proofs.Jump.{slot-below, jump-on, jump}
 use Rattle.booking.proofs.room.lowest_place.Statement.{statement}
 use Rattle.booking.proofs.room.lowest_place.Tie as tie
@@ -48,20 +48,17 @@ returns c =
     let o = c .before .before in
     let l = o .before .before in
     let a = l .before .args in
-    let overlaps = overlapsAt (a .t1 .offsets) (a .t1 .areas) (l .loop .k * a .area) (a .area) in
     found-here (roomAt (a .t1 .offsets) (a .t1 .areas) (a .slots) (a .area)) (a .limit / a .area) (l .loop .k) (l .loop .inv) (omega arith)
-    (ap isMissing (is-missing (lowest overlaps 0 (a .slots)) (o .lowest-overlap .result) (o .lowest-overlap .ensures) (c .enum-told .given .1)))
+    (ap isMissing (sym (o .lowest-overlap .ensures) ∙ c .enum-told .given .1))
 
 -- the slot that a turn meets
 met : (c : tie.After-known-told Inv-loop μ-loop)
     → let l = c .before .before .before .before .before in
     let a = l .before .args in
-    lowest (overlapsAt (a .t1 .offsets) (a .t1 .areas) (l .loop .k * a .area) (a .area)) 0 (a .slots) ≡ found (c .before .i .given .0 .0)
+    lowest (overlapsAt (a .t1 .offsets) (a .t1 .areas) (l .loop .k * a .area) (a .area)) 0 (a .slots) ≡ At (c .before .i .given .0 .0)
 met c =
     let o = c .before .before .before in
-    let l = o .before .before in
-    let a = l .before .args in
-    is-found (lowest (overlapsAt (a .t1 .offsets) (a .t1 .areas) (l .loop .k * a .area) (a .area)) 0 (a .slots)) (o .lowest-overlap .result) (o .lowest-overlap .ensures) (c .before .i .given .0 .0) (c .before .i .given .1)
+    sym (o .lowest-overlap .ensures) ∙ c .before .i .given .1
 
 met-below : (c : tie.After-known-told Inv-loop μ-loop) → c .before .i .given .0 .0 < c .before .before .before .before .before .before .args .slots
 met-below c =

@@ -1,10 +1,10 @@
-use mathlib.Core.Path.{_≡_, sym, _∙_}
+use mathlib.Core.Path.{sym, _∙_}
 use lib.ListN.{length}
 use denote.Ref.{now}
 use borrow.Author.Tests.{not-true, not-false}
 use borrow.Author.Needs.{needs}
 use Rattle.sizes.specs.SizesLaws.{lent-size, entry-place}
-use Rattle.lent.specs.LentDeal.{lentDeal, dealRefusal}
+use Rattle.lent.specs.LentDeal.{lentDeal}
 use Rattle.lent.specs.LentDealLaws.{refusal-none}
 use Rattle.index.proofs.InspectAnswers.{deal-refused, place-refused, inspect-done}
 use Rattle.index.proofs.inspecting.inspect.Statement.{statement}
@@ -21,7 +21,8 @@ returns c =
     let k = c .before .before in
     let a = k .before .before .args in
     c .refused .ensures
-    ∙ deal-refused (lentDeal (now (a .deal))) (a .place) (k .refusal .result) (k .refusal .ensures) (c .before .if1 .taken)
+    ∙ deal-refused (lentDeal (now (a .deal))) (a .place) (k .refusal .result) (k .refusal .ensures)
+    (c .before .if1 .taken)
 
 place-allowed-requires : tie.Need-place-allowed-requires
 place-allowed-requires c κs =
