@@ -1,4 +1,3 @@
-pub mod Jump
 pub mod GatherTurn
 pub mod KeepingSlot
 pub mod Deciding

@@ -1,11 +1,10 @@
-// Free slots and free places among gathered ranges.
+// Overlaps, the lowest free slot and the lowest free place.
 use crate::Ranges;
 use rules::Found;
 ghost use mathlib.Core.Path.{_≡_};
-ghost use Prim.Native.Nat.{_+_, _/_, _^_, _≤_, _<_};
-ghost use Rattle.rules.specs.Search.{lowest};
-ghost use Rattle.booking.specs.Room as R;
-ghost use Rattle.booking.specs.Gather.{EndBy, emptyAt, overlapsAt, roomAt};
+ghost use Prim.Native.Nat.{_+_, _^_, _≤_, _<_};
+ghost use Rattle.room.specs.Room as R;
+ghost use Rattle.room.specs.Room.{Bounded, rangesIn, lowestOverlap, lowestFreeSlot, lowestPlace};
 
 // Whether the n bytes from o and the m bytes from p have a byte in common.
 fn overlap(o: u64, n: u64, p: u64, m: u64) -> bool
@@ -16,9 +15,9 @@ fn overlap(o: u64, n: u64, p: u64, m: u64) -> bool
 }
 
 // The lowest slot whose range overlaps the area from an offset.
-fn lowest_overlap(ranges: Ranges, slots: usize, offset: u64, area: u64) -> Found
-    requires { ⌜ (slots ≤ 128) × (offset + area ≤ 2 ^ 36) × EndBy (2 ^ 36) slots (ranges .offsets) (ranges .areas) ⌝ }
-    ensures { λ r. ⌜ r ≡ lowest (overlapsAt (ranges .offsets) (ranges .areas) offset area) 0 slots ⌝ }
+pub fn lowest_overlap(ranges: Ranges, slots: usize, offset: u64, area: u64) -> Found
+    requires { ⌜ (slots ≤ 128) × (offset + area ≤ 2 ^ 36) × Bounded slots ranges ⌝ }
+    ensures { λ r. ⌜ r ≡ lowestOverlap (rangesIn ranges) slots offset area ⌝ }
 {
     let mut i: usize = 0;
     while i < slots {
@@ -33,7 +32,7 @@ fn lowest_overlap(ranges: Ranges, slots: usize, offset: u64, area: u64) -> Found
 // The lowest free slot: one whose range is empty.
 pub(crate) fn lowest_free_slot(ranges: Ranges, slots: usize) -> Found
     requires { ⌜ slots ≤ 128 ⌝ }
-    ensures { λ r. ⌜ r ≡ lowest (emptyAt (ranges .areas)) 0 slots ⌝ }
+    ensures { λ r. ⌜ r ≡ lowestFreeSlot (rangesIn ranges) slots ⌝ }
 {
     let mut i: usize = 0;
     while i < slots {
@@ -45,11 +44,11 @@ pub(crate) fn lowest_free_slot(ranges: Ranges, slots: usize) -> Found
     Found::Missing
 }
 
-// The lowest k such that the area from k times its size on overlaps no range and ends by the limit. From an overlap the search
-// goes on at the first multiple from the end of that range on: every multiple before it overlaps the same range.
+// The lowest k such that the area from k times its size on overlaps no range and ends by the limit. From an overlap the
+// search goes on at the first multiple from the end of that range on: every multiple before it overlaps the same range.
 pub(crate) fn lowest_place(ranges: Ranges, slots: usize, area: u64, limit: u64) -> Found
-    requires { ⌜ (slots ≤ 128) × ((0 < area) × (area ≤ 2 ^ 36)) × (limit ≤ 2 ^ 36) × EndBy (2 ^ 36) slots (ranges .offsets) (ranges .areas) ⌝ }
-    ensures { λ r. ⌜ r ≡ lowest (roomAt (ranges .offsets) (ranges .areas) slots area) 0 (limit / area) ⌝ }
+    requires { ⌜ (slots ≤ 128) × ((0 < area) × (area ≤ 2 ^ 36)) × (limit ≤ 2 ^ 36) × Bounded slots ranges ⌝ }
+    ensures { λ r. ⌜ r ≡ lowestPlace (rangesIn ranges) slots area limit ⌝ }
 {
     let places = limit / area;
     let mut k: u64 = 0;

@@ -1,8 +1,8 @@
 use borrow.Author.Tests.{lt-ltb, le-ltb}
 use borrow.Author.Needs.{needs}
-use Rattle.booking.specs.Room as R
-use Rattle.booking.proofs.room.overlap.Statement.{statement}
-use Rattle.booking.proofs.room.overlap.Tie as tie
+use Rattle.room.specs.Room as R
+use Rattle.room.proofs.places.overlap.Statement.{statement}
+use Rattle.room.proofs.places.overlap.Tie as tie
 
 add-if1 : tie.Need-add-if1
 add-if1 c = search needs
