@@ -3,53 +3,71 @@ use mathlib.Core.Path.{_≡_, sym, ap, ap₂, _∙_}
 use mathlib.Core.Bool.{true, false, _&&_}
 use mathlib.Core.Logic.{_≢_}
 use mathlib.Core.List.{List}
-use Prim.Native.Nat.{ℕ, _+_, _*_, _/_, _^_, _≤_, _<_}
+use Prim.Native.Nat.{ℕ, _+_, _*_, _^_, _≤_, _<_}
 use native.Mathlib.Omega.{arith}
 use lib.ListN.{length}
-use Rattle.rules.specs.Search.{found, missing, lowest}
+use Rattle.rules.specs.SearchLaws.{found-below}
 use Rattle.octets.specs.Fill.{zeroFilled}
-use Rattle.octets.specs.Splice.{splice}
 use Rattle.merkle.specs.Tree.{commitmentOf}
 use Rattle.stray.specs.StrayBits.{noStrayBits}
 use Rattle.stray.specs.StrayBitsLaws.{filled-clear}
-use Rattle.entries.specs.Entry.{entryOf}
 use Rattle.sizes.specs.Sizes.{lentSizeAllowed, segmentSizeAllowed, area, entryCount, indexStart, segmentLevel}
 use Rattle.sizes.specs.SizesLaws.{lent-size, segment-size, index-start-le}
-use Rattle.index.specs.Slots.{slotAt, rowAt}
-use Rattle.booking.specs.Booking.{areaBytes, keepsSegment, refuse, already, place, inRoom, unlessKept, decision, segmentCommitment, answerTo, bookAnswer, bookedDeal}
-use Rattle.booking.specs.BookingLaws.{Bookable, Books, bookable-deal, bookable-segment, books, answer-is, deal-is, code-0}
-use Rattle.booking.specs.FrameLaws.{refused-same}
-use Rattle.booking.specs.Gather.{Gathered, EndBy, emptyAt, roomAt}
-use Rattle.booking.specs.GatherLaws.{row-ends, row-empty, slot-within, gathered-room, gathered-free, gathered-ends}
-use Rattle.booking.specs.Room.{lowestFreeSlot, lowestPlace}
-use Rattle.booking.specs.declared.Booked.{Booked}
+use Rattle.index.specs.Slots.{slotAt}
+use Rattle.index.specs.KeptRowsLaws.{slot-within, row-ends}
+use Rattle.room.specs.Room.{Range, SameBelow, EndBy, rangesIn}
+use Rattle.room.specs.Decide.{SlotBelow, decide, answerTo}
+use Rattle.room.specs.DecideLaws.{decides-below, decide-cong, answer-cong}
+use Rattle.room.specs.declared.Booked.{Booked}
+use Rattle.room.specs.declared.Decision.{Decision}
+use Rattle.room.specs.declared.Decision.the-variants.{Refuse, Place}
+use Rattle.room.specs.declared.Ranges.{Ranges}
+use Rattle.booking.specs.Ranges.{rangesOf}
+use Rattle.booking.specs.Write.{areaBytes, segmentCommitment, writtenAt}
+use Rattle.booking.specs.WriteLaws.{Fits, written-at}
+use Rattle.booking.specs.Booking.{keepsSegment, lowestKeeping, decision, bookAnswer, bookedDeal}
+use Rattle.booking.specs.BookableLaws.{Bookable, bookable-deal, bookable-segment, area-some}
+use Rattle.booking.specs.BookingLaws.{decision-is, answer-is, deal-is, code-0, refused-same}
+use Rattle.booking.specs.BookedLaws.{booked-fits}
 
 module _ (deal segment : List ℕ) where
   -- the area of an allowed size has stray bits only where the segment has
-  pub area-clear : lentSizeAllowed (length deal) ≡ true → segmentSizeAllowed (length deal) (length segment) ≡ true → noStrayBits (areaBytes segment) ≡ noStrayBits segment
+  pub area-clear : lentSizeAllowed (length deal) ≡ true → segmentSizeAllowed (length deal) (length segment) ≡ true
+      → noStrayBits (areaBytes segment) ≡ noStrayBits segment
   area-clear a b =
-      filled-clear (area (length segment)) segment (segment-size (length deal) (length segment) (lent-size (length deal) a .deal) b .size-area)
+      filled-clear (area (length segment)) segment
+      (segment-size (length deal) (length segment) (lent-size (length deal) a .deal) b .size-area)
 
   -- a size or a stray bit is refused
   pub record Refused (answer : Booked) : Type 0 where
     pub answered : answer ≡ bookAnswer deal segment
     pub unchanged : deal ≡ bookedDeal deal segment
 
-  refused-by : (code : ℕ) (answer : Booked) → answer ≡ answerTo deal (refuse code) → decision deal segment ≡ refuse code → Refused answer
-  refused-by code answer e d = record { answered = e ∙ sym (answer-is deal segment (refuse code) d); unchanged = sym (deal-is deal segment (refuse code) d) }
+  abbrev refusal : ℕ → Booked
+  refusal code = record { code = code; offset = 0; place = 0 }
+
+  refused-by : (code : ℕ) (answer : Booked) → answer ≡ refusal code → decision deal segment ≡ Refuse code
+      → Refused answer
+  refused-by code answer e d =
+      record {
+        answered = e ∙ sym (answer-is deal segment (Refuse code) d);
+        unchanged = sym (deal-is deal segment (Refuse code) d);
+      }
 
   module _ (answer : Booked) where
-    pub refused-2 : answer ≡ answerTo deal (refuse 2) → lentSizeAllowed (length deal) ≡ false → Refused answer
+    pub refused-2 : answer ≡ refusal 2 → lentSizeAllowed (length deal) ≡ false → Refused answer
     unfolding decision
     refused-2 e a = refused-by 2 answer e (rw a)
 
-    pub refused-4 : answer ≡ answerTo deal (refuse 4) → lentSizeAllowed (length deal) ≡ true → segmentSizeAllowed (length deal) (length segment) ≡ false → Refused answer
-    unfolding decision
-    refused-4 e a b = refused-by 4 answer e (rw (a, b))
+    module _ (a : lentSizeAllowed (length deal) ≡ true) where
+      pub refused-4 : answer ≡ refusal 4 → segmentSizeAllowed (length deal) (length segment) ≡ false → Refused answer
+      unfolding decision
+      refused-4 e b = refused-by 4 answer e (rw (a, b))
 
-    pub refused-11 : answer ≡ answerTo deal (refuse 11) → lentSizeAllowed (length deal) ≡ true → segmentSizeAllowed (length deal) (length segment) ≡ true → (noStrayBits deal && noStrayBits (areaBytes segment)) ≡ false → Refused answer
-    unfolding decision
-    refused-11 e a b s = refused-by 11 answer e (rw (a, b, s))
+      pub refused-11 : answer ≡ refusal 11 → segmentSizeAllowed (length deal) (length segment) ≡ true
+          → (noStrayBits deal && noStrayBits (areaBytes segment)) ≡ false → Refused answer
+      unfolding decision
+      refused-11 e b s = refused-by 11 answer e (rw (a, b, s))
 
   -- none is
   module _ (b : Bookable deal segment) where
@@ -57,87 +75,75 @@ module _ (deal segment : List ℕ) where
     module _ (level : ℕ) (l : level ≡ segmentLevel (length segment)) where
       pub level-fits : (level < 32) × (length segment ≤ 32 * 2 ^ level)
       level-fits =
-          let s = bookable-segment deal segment b in
-          let t = bookable-deal deal segment b in
+          let s = bookable-segment b in
+          let t = bookable-deal b in
           let e : area (length segment) ≡ 32 * 2 ^ level = s .area-is ∙ ap (λ (n : ℕ). 32 * 2 ^ n) (sym l) in
           (omega (arith, s .below-deal, t .lent-level), omega (arith, s .size-area))
 
       pub commitment-by : commitmentOf level (zeroFilled (32 * 2 ^ level) segment) ≡ segmentCommitment segment
       commitment-by =
           ap (λ (n : ℕ). commitmentOf n (zeroFilled (32 * 2 ^ n) segment)) l
-          ∙ ap (λ (n : ℕ). commitmentOf (segmentLevel (length segment)) (zeroFilled n segment)) (sym (bookable-segment deal segment b .area-is))
+          ∙ ap (λ (n : ℕ). commitmentOf (segmentLevel (length segment)) (zeroFilled n segment))
+          (sym (bookable-segment b .area-is))
 
-    searched : decision deal segment
-        ≡ unlessKept (lowest (keepsSegment deal segment) 0 (entryCount (length deal)))
-        (inRoom (area (length segment))
-        (lowestFreeSlot (rowAt deal) (entryCount (length deal)))
-        (lowestPlace (rowAt deal) (entryCount (length deal)) (area (length segment)) (indexStart (length deal))))
-    unfolding decision
-    searched = rw (b .deal-allowed, b .segment-allowed, b .deal-clear, b .segment-clear)
+    pub area-fits : (0 < area (length segment)) × (area (length segment) ≤ length deal)
+    area-fits = (area-some b, omega (arith, bookable-segment b .area-half))
 
-    pub answer-15 : (i : ℕ) → lowest (keepsSegment deal segment) 0 (entryCount (length deal)) ≡ found i → answerTo deal (already i) ≡ bookAnswer deal segment
-    answer-15 i k = sym (answer-is deal segment (already i) (searched ∙ rw k))
+    -- gathered ranges end by the index start; the decision and the answer by them are the definition's
+    module _ (ranges : Ranges) (g : SameBelow (entryCount (length deal)) (rangesIn ranges) (rangesOf deal)) where
+      pub gathered-end : EndBy (indexStart (length deal)) (entryCount (length deal)) (rangesIn ranges)
+      gathered-end i h =
+          let ends = row-ends (length deal) (slotAt deal i) (bookable-deal b .deal) in
+          let o = ap (λ (r : Range). r .offset) (g i h) in
+          let a = ap (λ (r : Range). r .area) (g i h) in
+          omega arith
 
-    module _ (k : lowest (keepsSegment deal segment) 0 (entryCount (length deal)) ≡ missing) where
-      pub answer-13 : lowestFreeSlot (rowAt deal) (entryCount (length deal)) ≡ missing → answerTo deal (refuse 13) ≡ bookAnswer deal segment
-      answer-13 s = sym (answer-is deal segment (refuse 13) (searched ∙ rw (k, s)))
+      abbrev decided : Decision
+      decided = decide (length deal) (rangesIn ranges) (area (length segment)) (lowestKeeping deal segment)
 
-      module _ (i : ℕ) (s : lowestFreeSlot (rowAt deal) (entryCount (length deal)) ≡ found i) where
-        pub answer-14 : lowestPlace (rowAt deal) (entryCount (length deal)) (area (length segment)) (indexStart (length deal)) ≡ missing → answerTo deal (refuse 14) ≡ bookAnswer deal segment
-        answer-14 p = sym (answer-is deal segment (refuse 14) (searched ∙ rw (k, s, p)))
+      pub decided-below : SlotBelow (entryCount (length deal)) decided
+      decided-below =
+          decides-below (length deal) (rangesIn ranges) (area (length segment)) (lowestKeeping deal segment)
+          (area-some b) (λ i. found-below (keepsSegment deal segment) (entryCount (length deal)) i)
 
-        pub answer-0 : (q : ℕ) → lowestPlace (rowAt deal) (entryCount (length deal)) (area (length segment)) (indexStart (length deal)) ≡ found q
-            → answerTo deal (place i (q * area (length segment))) ≡ bookAnswer deal segment
-        answer-0 q p = sym (answer-is deal segment (place i (q * area (length segment))) (searched ∙ rw (k, s, p)))
-
-    -- the searches over gathered ranges are those of the definition
-    module _ {offsets areas : List ℕ} (g : Gathered (rowAt deal) (entryCount (length deal)) offsets areas) (slots : ℕ) (s : slots ≡ entryCount (length deal)) where
-      pub free-slot-is : lowest (emptyAt areas) 0 slots ≡ lowestFreeSlot (rowAt deal) (entryCount (length deal))
-      free-slot-is = ap (lowest (emptyAt areas) 0) s ∙ gathered-free g (λ i. row-empty (length deal) (slotAt deal i) (bookable-deal deal segment b .deal))
-
-      pub free-place-is : (n limit : ℕ) → n ≡ area (length segment) → limit ≡ indexStart (length deal)
-          → lowest (roomAt offsets areas slots n) 0 (limit / n) ≡ lowestPlace (rowAt deal) (entryCount (length deal)) (area (length segment)) (indexStart (length deal))
-      free-place-is n limit a l =
-          ap₂ (λ (m x : ℕ). lowest (roomAt offsets areas m x) 0 (limit / x)) s a
-          ∙ ap (λ (x : ℕ). lowest (roomAt offsets areas (entryCount (length deal)) (area (length segment))) 0 (x / area (length segment))) l
-          ∙ gathered-room g (area (length segment)) (indexStart (length deal))
-
-      pub ranges-end : EndBy (2 ^ 36) slots offsets areas
-      ranges-end i h =
-          let t = bookable-deal deal segment b .deal in
-          omega (arith, gathered-ends g (indexStart (length deal)) (λ j. row-ends (length deal) (slotAt deal j) t) i (omega arith), index-start-le (length deal), t .size-high)
+      pub answer-by : answerTo (length deal) (rangesIn ranges) decided ≡ bookAnswer deal segment
+      answer-by =
+          answer-cong (length deal) (rangesIn ranges) (rangesOf deal) g decided decided-below
+          ∙ ap (answerTo (length deal) (rangesOf deal))
+          (decide-cong (length deal) (rangesIn ranges) (rangesOf deal) g (area (length segment))
+          (lowestKeeping deal segment))
+          ∙ sym (answer-is deal segment _ (decision-is deal segment b))
 
 -- code 0: a place was found, and the segment and its entry fit there
 module _ (deal segment : List ℕ) (answer : Booked) (e : answer ≡ bookAnswer deal segment) where
   module _ (z : answer .code ≡ 0) where
-    placed : (i : ℕ) × (o : ℕ) × (decision deal segment ≡ place i o)
+    placed : (i : ℕ) × (o : ℕ) × (decision deal segment ≡ Place i o)
     placed = code-0 deal segment .0 (sym (ap (λ (a : Booked). a .code) e) ∙ z)
 
-    placed-books : Books deal segment (placed .0) (placed .1)
-    placed-books = books deal segment (placed .0) (placed .1) .0 (placed .2)
+    room : Fits deal segment (placed .0) (placed .1)
+    room = booked-fits deal segment (placed .0) (placed .1) (placed .2)
 
-    answer-placed : answer ≡ answerTo deal (place (placed .0) (placed .1))
-    answer-placed = e ∙ answer-is deal segment (place (placed .0) (placed .1)) (placed .2)
+    answer-placed : answer ≡ answerTo (length deal) (rangesOf deal) (Place (placed .0) (placed .1))
+    answer-placed = e ∙ answer-is deal segment (Place (placed .0) (placed .1)) (placed .2)
 
     pub size-within : length segment ≤ area (length segment)
-    size-within = bookable-segment deal segment (placed-books .unkept .bookable) .size-area
+    size-within = bookable-segment (room .bookable) .size-area
 
     pub area-within : answer .offset + area (length segment) ≤ length deal
     area-within =
-        let b = placed-books in
-        omega (arith, ap (λ (a : Booked). a .offset) answer-placed, b .free-place .ends, index-start-le (length deal))
+        omega (arith, ap (λ (a : Booked). a .offset) answer-placed, room .ends, index-start-le (length deal))
 
     pub entry-within : answer .place + 64 ≤ length deal
     entry-within =
-        let b = placed-books in
-        let t = bookable-deal deal segment (b .unkept .bookable) .deal in
-        omega (arith, ap (λ (a : Booked). a .place) answer-placed, slot-within (length deal) (placed .0) t (omega (arith, b .free-slot .below)))
+        let at = slot-within (length deal) (placed .0) (bookable-deal (room .bookable) .deal) (room .slot-in) in
+        omega (arith, ap (λ (a : Booked). a .place) answer-placed)
 
     pub deal-written : (commitment : List ℕ) → commitment ≡ segmentCommitment segment
-        → splice (splice deal (answer .offset) (areaBytes segment)) (answer .place) (entryOf commitment (answer .offset) (length segment)) ≡ bookedDeal deal segment
+        → writtenAt deal segment commitment (answer .offset) (answer .place) ≡ bookedDeal deal segment
     deal-written commitment c =
-        ap₂ (λ (a : Booked) (n : List ℕ). splice (splice deal (a .offset) (areaBytes segment)) (a .place) (entryOf n (a .offset) (length segment))) answer-placed c
-        ∙ sym (deal-is deal segment (place (placed .0) (placed .1)) (placed .2))
+        ap₂ (λ (a : Booked) (n : List ℕ). writtenAt deal segment n (a .offset) (a .place)) answer-placed c
+        ∙ written-at room
+        ∙ sym (deal-is deal segment (Place (placed .0) (placed .1)) (placed .2))
 
   -- any other code: nothing is written
   pub deal-kept : answer .code ≢ 0 → deal ≡ bookedDeal deal segment

@@ -1,5 +1,3 @@
-pub mod Searching
-pub mod Jump
 pub mod GatherTurn
 pub mod KeepingSlot
 pub mod Deciding

@@ -1,95 +1,122 @@
--- When booking answers 15: for a segment that was just booked, and still after a booking of any other.
-use mathlib.Core.Path.{_≡_, sym, ap, ap₂, _∙_}
-use mathlib.Core.Bool.{true, false}
+-- When booking answers 15: for a segment that a slot keeps, for one that was just booked, and still after a booking of
+-- any other.
+use mathlib.Core.Path.{_≡_, sym, ap, ap₂, _∙_, subst}
+use mathlib.Core.Bool.{false, true≢false}
 use mathlib.Core.Logic.{_≢_}
 use Prim.Native.Nat.{ℕ, _<_}
 use native.Mathlib.Decide.{ℕ-discrete}
 use native.Mathlib.Omega.{arith}
 use mathlib.Core.List.{List}
 use lib.ListN.{length}
-use Rattle.rules.specs.RefusalLaws.{and-left, not-passed}
-use Rattle.merkle.specs.Tree.{nodeAt}
+use Rattle.rules.specs.RefusalLaws.{not-passed}
 use Rattle.sizes.specs.Sizes.{entryCount, slotPlace}
 use Rattle.entries.specs.Entry.{offsetIn}
-use Rattle.index.specs.Slots.{slotAt, kept}
-use Rattle.index.specs.KeptLaws.{kept-stands}
-use Rattle.booking.specs.declared.Booked.{Booked}
-use Rattle.booking.specs.Booking.{keepsSegment, already, place, decision, bookAnswer, bookedDeal}
-use Rattle.booking.specs.BookingLaws.{Already, books, kept-already, answer-is}
-use Rattle.booking.specs.FrameLaws.{booked-length, bookable-stays, slot-same, stands-elsewhere, keeps-written, keeps-same, keeps-only}
+use Rattle.index.specs.Slots.{slotAt}
+use Rattle.room.specs.Room.{Range}
+use Rattle.room.specs.declared.Booked.{Booked}
+use Rattle.room.specs.declared.Decision.the-variants.{Already, Place}
+use Rattle.booking.specs.RangesLaws.{range-stands}
+use Rattle.booking.specs.Write.{writtenDeal}
+use Rattle.booking.specs.WriteLaws.{Fits, written-length, slot-same, offset-written, stands-elsewhere}
+use Rattle.booking.specs.KeepLaws.{keeps-stands, keeps-written, keeps-same, keeps-only, bookable-stays}
+use Rattle.booking.specs.Booking.{keepsSegment, decision, bookAnswer, bookedDeal}
+use Rattle.booking.specs.BookingLaws.{KeptAt, kept-already, answer-is, code-15}
+use Rattle.booking.specs.BookedLaws.{booked-unkept, booked-fits, booked-is}
 
--- the answer 15
-abbrev pub alreadyAt : ℕ → ℕ → Booked
-alreadyAt o at = record { code = 15; offset = o; place = at }
+-- the answer 15, with offset and entry place of a slot
+abbrev pub answer15 : List ℕ → ℕ → Booked
+answer15 deal i = record { code = 15; offset = offsetIn (slotAt deal i); place = slotPlace (length deal) i }
 
--- a slot that keeps a segment holds a standing entry
-keeps-stands : (deal segment : List ℕ) (i : ℕ) → keepsSegment deal segment i ≡ true → kept (nodeAt deal) (length deal) (slotAt deal i) ≡ true
-unfolding keepsSegment
-keeps-stands deal segment i e = and-left (kept (nodeAt deal) (length deal) (slotAt deal i)) _ e
+-- is that of the lowest slot that keeps the segment
+module _ (deal segment : List ℕ) where
+  pub kept-answer : (i : ℕ) → KeptAt deal segment i → bookAnswer deal segment ≡ answer15 deal i
+  kept-answer i a =
+      let s = keeps-stands deal segment i (a .lowest-keeping .passes) in
+      answer-is deal segment (Already i) (kept-already deal segment i .1 a)
+      ∙ ap (λ (r : Range). record { code = 15; offset = r .offset; place = slotPlace (length deal) i })
+      (range-stands (length deal) (slotAt deal i) s)
+
+  pub answer-kept : bookAnswer deal segment .code ≡ 15 → (i : ℕ) × KeptAt deal segment i
+  answer-kept h = let p = code-15 deal segment .0 h in (p .0, kept-already deal segment (p .0) .0 (p .1))
 
 -- a segment that was just booked is kept in its slot
-pub booked-already : (deal segment : List ℕ) (i o : ℕ) → decision deal segment ≡ place i o → decision (bookedDeal deal segment) segment ≡ already i
-booked-already deal segment i o e =
-    let b = books deal segment i o .0 e in
-    let c : entryCount (length (bookedDeal deal segment)) ≡ entryCount (length deal) = ap entryCount (booked-length deal segment) in
-    let h : i < entryCount (length deal) = omega (arith, b .free-slot .below) in
-    kept-already (bookedDeal deal segment) segment i .1
-    (record {
-      bookable = bookable-stays deal segment i o e segment (b .unkept .bookable);
-      lowest-keeping = record {
-        from = omega arith;
-        below = omega arith;
-        passes = keeps-written deal segment i o e;
-        first = λ j f g. keeps-same deal segment i o e segment j (omega arith) (λ s. omega arith) ∙ b .unkept .none-keeps j (omega arith);
-      };
-    })
+module _ (deal segment : List ℕ) (i o : ℕ) (e : decision deal segment ≡ Place i o) where
+  fits : Fits deal segment i o
+  fits = booked-fits deal segment i o e
 
--- one booking, of whatever segment, later: a kept segment is kept in its slot, which holds the same entry
-module _ (deal segment other : List ℕ) (i k o : ℕ) (a : decision deal segment ≡ already i) (e : decision deal other ≡ place k o) where
-  was : Already deal segment i
-  was = kept-already deal segment i .0 a
-
-  slot-in : i < entryCount (length deal)
-  slot-in = omega (arith, was .lowest-keeping .below)
-
-  not-the-new : i ≢ k
-  not-the-new =
-      stands-elsewhere deal other k o e i slot-in
-      (kept-stands (nodeAt deal) (length deal) (slotAt deal i) (keeps-stands deal segment i (was .lowest-keeping .passes)))
-
-  -- the new slot keeps another segment: this one was not booked again
-  new-keeps-other : keepsSegment (bookedDeal deal other) segment k ≡ false
-  new-keeps-other =
-      not-passed (keepsSegment (bookedDeal deal other) segment k)
-      (λ t.
-      let same : decision deal other ≡ decision deal segment = ap (decision deal) (keeps-only deal other k o e segment t) in
-      let z : _≡_ {A = ℕ} 0 1 = cc in
-      omega arith)
-
-  lower-keep-none : (j : ℕ) → j < i → keepsSegment (bookedDeal deal other) segment j ≡ false
-  lower-keep-none j h =
-      elim (ℕ-discrete j k) [
-        | yes new ↦ ap (keepsSegment (bookedDeal deal other) segment) new ∙ new-keeps-other
-        | no old ↦ keeps-same deal other k o e segment j (omega (arith, slot-in)) old ∙ was .lowest-keeping .first j (omega arith) h
-      ]
-
-  pub already-still : decision (bookedDeal deal other) segment ≡ already i
-  already-still =
-      kept-already (bookedDeal deal other) segment i .1
-      (record {
-        bookable = bookable-stays deal other k o e segment (was .bookable);
+  written-kept : KeptAt (writtenDeal deal segment i o) segment i
+  written-kept =
+      let slots : entryCount (length (writtenDeal deal segment i o)) ≡ entryCount (length deal) =
+      ap entryCount (written-length fits) in
+      let slot-in = fits .slot-in in
+      record {
+        bookable = bookable-stays fits segment (fits .bookable);
         lowest-keeping = record {
           from = omega arith;
-          below = omega (arith, slot-in, ap entryCount (booked-length deal other));
-          passes = keeps-same deal other k o e segment i slot-in not-the-new ∙ was .lowest-keeping .passes;
+          below = omega arith;
+          passes = keeps-written fits;
+          first = λ j f g.
+              keeps-same fits segment j (omega arith) (λ s. omega arith)
+              ∙ booked-unkept deal segment i o e .none-keeps j (omega arith);
+        };
+      }
+
+  pub booked-kept : KeptAt (bookedDeal deal segment) segment i
+  booked-kept = subst (λ (x : List ℕ). KeptAt x segment i) (sym (booked-is deal segment i o e)) written-kept
+
+  pub booked-offset : offsetIn (slotAt (bookedDeal deal segment) i) ≡ o
+  booked-offset = ap (λ (x : List ℕ). offsetIn (slotAt x i)) (booked-is deal segment i o e) ∙ offset-written fits
+
+-- one booking, of whatever segment, later: a kept segment is kept in its slot, which holds the same entry
+module _ (deal segment other : List ℕ) (i k o : ℕ) (a : KeptAt deal segment i)
+    (e : decision deal other ≡ Place k o) where
+  room : Fits deal other k o
+  room = booked-fits deal other k o e
+
+  abbrev after : List ℕ
+  after = writtenDeal deal other k o
+
+  slot-in : i < entryCount (length deal)
+  slot-in = omega (arith, a .lowest-keeping .below)
+
+  not-the-new : i ≢ k
+  not-the-new = stands-elsewhere room i (keeps-stands deal segment i (a .lowest-keeping .passes))
+
+  -- the new slot keeps another segment: this one was not booked again
+  new-keeps-other : keepsSegment after segment k ≡ false
+  new-keeps-other =
+      not-passed (keepsSegment after segment k)
+      (λ t.
+      true≢false
+      (sym (a .lowest-keeping .passes)
+      ∙ ap (λ (x : List ℕ). keepsSegment deal x i) (sym (keeps-only room segment t))
+      ∙ booked-unkept deal other k o e .none-keeps i slot-in))
+
+  lower-keep-none : (j : ℕ) → j < i → keepsSegment after segment j ≡ false
+  lower-keep-none j h =
+      let h' = slot-in in
+      elim (ℕ-discrete j k) [
+        | yes new ↦ ap (keepsSegment after segment) new ∙ new-keeps-other
+        | no old ↦ keeps-same room segment j (omega arith) old ∙ a .lowest-keeping .first j (omega arith) h
+      ]
+
+  after-kept : KeptAt after segment i
+  after-kept =
+      record {
+        bookable = bookable-stays room segment (a .bookable);
+        lowest-keeping = record {
+          from = omega arith;
+          below = omega (arith, slot-in, ap entryCount (written-length room));
+          passes = keeps-same room segment i slot-in not-the-new ∙ a .lowest-keeping .passes;
           first = λ j f g. lower-keep-none j g;
         };
-      })
+      }
 
+  -- so the answer stays
   pub answer-same : bookAnswer (bookedDeal deal other) segment ≡ bookAnswer deal segment
   answer-same =
-      let s : slotAt (bookedDeal deal other) i ≡ slotAt deal i = slot-same deal other k o e i slot-in not-the-new in
-      let d : length (bookedDeal deal other) ≡ length deal = booked-length deal other in
-      answer-is (bookedDeal deal other) segment (already i) already-still
-      ∙ ap₂ (λ (x : List ℕ) (n : ℕ). alreadyAt (offsetIn x) (slotPlace n i)) s d
-      ∙ sym (answer-is deal segment (already i) a)
+      ap (λ (x : List ℕ). bookAnswer x segment) (booked-is deal other k o e)
+      ∙ kept-answer after segment i after-kept
+      ∙ ap₂ (λ (x : List ℕ) (n : ℕ). record { code = 15; offset = offsetIn x; place = slotPlace n i })
+      (slot-same room i slot-in not-the-new) (written-length room)
+      ∙ sym (kept-answer deal segment i a)

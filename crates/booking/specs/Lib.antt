@@ -1,10 +1,12 @@
-pub mod Room
+pub mod Ranges
+pub mod Write
 pub mod Booking
 pub mod Run
-pub mod Gather
-pub mod RoomLaws
-pub mod GatherLaws
+pub mod RangesLaws
+pub mod BookableLaws
 pub mod BookingLaws
-pub mod FrameLaws
+pub mod WriteLaws
+pub mod KeepLaws
+pub mod BookedLaws
 pub mod AlreadyLaws
 pub mod NeverAgain

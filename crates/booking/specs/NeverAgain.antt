@@ -1,49 +1,93 @@
--- A kept segment is never booked again: booking it answers 15 with the numbers that it was booked with, whatever is booked in between.
+-- A segment already kept is never booked again (demand 2): booking it answers 15, with the numbers of the slot that
+-- keeps it, whatever is booked in between.
 use mathlib.Core.Path.{_≡_, refl, sym, ap, ap₂, _∙_}
-use Prim.Native.Nat.{ℕ}
+use mathlib.Core.Bool.{true, true≢false}
+use Prim.Native.Nat.{ℕ, _<_}
 use native.Mathlib.Decide.{ℕ-discrete}
+use native.Mathlib.Omega.{arith}
 use mathlib.Core.List.{List, [], _∷_}
-use Rattle.sizes.specs.Sizes.{slotPlace}
-use Rattle.booking.specs.declared.Booked.{Booked}
-use Rattle.booking.specs.Booking.{already, place, bookAnswer, bookedDeal}
+use lib.ListN.{length}
+use Rattle.rules.specs.declared.Found.{Found}
+use Rattle.rules.specs.declared.Found.the-variants.{At, Missing}
+use Rattle.rules.specs.SearchLaws.{IsLowest, lowest-found, lowest-missing}
+use Rattle.sizes.specs.Sizes.{entryCount, slotPlace}
+use Rattle.room.specs.declared.Booked.{Booked}
+use Rattle.room.specs.declared.Decision.the-variants.{Place}
+use Rattle.booking.specs.Booking.{keepsSegment, lowestKeeping, bookAnswer, bookedDeal}
 use Rattle.booking.specs.Run.{runBookings}
-use Rattle.booking.specs.BookingLaws.{answer-is, code-0, code-15}
-use Rattle.booking.specs.FrameLaws.{booked-length, refused-same, offset-written}
-use Rattle.booking.specs.AlreadyLaws.{alreadyAt, booked-already, answer-same}
+use Rattle.booking.specs.BookableLaws.{Bookable}
+use Rattle.booking.specs.BookingLaws.{answer-is, code-0, refused-same}
+use Rattle.booking.specs.BookedLaws.{booked-length}
+use Rattle.booking.specs.AlreadyLaws.{
+  answer15,
+  kept-answer,
+  answer-kept,
+  booked-kept,
+  booked-offset,
+  answer-same,
+}
 
 -- Code 15 stays, with the same numbers, after one more booking ..
-pub kept-once-more : (deal segment other : List ℕ) → bookAnswer deal segment .code ≡ 15 → bookAnswer (bookedDeal deal other) segment ≡ bookAnswer deal segment
+pub kept-once-more : (deal segment other : List ℕ) → bookAnswer deal segment .code ≡ 15
+    → bookAnswer (bookedDeal deal other) segment ≡ bookAnswer deal segment
 kept-once-more deal segment other h =
     elim (ℕ-discrete (bookAnswer deal other .code) 0) [
       | yes z ↦
-          let a = code-15 deal segment .0 h in
+          let a = answer-kept deal segment h in
           let p = code-0 deal other .0 z in
           answer-same deal segment other (a .0) (p .0) (p .1) (a .1) (p .2)
       | no r ↦ ap (λ (x : List ℕ). bookAnswer x segment) (refused-same deal other r)
     ]
 
 -- .. and after any run of bookings.
-pub kept-for-good : (deal segment : List ℕ) (later : List (List ℕ)) → bookAnswer deal segment .code ≡ 15 → bookAnswer (runBookings deal later) segment ≡ bookAnswer deal segment
+pub kept-for-good : (deal segment : List ℕ) (later : List (List ℕ)) → bookAnswer deal segment .code ≡ 15
+    → bookAnswer (runBookings deal later) segment ≡ bookAnswer deal segment
 unfolding runBookings
 kept-for-good deal segment [] h = refl
 kept-for-good deal segment (other ∷ later) h =
-    let once : bookAnswer (bookedDeal deal other) segment ≡ bookAnswer deal segment = kept-once-more deal segment other h in
+    let once : bookAnswer (bookedDeal deal other) segment ≡ bookAnswer deal segment =
+    kept-once-more deal segment other h in
     kept-for-good (bookedDeal deal other) segment later (ap (λ (x : Booked). x .code) once ∙ h) ∙ once
+
+-- A segment that a slot of a bookable deal keeps answers 15, now and after any run of bookings, with offset and entry
+-- place of the lowest slot that keeps it.
+pub kept-is-15 : (deal segment : List ℕ) (i : ℕ) → Bookable deal segment → i < entryCount (length deal)
+    → keepsSegment deal segment i ≡ true
+    → (j : ℕ)
+    × IsLowest (keepsSegment deal segment) 0 (entryCount (length deal)) j
+    × ((later : List (List ℕ)) → bookAnswer (runBookings deal later) segment ≡ answer15 deal j)
+kept-is-15 deal segment i b h k = by-search (lowestKeeping deal segment) refl
+  where
+    by-search : (f : Found) → lowestKeeping deal segment ≡ f
+        → (j : ℕ)
+        × IsLowest (keepsSegment deal segment) 0 (entryCount (length deal)) j
+        × ((later : List (List ℕ)) → bookAnswer (runBookings deal later) segment ≡ answer15 deal j)
+    by-search (At j) e =
+        let l = lowest-found (keepsSegment deal segment) 0 (entryCount (length deal)) j e in
+        let now = kept-answer deal segment j (record { bookable = b; lowest-keeping = l }) in
+        (j, l, λ later. kept-for-good deal segment later (ap (λ (x : Booked). x .code) now) ∙ now)
+    by-search Missing e =
+        let slots = entryCount (length deal) in
+        absurd (true≢false (sym k ∙ lowest-missing (keepsSegment deal segment) 0 slots e i (omega arith) (omega arith)))
 
 -- A segment that was booked with code 0 answers 15 when it is booked again, with the same offset and entry place ..
 pub booked-again : (deal segment : List ℕ) → bookAnswer deal segment .code ≡ 0
-    → bookAnswer (bookedDeal deal segment) segment ≡ record { code = 15; offset = bookAnswer deal segment .offset; place = bookAnswer deal segment .place }
+    → bookAnswer (bookedDeal deal segment) segment
+    ≡ record { code = 15; offset = bookAnswer deal segment .offset; place = bookAnswer deal segment .place }
 booked-again deal segment z =
     let p = code-0 deal segment .0 z in
     let i : ℕ = p .0 in
     let o : ℕ = p .1 in
-    answer-is (bookedDeal deal segment) segment (already i) (booked-already deal segment i o (p .2))
-    ∙ ap₂ (λ (x n : ℕ). alreadyAt x (slotPlace n i)) (offset-written deal segment i o (p .2)) (booked-length deal segment)
-    ∙ ap (λ (x : Booked). alreadyAt (x .offset) (x .place)) (sym (answer-is deal segment (place i o) (p .2)))
+    kept-answer (bookedDeal deal segment) segment i (booked-kept deal segment i o (p .2))
+    ∙ ap₂ (λ (x n : ℕ). record { code = 15; offset = x; place = slotPlace n i })
+    (booked-offset deal segment i o (p .2)) (booked-length deal segment)
+    ∙ ap (λ (x : Booked). record { code = 15; offset = x .offset; place = x .place })
+    (sym (answer-is deal segment (Place i o) (p .2)))
 
 -- .. and so it does after whatever is booked in between.
 pub never-again : (deal segment : List ℕ) → bookAnswer deal segment .code ≡ 0 → (later : List (List ℕ))
-    → bookAnswer (runBookings (bookedDeal deal segment) later) segment ≡ record { code = 15; offset = bookAnswer deal segment .offset; place = bookAnswer deal segment .place }
+    → bookAnswer (runBookings (bookedDeal deal segment) later) segment
+    ≡ record { code = 15; offset = bookAnswer deal segment .offset; place = bookAnswer deal segment .place }
 never-again deal segment z later =
     let again = booked-again deal segment z in
     kept-for-good (bookedDeal deal segment) segment later (ap (λ (x : Booked). x .code) again) ∙ again

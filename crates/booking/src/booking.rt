@@ -1,18 +1,14 @@
 // Booking: the place for a segment, and writing it there.
-use crate::Booked;
-use crate::Lowest;
 use crate::gathering::gather;
 use crate::keeping::lowest_keeping;
-use crate::room::lowest_free_slot;
-use crate::room::lowest_place;
+use room::Booked;
 ghost use mathlib.Core.Path.{_≡_};
 ghost use Prim.Native.Nat.{_+_, _≤_};
 ghost use lib.ListN.{length};
-ghost use Rattle.octets.specs.Splice.{splice};
 ghost use Rattle.sizes.specs.Sizes.{area};
-ghost use Rattle.entries.specs.Entry.{entryOf};
-ghost use Rattle.booking.specs.Booking.{areaBytes, segmentCommitment, bookAnswer, bookedDeal};
-ghost use Rattle.booking.specs.BookingLaws.{Bookable};
+ghost use Rattle.booking.specs.Write.{segmentCommitment, writtenAt};
+ghost use Rattle.booking.specs.Booking.{bookAnswer, bookedDeal};
+ghost use Rattle.booking.specs.BookableLaws.{Bookable};
 
 // A refusal.
 fn refused(code: u8) -> Booked
@@ -25,8 +21,7 @@ fn refused(code: u8) -> Booked
     }
 }
 
-// Where a segment goes in a lent deal: with 15 the lowest slot that keeps it already, else the lowest free slot and the lowest
-// free place; 13 and 14 where there is none.
+// Where a segment that no rule refuses goes in a lent deal: the answer by the test for 15 and the deal's room.
 fn place_for(deal: &[u8], segment: &[u8], commitment: [u8; 32]) -> Booked
     requires { ⌜ Bookable (now deal) (now segment) ⌝ }
     requires { ⌜ commitment ≡ segmentCommitment (now segment) ⌝ }
@@ -34,32 +29,22 @@ fn place_for(deal: &[u8], segment: &[u8], commitment: [u8; 32]) -> Booked
 {
     let deal_size = deal.len() as u64;
     let ranges = gather(deal);
-    if let Lowest::At(i) = lowest_keeping(deal, segment, commitment, ranges) {
-        return Booked {
-            code: 15,
-            offset: ranges.offsets[i],
-            place: sizes::slot_place(deal_size, i as u64),
-        };
-    }
-    let slots = sizes::entry_count(deal_size) as usize;
-    let Lowest::At(i) = lowest_free_slot(ranges, slots) else {
-        return refused(13);
-    };
-    let area = sizes::area(segment.len() as u64);
-    let Lowest::At(k) = lowest_place(ranges, slots, area, sizes::index_start(deal_size)) else {
-        return refused(14);
-    };
-    Booked {
-        code: 0,
-        offset: k as u64 * area,
-        place: sizes::slot_place(deal_size, i as u64),
-    }
+    let keeping = lowest_keeping(deal, segment, commitment, ranges);
+    let decision = room::decide(
+        deal_size,
+        ranges,
+        sizes::area(segment.len() as u64),
+        keeping,
+    );
+    room::answer(deal_size, ranges, decision)
 }
 
 // Writes a segment, zeros after it to its area's end, and its entry.
 fn write_segment(deal: &mut [u8], segment: &[u8], commitment: [u8; 32], offset: u64, place: u64)
-    requires { ⌜ (length (now segment) ≤ area (length (now segment))) × (offset + area (length (now segment)) ≤ length (now deal)) × (place + 64 ≤ length (now deal)) ⌝ }
-    ensures { λ _. ⌜ now (deal .exit) ≡ splice (splice (now (deal .entry)) offset (areaBytes (now (segment .entry)))) place (entryOf commitment offset (length (now (segment .entry)))) ⌝ }
+    requires { ⌜ length (now segment) ≤ area (length (now segment)) ⌝ }
+    requires { ⌜ offset + area (length (now segment)) ≤ length (now deal) ⌝ }
+    requires { ⌜ place + 64 ≤ length (now deal) ⌝ }
+    ensures { λ _. ⌜ now (deal .exit) ≡ writtenAt (now (deal .entry)) (now (segment .entry)) commitment offset place ⌝ }
 {
     let size = segment.len() as u64;
     let entry = entries::entry_of(commitment, offset, size);
@@ -68,12 +53,13 @@ fn write_segment(deal: &mut [u8], segment: &[u8], commitment: [u8; 32], offset: 
     octets::put_pair(deal, place as usize, entry);
 }
 
-// Books a segment in a lent deal: the segment, zeros after it to its area's end, and its entry are written, and no other byte
-// changes. 2 for a deal size that is not allowed, 4 for a segment size that is not allowed in it, 11 for stray bits in either, 15
-// with offset and entry place of a slot that keeps the segment already, 13 for no free slot, 14 for no free place; on a refusal
-// nothing is written.
+// Books a segment in a lent deal: the segment, zeros after it to its area's end, and its entry are written, and no
+// other byte changes. 2 for a deal size that is not allowed, 4 for a segment size that is not allowed in it, 11 for
+// stray bits in either, 15 with offset and entry place of the lowest slot that keeps the segment already, 13 for no
+// free slot, 14 for no free place; on a refusal nothing is written.
 pub fn book(deal: &mut [u8], segment: &[u8]) -> Booked
-    ensures { λ r. ⌜ (r ≡ bookAnswer (now (deal .entry)) (now (segment .entry))) × (now (deal .exit) ≡ bookedDeal (now (deal .entry)) (now (segment .entry))) ⌝ }
+    ensures { λ r. ⌜ r ≡ bookAnswer (now (deal .entry)) (now (segment .entry)) ⌝ }
+    ensures { λ r. ⌜ now (deal .exit) ≡ bookedDeal (now (deal .entry)) (now (segment .entry)) ⌝ }
 {
     let size = segment.len() as u64;
     if !sizes::lent_size_allowed(deal.len()) {

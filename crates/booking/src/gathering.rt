@@ -1,16 +1,16 @@
-// The standing entries of a lent deal, each slot read and judged once.
-use crate::Ranges;
-use index::Standing;
+// Which bytes the slots of a lent deal take up, each slot read and judged once.
+use index::Row;
+use room::Ranges;
 ghost use mathlib.Core.Path.{_≡_};
 ghost use mathlib.Core.Bool.{true};
 ghost use lib.ListN.{length};
 ghost use Rattle.rules.specs.Choice.{choose};
 ghost use Rattle.sizes.specs.Sizes.{lentSizeAllowed, entryCount, area};
-ghost use Rattle.index.specs.Slots.{rowAt};
-ghost use Rattle.booking.specs.Gather.{Gathered};
+ghost use Rattle.room.specs.Room.{SameBelow, rangesIn};
+ghost use Rattle.booking.specs.Ranges.{rangesOf};
 
 // How many bytes the segment of a standing entry takes up; 0 where nothing stands.
-fn area_of(entry: Standing) -> u64
+fn area_of(entry: Row) -> u64
     ensures { λ r. ⌜ r ≡ choose (entry .stands) (area (entry .size)) 0 ⌝ }
 {
     if entry.stands {
@@ -22,7 +22,7 @@ fn area_of(entry: Standing) -> u64
 // The ranges of a lent deal's standing entries.
 pub(crate) fn gather(deal: &[u8]) -> Ranges
     requires { ⌜ lentSizeAllowed (length (now deal)) ≡ true ⌝ }
-    ensures { λ r. ⌜ Gathered (rowAt (now (deal .entry))) (entryCount (length (now (deal .entry)))) (r .offsets) (r .areas) ⌝ }
+    ensures { λ r. ⌜ SameBelow (entryCount (length (now (deal .entry)))) (rangesIn r) (rangesOf (now (deal .entry))) ⌝ }
 {
     let deal_size = deal.len() as u64;
     let slots = sizes::entry_count(deal_size) as usize;

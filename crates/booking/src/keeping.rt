@@ -1,24 +1,24 @@
 // A segment that a deal keeps already.
-use crate::Lowest;
-use crate::Ranges;
+use room::Ranges;
+use rules::Found;
 ghost use mathlib.Core.Path.{_≡_};
 ghost use mathlib.Core.Bool.{true};
 ghost use Prim.Native.Nat.{_<_};
 ghost use lib.ListN.{length};
-ghost use Rattle.rules.specs.Search.{lowest};
 ghost use Rattle.sizes.specs.Sizes.{lentSizeAllowed, segmentSizeAllowed, entryCount};
-ghost use Rattle.index.specs.Slots.{rowAt};
-ghost use Rattle.booking.specs.Booking.{keepsSegment, segmentCommitment};
-ghost use Rattle.booking.specs.Gather.{Gathered, asLowest};
+ghost use Rattle.room.specs.Room.{SameBelow, rangesIn};
+ghost use Rattle.booking.specs.Ranges.{rangesOf};
+ghost use Rattle.booking.specs.Write.{segmentCommitment};
+ghost use Rattle.booking.specs.Booking.{keepsSegment, lowestKeeping};
 
-// Whether slot i of a lent deal keeps the segment: its entry stands and has the segment's size and commitment, and exactly the
-// segment's bytes, with zeros after them to the area's end, are at its offset. The commitment of those bytes is then the segment's:
-// the deal is not hashed.
+// Whether slot i of a lent deal keeps the segment: its entry stands and has the segment's size and commitment, and
+// exactly the segment's bytes, with zeros after them to the area's end, are at its offset. The commitment of those
+// bytes is then the segment's: the deal is not hashed.
 fn slot_keeps(deal: &[u8], segment: &[u8], commitment: [u8; 32], ranges: Ranges, i: usize) -> bool
     requires { ⌜ lentSizeAllowed (length (now deal)) ≡ true ⌝ }
     requires { ⌜ segmentSizeAllowed (length (now deal)) (length (now segment)) ≡ true ⌝ }
     requires { ⌜ commitment ≡ segmentCommitment (now segment) ⌝ }
-    requires { ⌜ Gathered (rowAt (now deal)) (entryCount (length (now deal))) (ranges .offsets) (ranges .areas) ⌝ }
+    requires { ⌜ SameBelow (entryCount (length (now deal))) (rangesIn ranges) (rangesOf (now deal)) ⌝ }
     requires { ⌜ i < entryCount (length (now deal)) ⌝ }
     ensures { λ r. ⌜ r ≡ keepsSegment (now (deal .entry)) (now (segment .entry)) i ⌝ }
 {
@@ -44,20 +44,20 @@ pub(crate) fn lowest_keeping(
     segment: &[u8],
     commitment: [u8; 32],
     ranges: Ranges,
-) -> Lowest
+) -> Found
     requires { ⌜ lentSizeAllowed (length (now deal)) ≡ true ⌝ }
     requires { ⌜ segmentSizeAllowed (length (now deal)) (length (now segment)) ≡ true ⌝ }
     requires { ⌜ commitment ≡ segmentCommitment (now segment) ⌝ }
-    requires { ⌜ Gathered (rowAt (now deal)) (entryCount (length (now deal))) (ranges .offsets) (ranges .areas) ⌝ }
-    ensures { λ r. ⌜ r ≡ asLowest (lowest (keepsSegment (now (deal .entry)) (now (segment .entry))) 0 (entryCount (length (now (deal .entry))))) ⌝ }
+    requires { ⌜ SameBelow (entryCount (length (now deal))) (rangesIn ranges) (rangesOf (now deal)) ⌝ }
+    ensures { λ r. ⌜ r ≡ lowestKeeping (now (deal .entry)) (now (segment .entry)) ⌝ }
 {
     let slots = sizes::entry_count(deal.len() as u64) as usize;
     let mut i: usize = 0;
     while i < slots {
         if slot_keeps(deal, segment, commitment, ranges, i) {
-            return Lowest::At(i);
+            return Found::At(i);
         }
         i += 1;
     }
-    Lowest::Nothing
+    Found::Missing
 }

@@ -11,9 +11,9 @@ use Rattle.merkle.specs.Tree.{nodeAt}
 use Rattle.stray.specs.StrayBits.{noStrayBits}
 use Rattle.merkle.specs.NodeSourceLaws.{run-tree}
 use Rattle.sizes.specs.Sizes.{lentSizeAllowed, placeAllowed, dealLevel}
-use Rattle.index.specs.Slots.{entryAt, keptRow, standingOf}
+use Rattle.index.specs.Slots.{entryAt, keptRow}
 use Rattle.index.specs.SlotsLaws.{answer-kept, answer-not-kept}
-use Rattle.index.specs.declared.Standing.{Standing}
+use Rattle.index.specs.declared.Row.{Row}
 use Rattle.lent.specs.LentDeal.{lentDeal}
 use Rattle.build.specs.Build.{built, notBuilt, recordAt, buildAnswer, buildOutput}
 use Rattle.build.specs.BuildLaws.{InDeal, in-deal, means-build}
@@ -26,7 +26,7 @@ abbrev pub Answered : List ℕ → ℕ → List ℕ → BuildAnswer → List ℕ
 Answered deal place out answer after = (answer ≡ buildAnswer (lentDeal deal) place out) × (after ≡ buildOutput (lentDeal deal) place out)
 
 -- the record for an entry that was read at a place
-abbrev pub recordAs : List ℕ → ℕ → Standing → List ℕ
+abbrev pub recordAs : List ℕ → ℕ → Row → List ℕ
 recordAs deal place entry = recordFor (lentDeal deal) (entry .commitment) (entry .offset) (entry .size) place
 
 -- the tests that are passed before the entry is read
@@ -36,12 +36,12 @@ pub record Passed (deal : List ℕ) (place : ℕ) : Type 0 where
   pub allowed : placeAllowed (length deal) place ≡ true
 
 -- what is known of an entry that was found to be kept
-pub record KeptHere (deal : List ℕ) (place : ℕ) (entry : Standing) : Type 0 where
+pub record KeptHere (deal : List ℕ) (place : ℕ) (entry : Row) : Type 0 where
   pub within : InDeal (length deal) place (entry .offset) (entry .size)
   pub builds : recordAt (lentDeal deal) place ≡ built (recordAs deal place entry)
   pub sized : length (recordAs deal place entry) ≡ recordLength (length deal) (entry .size)
 
-pub kept-here : (deal : List ℕ) (place : ℕ) (entry : Standing) → Passed deal place → entry ≡ standingOf (keptRow (nodeAt deal) (length deal) (entryAt deal place)) → entry .stands ≡ true
+pub kept-here : (deal : List ℕ) (place : ℕ) (entry : Row) → Passed deal place → entry ≡ keptRow (nodeAt deal) (length deal) (entryAt deal place) → entry .stands ≡ true
     → KeptHere deal place entry
 kept-here deal place entry p e t =
     let a = answer-kept (nodeAt deal) (length deal) (entryAt deal place) entry e t in
@@ -74,8 +74,8 @@ module _ (deal : List ℕ) (place : ℕ) (out : List ℕ) {answer : BuildAnswer}
   place-refused a l n t = refused-with 6 a (rw (l, n, t))
 
   -- with the entry that was read at the place
-  module _ {entry : Standing} where
-    pub entry-refused : answer ≡ record { code = 16; length = 0 } → Passed deal place → entry ≡ standingOf (keptRow (nodeAt deal) (length deal) (entryAt deal place)) → entry .stands ≡ false
+  module _ {entry : Row} where
+    pub entry-refused : answer ≡ record { code = 16; length = 0 } → Passed deal place → entry ≡ keptRow (nodeAt deal) (length deal) (entryAt deal place) → entry .stands ≡ false
         → Answered deal place out answer out
     unfolding recordAt
     entry-refused a p e t = refused-with 16 a (rw (p .lent, p .clean, p .allowed, answer-not-kept (nodeAt deal) (length deal) (entryAt deal place) entry e t))

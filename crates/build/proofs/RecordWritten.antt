@@ -10,7 +10,7 @@ use Rattle.merkle.specs.Tree.{nodeAt}
 use Rattle.paths.specs.Siblings.{siblings}
 use Rattle.merkle.specs.NodeSourceLaws.{run-tree}
 use Rattle.sizes.specs.Sizes.{dealLevel, segmentLevel, segmentPosition}
-use Rattle.index.specs.declared.Standing.{Standing}
+use Rattle.index.specs.declared.Row.{Row}
 use Rattle.record.specs.Form.{fields, putField}
 use Rattle.lent.specs.LentDeal.{lentDeal}
 use Rattle.build.specs.Build.{segmentPathOf, entryPathOf}
@@ -20,7 +20,7 @@ use Rattle.build.specs.EncodeLaws.{record-length}
 use Rattle.build.proofs.Written.{fields-written}
 
 -- the deal's level, and the level and position of the segment's node, as the code works them out
-pub record WorkedOut (deal : List ℕ) (entry : Standing) (place top level position : ℕ) : Type 0 where
+pub record WorkedOut (deal : List ℕ) (entry : Row) (place top level position : ℕ) : Type 0 where
   pub within : InDeal (length deal) place (entry .offset) (entry .size)
   pub top-is : top ≡ dealLevel (length deal)
   pub level-is : level ≡ segmentLevel (entry .size)
@@ -32,7 +32,7 @@ up deal w n m e =
     let h : dealLevel (length deal) ≤ 31 = w .lent-is .deal .level-high in
     (omega arith, w .lent-is .deal .is-power ∙ ap (λ (k : ℕ). 32 * 2 ^ k) (sym e))
 
-module _ {deal : List ℕ} {entry : Standing} {place top level position : ℕ} (w : WorkedOut deal entry place top level position) where
+module _ {deal : List ℕ} {entry : Row} {place top level position : ℕ} (w : WorkedOut deal entry place top level position) where
   -- what the two path fields ask, in an output of m bytes with room for the record
   module _ {m n : ℕ} (e : m ≡ n) (h : recordLength (length deal) (entry .size) ≤ n) where
     pub segment-asked : (level + (top - level) < 32) × (length deal ≡ 32 * 2 ^ (level + (top - level))) × (position < 2 ^ (top - level)) × (68 + 3 + 32 * (top - level) ≤ m)

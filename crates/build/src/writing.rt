@@ -2,7 +2,7 @@
 use crate::fields::put_node_field;
 use crate::fields::put_number_field;
 use crate::fields::put_path_field;
-use index::Standing;
+use index::Row;
 ghost use mathlib.Core.Path.{_≡_};
 ghost use Prim.Native.Nat.{_≤_};
 ghost use lib.ListN.{length};
@@ -25,7 +25,7 @@ pub(crate) fn record_length(d: u64, size: u64) -> usize
 
 // Writes the record for the entry at a place of a lent deal into the first bytes of `out`: the fields in the order of their tags,
 // each where the one before it ends.
-pub(crate) fn write_record(deal: &[u8], entry: Standing, place: u64, out: &mut [u8])
+pub(crate) fn write_record(deal: &[u8], entry: Row, place: u64, out: &mut [u8])
     requires { ⌜ InDeal (length (now deal)) place (entry .offset) (entry .size) ⌝ }
     requires { ⌜ recordLength (length (now deal)) (entry .size) ≤ length (now out) ⌝ }
     ensures { λ _. ⌜ now (out .exit) ≡ splice (now (out .entry)) 0 (recordFor (lentDeal (now (deal .entry))) (entry .commitment) (entry .offset) (entry .size) place) ⌝ }

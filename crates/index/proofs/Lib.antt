@@ -3,5 +3,5 @@ pub mod SlotAnswers
 pub mod SegmentNode
 pub mod Keeping
 pub mod View
-pub mod SlotStates
+pub mod InspectAnswers
 pub mod Counting

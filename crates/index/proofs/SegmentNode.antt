@@ -4,7 +4,8 @@ use mathlib.Core.Bool.{true}
 use Prim.Native.Nat.{ℕ, _+_, _*_, _^_, _≤_, _<_}
 use native.Mathlib.Omega.{arith}
 use Rattle.merkle.specs.TreeLaws.{within}
-use Rattle.sizes.specs.Sizes.{lentSizeAllowed, segmentSizeAllowed, offsetAllowed, dealLevel, segmentLevel, segmentPathLevels, segmentPosition}
+use Rattle.sizes.specs.Sizes.{lentSizeAllowed, segmentSizeAllowed, offsetAllowed, dealLevel}
+use Rattle.sizes.specs.Sizes.{segmentLevel, segmentPathLevels, segmentPosition}
 use Rattle.sizes.specs.SizesLaws.{lent-size, segment-size, segment-place}
 
 module _ (d offset size : ℕ) (t : lentSizeAllowed d ≡ true) (z : segmentSizeAllowed d size ≡ true) where
@@ -14,11 +15,15 @@ module _ (d offset size : ℕ) (t : lentSizeAllowed d ≡ true) (z : segmentSize
   pub level-high : segmentLevel size < 32
   level-high = let s = segment-size d size (lent-size d t .deal) z in let l = lent-size d t in omega arith
 
-  pub node-within : offsetAllowed d offset size ≡ true → (segmentPosition offset size + 1) * (32 * 2 ^ segmentLevel size) ≤ d
+  pub node-within : offsetAllowed d offset size ≡ true
+      → (segmentPosition offset size + 1) * (32 * 2 ^ segmentLevel size) ≤ d
   node-within o =
       let deal = lent-size d t .deal in
       let s = segment-size d size deal z in
       let p = segment-place d offset size deal s o in
       let b : segmentLevel size < dealLevel d = s .below-deal in
-      let n : segmentLevel size + segmentPathLevels d size ≡ dealLevel d = omega arith in
-      subst (λ (m : ℕ). (segmentPosition offset size + 1) * (32 * 2 ^ segmentLevel size) ≤ m) (ap (λ (m : ℕ). 32 * 2 ^ m) n ∙ sym (deal .is-power)) (within (segmentPathLevels d size) (segmentLevel size) (segmentPosition offset size) (p .position-in))
+      let up : segmentLevel size + segmentPathLevels d size ≡ dealLevel d = omega arith in
+      let whole : 32 * 2 ^ (segmentLevel size + segmentPathLevels d size) ≡ d =
+      ap (λ (m : ℕ). 32 * 2 ^ m) up ∙ sym (deal .is-power) in
+      subst (λ (m : ℕ). (segmentPosition offset size + 1) * (32 * 2 ^ segmentLevel size) ≤ m) whole
+      (within (segmentPathLevels d size) (segmentLevel size) (segmentPosition offset size) (p .position-in))

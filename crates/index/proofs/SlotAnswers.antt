@@ -10,37 +10,39 @@ use Rattle.merkle.specs.NodeSource.{NodeSource}
 use Rattle.sizes.specs.Sizes.{segmentSizeAllowed, offsetAllowed, segmentLevel, segmentPosition}
 use Rattle.entries.specs.Entry.{commitmentIn, offsetIn, sizeIn, isKind}
 use Rattle.entries.specs.declared.EntryKind.{EntryKind}
-use Rattle.index.specs.Slots.{standing, kept, free, rowOf, keptRow, standingOf}
+use Rattle.index.specs.Slots.{standing, kept, free, holds, rowOf, keptRow}
 use Rattle.index.specs.SlotsLaws.{answer-stands, answer-free}
-use Rattle.index.specs.declared.Standing.{Standing}
+use Rattle.index.specs.declared.Row.{Row}
 
 -- an entry as it is read
 module _ (d : ℕ) (entry : List ℕ) where
-  pub row-not-valid : isKind EntryKind.Valid entry ≡ false → standingOf free ≡ standingOf (rowOf d entry)
+  pub row-not-valid : isKind EntryKind.Valid entry ≡ false → free ≡ rowOf d entry
   unfolding rowOf standing
   row-not-valid e = rw e
 
-  pub row-size-refused : (size : ℕ) → isKind EntryKind.Valid entry ≡ true → size ≡ numberOf (part entry 40 8) → segmentSizeAllowed d size ≡ false
-      → standingOf free ≡ standingOf (rowOf d entry)
-  unfolding rowOf standing sizeIn
-  row-size-refused size e z s = rw (e, ← z, s)
+  module _ {size : ℕ} (e : isKind EntryKind.Valid entry ≡ true) (z : size ≡ numberOf (part entry 40 8)) where
+    pub row-size-refused : segmentSizeAllowed d size ≡ false → free ≡ rowOf d entry
+    unfolding rowOf standing sizeIn
+    row-size-refused s = rw (e, ← z, s)
 
-  module _ (offset size : ℕ) (e : isKind EntryKind.Valid entry ≡ true) (o : offset ≡ numberOf (part entry 32 8)) (z : size ≡ numberOf (part entry 40 8)) (s : segmentSizeAllowed d size ≡ true) where
-    pub row-offset-refused : offsetAllowed d offset size ≡ false → standingOf free ≡ standingOf (rowOf d entry)
-    unfolding rowOf standing sizeIn offsetIn
-    row-offset-refused p = rw (e, ← z, ← o, s, p)
+    module _ {offset : ℕ} (s : segmentSizeAllowed d size ≡ true) (o : offset ≡ numberOf (part entry 32 8)) where
+      pub row-offset-refused : offsetAllowed d offset size ≡ false → free ≡ rowOf d entry
+      unfolding rowOf standing sizeIn offsetIn
+      row-offset-refused p = rw (e, ← z, ← o, s, p)
 
-    pub row-stands : (commitment : List ℕ) → commitment ≡ part entry 0 32 → offsetAllowed d offset size ≡ true → record { stands = true; commitment = commitment; offset = offset; size = size } ≡ standingOf (rowOf d entry)
-    unfolding rowOf standing sizeIn offsetIn commitmentIn
-    row-stands commitment c p = rw (e, ← z, ← o, ← c, s, p)
+      pub row-stands : {commitment : List ℕ} → offsetAllowed d offset size ≡ true → commitment ≡ part entry 0 32
+          → holds commitment offset size ≡ rowOf d entry
+      unfolding rowOf standing sizeIn offsetIn commitmentIn
+      row-stands p c = rw (e, ← z, ← o, ← c, s, p)
 
 -- whether the node over an answer's segment is the commitment that it names
-abbrev pub nodeTest : NodeSource → Standing → Bool
-nodeTest nodes answer = sameBytes (nodes (segmentLevel (answer .size)) (segmentPosition (answer .offset) (answer .size))) (answer .commitment)
+abbrev pub nodeTest : NodeSource → Row → Bool
+nodeTest nodes answer =
+    sameBytes (nodes (segmentLevel (answer .size)) (segmentPosition (answer .offset) (answer .size))) (answer .commitment)
 
-module _ (nodes : NodeSource) (d : ℕ) (entry : List ℕ) (answer : Standing) (e : answer ≡ standingOf (rowOf d entry)) where
+module _ (nodes : NodeSource) (d : ℕ) (entry : List ℕ) {answer : Row} (e : answer ≡ rowOf d entry) where
   -- an entry that does not stand is not kept
-  free-answer : answer .stands ≡ false → answer ≡ standingOf free
+  free-answer : answer .stands ≡ false → answer ≡ free
   unfolding rowOf
   free-answer h = e ∙ rw (answer-free d entry answer e h)
 
@@ -48,22 +50,23 @@ module _ (nodes : NodeSource) (d : ℕ) (entry : List ℕ) (answer : Standing) (
   unfolding kept
   free-not-kept h = rw (answer-free d entry answer e h)
 
-  pub kept-free : answer .stands ≡ false → answer ≡ standingOf (keptRow nodes d entry)
+  pub kept-free : answer .stands ≡ false → answer ≡ keptRow nodes d entry
   unfolding keptRow
   kept-free h = free-answer h ∙ rw (free-not-kept h)
 
   -- an entry that stands is kept by the node over its segment
-  pub kept-test : answer .stands ≡ true → kept nodes d entry ≡ nodeTest nodes answer
-  unfolding kept
-  kept-test h =
-      let s = answer-stands d entry answer e h in
-      rw (s .is-standing, ← s .size-is, ← s .offset-is, ← s .commitment-is)
+  module _ (h : answer .stands ≡ true) where
+    pub kept-test : kept nodes d entry ≡ nodeTest nodes answer
+    unfolding kept
+    kept-test =
+        let s = answer-stands d entry answer e h in
+        rw (s .is-standing, ← s .size-is, ← s .offset-is, ← s .commitment-is)
 
-  module _ (found : Bool) (f : found ≡ nodeTest nodes answer) where
-    pub kept-other : answer .stands ≡ true → found ≡ false → standingOf free ≡ standingOf (keptRow nodes d entry)
-    unfolding keptRow
-    kept-other h t = rw (kept-test h, ← f, t)
+    module _ {has : Bool} (f : has ≡ nodeTest nodes answer) where
+      pub kept-other : has ≡ false → free ≡ keptRow nodes d entry
+      unfolding keptRow
+      kept-other t = rw (kept-test, ← f, t)
 
-    pub kept-here : answer .stands ≡ true → found ≡ true → answer ≡ standingOf (keptRow nodes d entry)
-    unfolding keptRow rowOf
-    kept-here h t = e ∙ rw (answer-stands d entry answer e h .is-standing, kept-test h, ← f, t)
+      pub kept-here : has ≡ true → answer ≡ keptRow nodes d entry
+      unfolding keptRow rowOf
+      kept-here t = e ∙ rw (answer-stands d entry answer e h .is-standing, kept-test, ← f, t)

@@ -1,49 +1,60 @@
 -- Finding a segment by its commitment (document 01, "Booking, finding, building, settling": find).
 use mathlib.Core.Bool.{Bool, _&&_}
 use Prim.Native.Nat.{ℕ}
-use mathlib.Core.List.{List, [], _∷_}
+use mathlib.Core.List.{List, _∷_}
 use lib.ListN.{length}
 use lib.Dec.{eqb}
 use Rattle.rules.specs.Choice.{choose}
 use Rattle.rules.specs.Refusals.{rule, firstRefusal, unlessRefused}
+use Rattle.rules.specs.Search.{lowest}
+use Rattle.rules.specs.declared.Found.{Found}
+use Rattle.rules.specs.declared.Found.the-variants.{At, Missing}
 use Rattle.octets.specs.Equality.{sameBytes}
-use Rattle.rules.specs.Search.{Found, found, missing, lowest}
 use Rattle.octets.specs.Splice.{part}
-use Rattle.merkle.specs.Tree.{nodeAt}
-use Rattle.stray.specs.StrayBits.{noStrayBits}
-use Rattle.sizes.specs.Sizes.{lentSizeAllowed, entryCount, slotPlace}
+use Rattle.sizes.specs.Sizes.{entryCount, slotPlace}
 use Rattle.entries.specs.Entry.{commitmentIn, offsetIn, sizeIn}
-use Rattle.index.specs.Slots.{entryAt, slotAt, kept, Row, free, keptRow}
+use Rattle.lent.specs.LentDeal.{LentDeal, dealSize, dealRules}
+use Rattle.index.specs.Slots.{entryAt, slotAt, keptAt, free, keptRow}
+use Rattle.index.specs.declared.Row.{Row}
 use Rattle.index.specs.declared.FoundSegment.{FoundSegment}
 
 -- slot i holds a kept entry with this commitment
-unfoldable pub keepsCommitment : List ℕ → List ℕ → ℕ → Bool
-keepsCommitment commitment deal i = kept (nodeAt deal) (length deal) (slotAt deal i) && sameBytes (commitmentIn (slotAt deal i)) commitment
+unfoldable pub keepsCommitment : LentDeal → List ℕ → ℕ → Bool
+keepsCommitment deal commitment i = keptAt deal i && sameBytes (commitmentIn (slotAt (deal .bytes) i)) commitment
 
 -- the row of the entry at a place, where it is kept and names this commitment
-abbrev pub keepingRow : List ℕ → List ℕ → ℕ → Row
-keepingRow commitment deal place =
-    choose (sameBytes (commitmentIn (entryAt deal place)) commitment) (keptRow (nodeAt deal) (length deal) (entryAt deal place)) free
+abbrev pub keepingRow : LentDeal → List ℕ → ℕ → Row
+keepingRow deal commitment place =
+    choose (sameBytes (commitmentIn (entryAt (deal .bytes) place)) commitment)
+    (keptRow (deal .nodes) (dealSize deal) (entryAt (deal .bytes) place))
+    free
 
 -- the lowest slot that keeps a commitment
-abbrev pub lowestKeeping : List ℕ → List ℕ → Found
-lowestKeeping commitment deal = lowest (keepsCommitment commitment deal) 0 (entryCount (length deal))
+abbrev pub lowestWithCommitment : LentDeal → List ℕ → Found
+lowestWithCommitment deal commitment = lowest (keepsCommitment deal commitment) 0 (entryCount (dealSize deal))
 
-abbrev pub notFound : ℕ → FoundSegment
-notFound code = record { code = code; offset = 0; size = 0; place = 0 }
+-- zeros beside a refusal's code
+abbrev pub refused : ℕ → FoundSegment
+refused code = record { code = code; offset = 0; size = 0; place = 0 }
 
--- the numbers of what was found
+-- the numbers of what was found: offset, size and entry place
 abbrev pub foundIn : List ℕ → Found → FoundSegment
-foundIn deal (found i) = record { code = 0; offset = offsetIn (slotAt deal i); size = sizeIn (slotAt deal i); place = slotPlace (length deal) i }
-foundIn deal missing = notFound 16
+foundIn deal (At i) =
+    record {
+      code = 0;
+      offset = offsetIn (slotAt deal i);
+      size = sizeIn (slotAt deal i);
+      place = slotPlace (length deal) i;
+    }
+foundIn deal Missing = refused 16
 
-unfoldable pub findNumbers : List ℕ → List ℕ → FoundSegment
+-- 1, 2, 11, then the lowest slot that keeps the commitment, or 16
+unfoldable pub findNumbers : LentDeal → List ℕ → FoundSegment
 findNumbers deal commitment =
-    unlessRefused
-    (firstRefusal (rule (eqb (length commitment) 32) 1 ∷ rule (lentSizeAllowed (length deal)) 2 ∷ rule (noStrayBits deal) 11 ∷ []))
-    notFound
-    (foundIn deal (lowestKeeping commitment deal))
+    unlessRefused (firstRefusal (rule (eqb (length commitment) 32) 1 ∷ dealRules (deal .bytes))) refused
+    (foundIn (deal .bytes) (lowestWithCommitment deal commitment))
 
 -- the view: the segment's bytes in the deal; nothing on every refusal, where offset and size are 0
-unfoldable pub findView : List ℕ → List ℕ → List ℕ
-findView deal commitment = part deal (findNumbers deal commitment .offset) (findNumbers deal commitment .size)
+unfoldable pub findView : LentDeal → List ℕ → List ℕ
+findView deal commitment =
+    part (deal .bytes) (findNumbers deal commitment .offset) (findNumbers deal commitment .size)

@@ -2,7 +2,12 @@ pub mod Slots
 pub mod Find
 pub mod Inspect
 pub mod Tally
+pub mod KeptRows
+pub mod Written
 pub mod SlotsLaws
 pub mod FindLaws
 pub mod KeptLaws
 pub mod TallyLaws
+pub mod KeptRowsLaws
+pub mod SlotWrittenLaws
+pub mod AreaWrittenLaws

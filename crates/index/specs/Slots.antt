@@ -7,10 +7,11 @@ use Rattle.rules.specs.Choice.{choose}
 use Rattle.octets.specs.Equality.{sameBytes}
 use Rattle.octets.specs.Splice.{part}
 use Rattle.merkle.specs.NodeSource.{NodeSource}
-use Rattle.sizes.specs.Sizes.{segmentSizeAllowed, offsetAllowed, slotPlace, segmentLevel, segmentPosition}
+use Rattle.sizes.specs.Sizes.{segmentSizeAllowed, offsetAllowed, area, slotPlace, segmentLevel, segmentPosition}
 use Rattle.entries.specs.Entry.{commitmentIn, offsetIn, sizeIn, isKind}
 use Rattle.entries.specs.declared.EntryKind.{EntryKind}
-use Rattle.index.specs.declared.Standing.{Standing}
+use Rattle.lent.specs.LentDeal.{LentDeal, dealSize}
+use Rattle.index.specs.declared.Row.{Row}
 
 -- the 64 bytes at a place, and those in slot i
 abbrev pub entryAt : List ℕ → ℕ → List ℕ
@@ -21,20 +22,31 @@ slotAt deal i = entryAt deal (slotPlace (length deal) i)
 
 -- standing: the entry is valid, its size is allowed, and so is its offset (house rule)
 unfoldable pub standing : ℕ → List ℕ → Bool
-standing d entry = isKind EntryKind.Valid entry && (segmentSizeAllowed d (sizeIn entry) && offsetAllowed d (offsetIn entry) (sizeIn entry))
+standing d entry =
+    isKind EntryKind.Valid entry
+    && (segmentSizeAllowed d (sizeIn entry) && offsetAllowed d (offsetIn entry) (sizeIn entry))
 
--- kept: standing, and the commitment is that of the whole area at the offset, by a source of the deal's nodes. What stands there after the segment's size
--- is not asked to be zeros (docs/DECISIONS.md, request (iii))
+-- the node over the area at an entry's offset, by a source of the deal's nodes
+abbrev pub nodeOver : NodeSource → List ℕ → List ℕ
+nodeOver nodes entry = nodes (segmentLevel (sizeIn entry)) (segmentPosition (offsetIn entry) (sizeIn entry))
+
+-- kept: standing, and the commitment is that of the whole area at the offset. What stands there after the segment's size is not
+-- asked to be zeros (docs/DECISIONS.md, request (iii))
 unfoldable pub kept : NodeSource → ℕ → List ℕ → Bool
-kept nodes d entry =
-    standing d entry && sameBytes (nodes (segmentLevel (sizeIn entry)) (segmentPosition (offsetIn entry) (sizeIn entry))) (commitmentIn entry)
+kept nodes d entry = standing d entry && sameBytes (nodeOver nodes entry) (commitmentIn entry)
 
--- a row: what stands in a slot. A slot without a standing entry is free
-pub data Row : Type 0 where
-  free : Row
-  holds : List ℕ → ℕ → ℕ → Row
+-- slot i of a lent deal keeps its entry
+abbrev pub keptAt : LentDeal → ℕ → Bool
+keptAt deal i = kept (deal .nodes) (dealSize deal) (slotAt (deal .bytes) i)
 
--- the row of an entry: its commitment, offset and size
+-- a row says what stands in a slot: commitment, offset and size. A slot without a standing entry is free
+abbrev pub free : Row
+free = record { stands = false; commitment = replicate 32 0; offset = 0; size = 0 }
+
+abbrev pub holds : List ℕ → ℕ → ℕ → Row
+holds commitment offset size = record { stands = true; commitment = commitment; offset = offset; size = size }
+
+-- the row of an entry
 unfoldable pub rowOf : ℕ → List ℕ → Row
 rowOf d entry = choose (standing d entry) (holds (commitmentIn entry) (offsetIn entry) (sizeIn entry)) free
 
@@ -42,11 +54,13 @@ rowOf d entry = choose (standing d entry) (holds (commitmentIn entry) (offsetIn 
 unfoldable pub keptRow : NodeSource → ℕ → List ℕ → Row
 keptRow nodes d entry = choose (kept nodes d entry) (holds (commitmentIn entry) (offsetIn entry) (sizeIn entry)) free
 
--- a row as the code answers it
-abbrev pub standingOf : Row → Standing
-standingOf free = record { stands = false; commitment = replicate 32 0; offset = 0; size = 0 }
-standingOf (holds commitment offset size) = record { stands = true; commitment = commitment; offset = offset; size = size }
-
 -- the rows of a deal, slot by slot
 abbrev pub rowAt : List ℕ → ℕ → Row
 rowAt deal i = rowOf (length deal) (slotAt deal i)
+
+-- where a row's bytes start, and how many they are: none for a free row
+abbrev pub rowOffset : Row → ℕ
+rowOffset row = choose (row .stands) (row .offset) 0
+
+abbrev pub rowArea : Row → ℕ
+rowArea row = choose (row .stands) (area (row .size)) 0

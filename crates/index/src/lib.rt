@@ -7,14 +7,12 @@ mod tallying; // tallying.rt: how many slots are of each kind
 pub use finding::find;
 pub use finding::find_numbers;
 pub use inspecting::inspect;
-pub use slots::free_slot;
 pub use slots::kept_at;
-pub use slots::segment_has;
 pub use slots::standing_at;
 pub use tallying::tally;
 
-// What stands in a slot; zeros where nothing does.
-pub struct Standing {
+// A row: what stands in a slot; zeros where nothing does.
+pub struct Row {
     pub stands: bool,
     pub commitment: [u8; 32],
     pub offset: u64,

@@ -1,5 +1,5 @@
 // The slots of a deal's index: which entries stand, and which are kept.
-use crate::Standing;
+use crate::Row;
 use entries::EntryKind;
 ghost use mathlib.Core.Path.{_≡_};
 ghost use mathlib.Core.Bool.{true};
@@ -8,13 +8,13 @@ ghost use lib.ListN.{length};
 ghost use Rattle.octets.specs.Equality.{sameBytes};
 ghost use Rattle.merkle.specs.Tree.{nodeAt};
 ghost use Rattle.sizes.specs.Sizes.{lentSizeAllowed, segmentSizeAllowed, offsetAllowed, segmentLevel, segmentPosition};
-ghost use Rattle.index.specs.Slots.{entryAt, free, rowOf, keptRow, standingOf};
+ghost use Rattle.index.specs.Slots.{entryAt, free, rowOf, keptRow};
 
-// A slot without a standing entry.
-pub fn free_slot() -> Standing
-    ensures { λ r. ⌜ r ≡ standingOf free ⌝ }
+// The row of a slot without a standing entry.
+pub(crate) fn free_row() -> Row
+    ensures { λ r. ⌜ r ≡ free ⌝ }
 {
-    Standing {
+    Row {
         stands: false,
         commitment: [0u8; 32],
         offset: 0,
@@ -22,26 +22,26 @@ pub fn free_slot() -> Standing
     }
 }
 
-// The standing entry at a place of a lent deal.
-pub fn standing_at(deal: &[u8], place: usize) -> Standing
+// The row of the entry at a place of a lent deal.
+pub fn standing_at(deal: &[u8], place: usize) -> Row
     requires { ⌜ (lentSizeAllowed (length (now deal)) ≡ true) × (place + 64 ≤ length (now deal)) ⌝ }
-    ensures { λ r. ⌜ r ≡ standingOf (rowOf (length (now (deal .entry))) (entryAt (now (deal .entry)) place)) ⌝ }
+    ensures { λ r. ⌜ r ≡ rowOf (length (now (deal .entry))) (entryAt (now (deal .entry)) place) ⌝ }
 {
     let end = place + 64;
     let entry = &deal[place..end];
     let EntryKind::Valid = entries::kind_of(entry) else {
-        return free_slot();
+        return free_row();
     };
     let deal_size = deal.len() as u64;
     let size = octets::read_u64(entry, 40);
     if !sizes::segment_size_allowed(deal_size, size) {
-        return free_slot();
+        return free_row();
     }
     let offset = octets::read_u64(entry, 32);
     if !sizes::offset_allowed(deal_size, offset, size) {
-        return free_slot();
+        return free_row();
     }
-    Standing {
+    Row {
         stands: true,
         commitment: octets::node_at(entry, 0),
         offset,
@@ -50,7 +50,7 @@ pub fn standing_at(deal: &[u8], place: usize) -> Standing
 }
 
 // Whether the bytes of a segment of a lent deal have this commitment.
-pub fn segment_has(deal: &[u8], offset: u64, size: u64, commitment: [u8; 32]) -> bool
+pub(crate) fn segment_has(deal: &[u8], offset: u64, size: u64, commitment: [u8; 32]) -> bool
     requires { ⌜ lentSizeAllowed (length (now deal)) ≡ true ⌝ }
     requires { ⌜ segmentSizeAllowed (length (now deal)) size ≡ true ⌝ }
     requires { ⌜ offsetAllowed (length (now deal)) offset size ≡ true ⌝ }
@@ -62,18 +62,18 @@ pub fn segment_has(deal: &[u8], offset: u64, size: u64, commitment: [u8; 32]) ->
     octets::same_node(node, commitment)
 }
 
-// The kept entry at a place of a lent deal.
-pub fn kept_at(deal: &[u8], place: usize) -> Standing
+// The row of the entry at a place of a lent deal, where it is kept.
+pub fn kept_at(deal: &[u8], place: usize) -> Row
     requires { ⌜ (lentSizeAllowed (length (now deal)) ≡ true) × (place + 64 ≤ length (now deal)) ⌝ }
-    ensures { λ r. ⌜ r ≡ standingOf (keptRow (nodeAt (now (deal .entry))) (length (now (deal .entry))) (entryAt (now (deal .entry)) place)) ⌝ }
+    ensures { λ r. ⌜ r ≡ keptRow (nodeAt (now (deal .entry))) (length (now (deal .entry))) (entryAt (now (deal .entry)) place) ⌝ }
 {
-    let entry = standing_at(deal, place);
-    if !entry.stands {
-        return entry;
+    let row = standing_at(deal, place);
+    if !row.stands {
+        return row;
     }
-    let commitment = entry.commitment;
-    if !segment_has(deal, entry.offset, entry.size, commitment) {
-        return free_slot();
+    let commitment = row.commitment;
+    if !segment_has(deal, row.offset, row.size, commitment) {
+        return free_row();
     }
-    entry
+    row
 }

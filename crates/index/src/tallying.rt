@@ -5,11 +5,12 @@ ghost use mathlib.Core.Path.{_≡_};
 ghost use mathlib.Core.Bool.{true};
 ghost use lib.ListN.{length};
 ghost use Rattle.sizes.specs.Sizes.{lentSizeAllowed};
-ghost use Rattle.index.specs.Tally.{noTally, countsOf, tallied};
+ghost use Rattle.index.specs.Tally.{countsOf, tallyAnswer};
+ghost use Rattle.index.specs.Tally as T;
 
-// The refusal of a tally.
-fn no_tally(code: u8) -> Tallied
-    ensures { λ r. ⌜ r ≡ noTally code ⌝ }
+// A refusal.
+fn refused(code: u8) -> Tallied
+    ensures { λ r. ⌜ r ≡ T.refused code ⌝ }
 {
     Tallied {
         code,
@@ -51,13 +52,11 @@ fn counts_of(deal: &[u8]) -> Tallied
 // How many slots of a lent deal's index are blank, damaged and valid. 2 for a deal size that is not allowed, 11 for a deal with
 // stray bits.
 pub fn tally(deal: &[u8]) -> Tallied
-    ensures { λ r. ⌜ r ≡ tallied (now (deal .entry)) ⌝ }
+    ensures { λ r. ⌜ r ≡ tallyAnswer (now (deal .entry)) ⌝ }
 {
-    if !sizes::lent_size_allowed(deal.len()) {
-        return no_tally(2);
-    }
-    if !stray::no_stray_bits(deal) {
-        return no_tally(11);
+    let code = lent::refusal(deal);
+    if code != 0 {
+        return refused(code);
     }
     counts_of(deal)
 }

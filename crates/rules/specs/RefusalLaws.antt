@@ -17,7 +17,8 @@ Codes [] = Unit {0}
 Codes (r ∷ rs) = (0 < r .code) × Codes rs
 
 -- a rule at the head of a list from which nothing is refused
-pub first-passed : (passed : Bool) (code later : ℕ) → 0 < code → firstOf passed code later ≡ 0 → (passed ≡ true) × (later ≡ 0)
+pub first-passed : (passed : Bool) (code later : ℕ) → 0 < code → firstOf passed code later ≡ 0
+    → (passed ≡ true) × (later ≡ 0)
 first-passed true code later h e = (refl, e)
 first-passed false code later h e = absurd (omega arith)
 
@@ -32,7 +33,8 @@ all-passed [] p = refl
 all-passed (r ∷ rs) p = rw (p .0) (all-passed rs (p .1))
 
 -- a passed rule is passed over, a failed one gives its code
-pub pass : (passed : Bool) (code : ℕ) (rs : List Rule) → passed ≡ true → firstRefusal (rule passed code ∷ rs) ≡ firstRefusal rs
+pub pass : (passed : Bool) (code : ℕ) (rs : List Rule) → passed ≡ true
+    → firstRefusal (rule passed code ∷ rs) ≡ firstRefusal rs
 pass passed code rs e = rw e
 
 pub fail : (passed : Bool) (code : ℕ) (rs : List Rule) → passed ≡ false → firstRefusal (rule passed code ∷ rs) ≡ code

@@ -2,15 +2,13 @@
 use Prim.Native.Nat.{ℕ, zero, suc, _+_}
 use mathlib.Core.Bool.{Bool, true, false}
 use Rattle.rules.specs.Choice.{choose}
-
-pub data Found : Type 0 where
-  found : ℕ → Found
-  missing : Found
+use Rattle.rules.specs.declared.Found.{Found}
+use Rattle.rules.specs.declared.Found.the-variants.{At, Missing}
 
 -- the lowest of the n numbers from i that passes
 abbrev pub lowest : (ℕ → Bool) → ℕ → ℕ → Found
-lowest p i zero = missing
-lowest p i (suc n) = choose (p i) (found i) (lowest p (suc i) n)
+lowest p i zero = Missing
+lowest p i (suc n) = choose (p i) (At i) (lowest p (suc i) n)
 
 abbrev pub one : Bool → ℕ
 one true = 1

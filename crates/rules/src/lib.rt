@@ -1,1 +1,7 @@
-// Refusals in order, choices and searches: definitions and laws alone, in specs/, with no code of their own.
+// Refusals in order, choices and searches: definitions and laws in specs/.
+
+// What a search for the lowest number that passes a test comes to.
+pub enum Found {
+    At(usize),
+    Missing,
+}

@@ -6,8 +6,9 @@ use crate::output::write_u64;
 use crate::output::written_with;
 use index::SlotState;
 ghost use mathlib.Core.Path.{_≡_};
-ghost use Rattle.index.specs.Inspect.{inspected};
-ghost use Rattle.index.specs.Tally.{tallied};
+ghost use Rattle.lent.specs.LentDeal.{lentDeal};
+ghost use Rattle.index.specs.Inspect.{inspectAnswer};
+ghost use Rattle.index.specs.Tally.{tallyAnswer};
 ghost use Rattle.index.specs.Find.{findNumbers};
 ghost use Rattle.booking.specs.Booking.{bookAnswer, bookedDeal};
 ghost use Rattle.vizhuthamen.specs.Export.{lentCode, lentOutput, lentOutputOr, stateNumber};
@@ -33,11 +34,11 @@ pub extern "C" fn vz_inspect(
     offset: &mut u64,
     size: &mut u64,
 ) -> u32
-    ensures { λ r. ⌜ r ≡ lentCode 32 (now (commitment .entry)) (inspected (now (deal .entry)) place .code) ⌝ }
-    ensures { λ r. ⌜ now (state .exit) ≡ lentOutput r (stateNumber (inspected (now (deal .entry)) place .state)) (now (state .entry)) ⌝ }
-    ensures { λ r. ⌜ now (commitment .exit) ≡ lentOutput r (inspected (now (deal .entry)) place .commitment) (now (commitment .entry)) ⌝ }
-    ensures { λ r. ⌜ now (offset .exit) ≡ lentOutput r (inspected (now (deal .entry)) place .offset) (now (offset .entry)) ⌝ }
-    ensures { λ r. ⌜ now (size .exit) ≡ lentOutput r (inspected (now (deal .entry)) place .size) (now (size .entry)) ⌝ }
+    ensures { λ r. ⌜ r ≡ lentCode 32 (now (commitment .entry)) (inspectAnswer (lentDeal (now (deal .entry))) place .code) ⌝ }
+    ensures { λ r. ⌜ now (state .exit) ≡ lentOutput r (stateNumber (inspectAnswer (lentDeal (now (deal .entry))) place .state)) (now (state .entry)) ⌝ }
+    ensures { λ r. ⌜ now (commitment .exit) ≡ lentOutput r (inspectAnswer (lentDeal (now (deal .entry))) place .commitment) (now (commitment .entry)) ⌝ }
+    ensures { λ r. ⌜ now (offset .exit) ≡ lentOutput r (inspectAnswer (lentDeal (now (deal .entry))) place .offset) (now (offset .entry)) ⌝ }
+    ensures { λ r. ⌜ now (size .exit) ≡ lentOutput r (inspectAnswer (lentDeal (now (deal .entry))) place .size) (now (size .entry)) ⌝ }
 {
     if commitment.len() != 32 {
         return WRONG_LENGTH;
@@ -56,10 +57,10 @@ pub extern "C" fn vz_inspect(
 // How many slots of a deal's index are blank, damaged and valid.
 #[no_mangle]
 pub extern "C" fn vz_tally(deal: &[u8], blank: &mut u64, damaged: &mut u64, valid: &mut u64) -> u32
-    ensures { λ r. ⌜ r ≡ tallied (now (deal .entry)) .code ⌝ }
-    ensures { λ r. ⌜ now (blank .exit) ≡ lentOutput r (tallied (now (deal .entry)) .blank) (now (blank .entry)) ⌝ }
-    ensures { λ r. ⌜ now (damaged .exit) ≡ lentOutput r (tallied (now (deal .entry)) .damaged) (now (damaged .entry)) ⌝ }
-    ensures { λ r. ⌜ now (valid .exit) ≡ lentOutput r (tallied (now (deal .entry)) .valid) (now (valid .entry)) ⌝ }
+    ensures { λ r. ⌜ r ≡ tallyAnswer (now (deal .entry)) .code ⌝ }
+    ensures { λ r. ⌜ now (blank .exit) ≡ lentOutput r (tallyAnswer (now (deal .entry)) .blank) (now (blank .entry)) ⌝ }
+    ensures { λ r. ⌜ now (damaged .exit) ≡ lentOutput r (tallyAnswer (now (deal .entry)) .damaged) (now (damaged .entry)) ⌝ }
+    ensures { λ r. ⌜ now (valid .exit) ≡ lentOutput r (tallyAnswer (now (deal .entry)) .valid) (now (valid .entry)) ⌝ }
 {
     let answer = index::tally(deal);
     let written = answer.code == 0;
@@ -78,10 +79,10 @@ pub extern "C" fn vz_find(
     size: &mut u64,
     place: &mut u64,
 ) -> u32
-    ensures { λ r. ⌜ r ≡ findNumbers (now (deal .entry)) (now (commitment .entry)) .code ⌝ }
-    ensures { λ r. ⌜ now (offset .exit) ≡ lentOutput r (findNumbers (now (deal .entry)) (now (commitment .entry)) .offset) (now (offset .entry)) ⌝ }
-    ensures { λ r. ⌜ now (size .exit) ≡ lentOutput r (findNumbers (now (deal .entry)) (now (commitment .entry)) .size) (now (size .entry)) ⌝ }
-    ensures { λ r. ⌜ now (place .exit) ≡ lentOutput r (findNumbers (now (deal .entry)) (now (commitment .entry)) .place) (now (place .entry)) ⌝ }
+    ensures { λ r. ⌜ r ≡ findNumbers (lentDeal (now (deal .entry))) (now (commitment .entry)) .code ⌝ }
+    ensures { λ r. ⌜ now (offset .exit) ≡ lentOutput r (findNumbers (lentDeal (now (deal .entry))) (now (commitment .entry)) .offset) (now (offset .entry)) ⌝ }
+    ensures { λ r. ⌜ now (size .exit) ≡ lentOutput r (findNumbers (lentDeal (now (deal .entry))) (now (commitment .entry)) .size) (now (size .entry)) ⌝ }
+    ensures { λ r. ⌜ now (place .exit) ≡ lentOutput r (findNumbers (lentDeal (now (deal .entry))) (now (commitment .entry)) .place) (now (place .entry)) ⌝ }
 {
     let answer = index::find_numbers(deal, commitment);
     let written = answer.code == 0;

@@ -16,7 +16,10 @@ area-requires : tie.Need-area-requires
 area-requires c κs = search needs
 
 put-filled-requires : tie.Need-put-filled-requires
-put-filled-requires c κs = let s = c .before .before .before .before .before in let e = c .before .area .ensures in (omega (arith, s .pre .0), omega (arith, s .pre .1))
+put-filled-requires c κs =
+    let s = c .before .before .before .before .before in
+    let e = c .before .area .ensures in
+    (omega (arith, s .pre .0), omega (arith, s .pre .1 .0))
 
 put-pair-requires : tie.Need-put-pair-requires
 put-pair-requires c κs = search needs
@@ -34,7 +37,8 @@ returns c =
     let segment = now (s .args .segment) in
     q .put-pair .ensures .0
     ∙ ap₂ (λ (x y : List ℕ). splice x (s .args .place) y)
-    (p .put-filled .ensures ∙ ap (λ (n : ℕ). splice (now (s .args .deal)) (s .args .offset) (zeroFilled n segment)) (a .area .ensures))
+    (p .put-filled .ensures
+    ∙ ap (λ (n : ℕ). splice (now (s .args .deal)) (s .args .offset) (zeroFilled n segment)) (a .area .ensures))
     (e .entry-of .ensures)
 
 pub write-segment-spec : {M : Type 1} → statement M

@@ -1,4 +1,5 @@
 use mathlib.Core.Path.{_≡_, subst}
+use mathlib.Core.List.{List}
 use Prim.Native.Nat.{ℕ, _-_, _≤_}
 use native.Mathlib.Omega.{arith}
 use lib.ListN.{length, length-set}
@@ -6,15 +7,22 @@ use denote.Ref.{now}
 use borrow.Author.Needs.{needs}
 use Rattle.sizes.specs.Sizes.{entryCount}
 use Rattle.sizes.specs.SizesLaws.{lent-size}
-use Rattle.index.specs.Slots.{rowAt}
-use Rattle.booking.specs.Gather.{Gathered}
-use Rattle.booking.specs.GatherLaws.{slots-high, slot-within}
+use Rattle.index.specs.KeptRowsLaws.{slot-within}
+use Rattle.room.specs.Room.{SameBelow, rangesIn}
+use Rattle.room.specs.RoomLaws.{slots-high}
+use Rattle.booking.specs.Ranges.{rangesOf}
 use Rattle.booking.proofs.GatherTurn.{gathered-next}
 use Rattle.booking.proofs.gathering.gather.Statement.{statement}
 use Rattle.booking.proofs.gathering.gather.Tie as tie
 
+-- the first slots are gathered
+abbrev Gathered : List ℕ → ℕ → List ℕ → List ℕ → Type 0
+Gathered deal slots offsets areas =
+    SameBelow slots (rangesIn (record { offsets = offsets; areas = areas })) (rangesOf deal)
+
 abbrev Inv-loop : tie.InvT-loop
-Inv-loop deal deal-size slots offsets₀ areas₀ i₀ offsets areas i = (i ≤ slots) × (slots ≤ 128) × (length offsets ≡ 128) × (length areas ≡ 128) × Gathered (rowAt deal) i offsets areas
+Inv-loop deal deal-size slots offsets₀ areas₀ i₀ offsets areas i =
+    (i ≤ slots) × (slots ≤ 128) × (length offsets ≡ 128) × (length areas ≡ 128) × Gathered deal i offsets areas
 
 abbrev μ-loop : tie.MeasureT-loop
 μ-loop deal deal-size slots offsets₀ areas₀ i₀ offsets areas i = slots - i
@@ -25,8 +33,13 @@ entry-count-requires c κs = search needs
 loop-holds : tie.Need-loop-holds Inv-loop μ-loop
 loop-holds c =
     let s = c .before .before in
-    let high = slots-high (length (now (s .args .deal))) (s .pre) in
-    (search needs, omega (arith, c .entry-count .ensures), search needs, search needs, record { offset-at = λ i h. absurd (omega arith); area-at = λ i h. absurd (omega arith) })
+    let high = slots-high (length (now (s .args .deal))) (s .pre) in (
+      search needs,
+      omega (arith, c .entry-count .ensures),
+      search needs,
+      search needs,
+      λ i h. absurd (omega arith),
+    )
 
 slot-place-requires : tie.Need-slot-place-requires Inv-loop μ-loop
 slot-place-requires c κs =
@@ -40,7 +53,8 @@ standing-at-requires c κs =
     let n = l .before in
     let s = n .before .before in
     let d = length (now (s .args .deal)) in
-    (s .pre, omega (arith, slot-within d (l .loop .i) (lent-size d (s .pre) .deal) (omega (arith, n .entry-count .ensures)), c .slot-place .ensures))
+    let below = slot-within d (l .loop .i) (lent-size d (s .pre) .deal) (omega (arith, n .entry-count .ensures)) in
+    (s .pre, omega (arith, c .slot-place .ensures))
 
 mul-offsets : tie.Need-mul-offsets Inv-loop μ-loop
 mul-offsets c = search needs
@@ -73,8 +87,9 @@ loop-again c =
       search needs,
       simp length-set (l .loop .inv .2),
       simp length-set (l .loop .inv .3),
-      gathered-next (now (s .args .deal)) (l .loop .offsets) (l .loop .areas) (l .loop .i) (p .slot-place .result) (a .standing-at .result) (l .loop .inv .4)
-          (omega arith) (omega arith) (p .slot-place .ensures) (a .standing-at .ensures) (c .area-of .result) (c .area-of .ensures),
+      gathered-next (now (s .args .deal)) (l .loop .offsets) (l .loop .areas) (l .loop .i) (p .slot-place .result)
+          (a .standing-at .result) (omega arith) (omega arith) (p .slot-place .ensures) (a .standing-at .ensures)
+          (l .loop .inv .4) (c .area-of .result) (c .area-of .ensures),
     )
 
 returns : tie.Need-returns Inv-loop μ-loop
@@ -83,7 +98,7 @@ returns c =
     let n = l .before in
     let deal = now (n .before .before .args .deal) in
     let all : l .loop .i ≡ entryCount (length deal) = omega (arith, n .entry-count .ensures) in
-    subst (λ (m : ℕ). Gathered (rowAt deal) m (l .loop .offsets) (l .loop .areas)) all (l .loop .inv .4)
+    subst (λ (m : ℕ). Gathered deal m (l .loop .offsets) (l .loop .areas)) all (l .loop .inv .4)
 
 pub gather-spec : {M : Type 1} → statement M
 gather-spec =

@@ -1,45 +1,57 @@
 use mathlib.Core.Path.{_≡_, sym, ap, _∙_}
+use mathlib.Core.Bool.{Bool}
 use Prim.Native.Nat.{ℕ, _-_, _≤_}
 use native.Mathlib.Omega.{arith}
+use lib.ListN.{length}
 use denote.Ref.{now}
 use borrow.Author.Needs.{needs}
 use Rattle.rules.specs.Search.{lowest}
-use Rattle.rules.specs.SearchLaws.{lowest-start}
+use Rattle.rules.specs.SearchLaws.{lowest-start, found-here, found-later, found-nowhere}
+use Rattle.sizes.specs.Sizes.{entryCount}
 use Rattle.booking.specs.Booking.{keepsSegment}
-use Rattle.booking.specs.Gather.{asLowest}
-use Rattle.booking.proofs.Searching.{found-here, found-later, found-nowhere}
 use Rattle.booking.proofs.keeping.lowest_keeping.Statement.{statement}
 use Rattle.booking.proofs.keeping.lowest_keeping.Tie as tie
 
 abbrev Inv-loop : tie.InvT-loop
-Inv-loop deal segment commitment ranges slots i₀ i = (i ≤ slots) × (lowest (keepsSegment deal segment) 0 slots ≡ lowest (keepsSegment deal segment) i (slots - i))
+Inv-loop deal segment commitment ranges slots i₀ i =
+    (i ≤ slots)
+    × (lowest (keepsSegment deal segment) 0 slots ≡ lowest (keepsSegment deal segment) i (slots - i))
 
 abbrev μ-loop : tie.MeasureT-loop
 μ-loop deal segment commitment ranges slots i₀ i = slots - i
+
+-- the test that is searched for, and the number of slots
+abbrev start : tie.After-entry-count Inv-loop μ-loop → tie.Start Inv-loop μ-loop
+start n = n .before .before .before
+
+abbrev keeps : tie.After-entry-count Inv-loop μ-loop → ℕ → Bool
+keeps n = keepsSegment (now (start n .args .deal)) (now (start n .args .segment))
+
+slots-are : (n : tie.After-entry-count Inv-loop μ-loop)
+    → lowest (keeps n) 0 (n .entry-count .result)
+    ≡ lowest (keeps n) 0 (entryCount (length (now (start n .args .deal))))
+slots-are n = ap (lowest (keeps n) 0) (n .entry-count .ensures)
 
 entry-count-requires : tie.Need-entry-count-requires Inv-loop μ-loop
 entry-count-requires c κs = search needs
 
 loop-holds : tie.Need-loop-holds Inv-loop μ-loop
-loop-holds c =
-    let s = c .before .before .before in
-    (search needs, lowest-start (keepsSegment (now (s .args .deal)) (now (s .args .segment))) (c .entry-count .result))
+loop-holds c = (search needs, lowest-start (keeps c) (c .entry-count .result))
 
 slot-keeps-requires : tie.Need-slot-keeps-requires Inv-loop μ-loop
 slot-keeps-requires c κs =
     let n = c .before .before in
-    let s = n .before .before .before in
-    (s .pre .0, (s .pre .1 .0, (s .pre .1 .1 .0, (s .pre .1 .1 .1, omega (arith, n .entry-count .ensures)))))
+    let p = start n .pre in
+    (p .0, (p .1 .0, (p .1 .1 .0, (p .1 .1 .1, omega (arith, n .entry-count .ensures)))))
 
 returns : tie.Need-returns Inv-loop μ-loop
 returns c =
     let k = c .before in
     let l = k .before .before in
     let n = l .before in
-    let s = n .before .before .before in
-    let keeps = keepsSegment (now (s .args .deal)) (now (s .args .segment)) in
-    found-here keeps (n .entry-count .result) (l .loop .i) (l .loop .inv .1) (omega arith) (sym (k .slot-keeps .ensures) ∙ c .if1 .taken)
-    ∙ ap (λ (m : ℕ). asLowest (lowest keeps 0 m)) (n .entry-count .ensures)
+    found-here (keeps n) (n .entry-count .result) (l .loop .i) (l .loop .inv .1) (omega arith)
+    (sym (k .slot-keeps .ensures) ∙ c .if1 .taken)
+    ∙ slots-are n
 
 add-i : tie.Need-add-i Inv-loop μ-loop
 add-i c = search needs
@@ -51,18 +63,17 @@ loop-again : tie.Need-loop-again Inv-loop μ-loop
 loop-again c =
     let k = c .before in
     let l = k .before .before in
-    let n = l .before in
-    let s = n .before .before .before in
-    let keeps = keepsSegment (now (s .args .deal)) (now (s .args .segment)) in
-    (search needs, found-later keeps (n .entry-count .result) (l .loop .i) (l .loop .inv .1) (omega arith) (sym (k .slot-keeps .ensures) ∙ c .if1 .left))
+    let n = l .before in (
+      search needs,
+      found-later (keeps n) (n .entry-count .result) (l .loop .i) (l .loop .inv .1) (omega arith)
+          (sym (k .slot-keeps .ensures) ∙ c .if1 .left),
+    )
 
 returns-2 : tie.Need-returns-2 Inv-loop μ-loop
 returns-2 c =
     let l = c .before in
     let n = l .before in
-    let s = n .before .before .before in
-    let keeps = keepsSegment (now (s .args .deal)) (now (s .args .segment)) in
-    found-nowhere keeps (n .entry-count .result) (l .loop .i) (l .loop .inv .1) (omega arith) ∙ ap (λ (m : ℕ). asLowest (lowest keeps 0 m)) (n .entry-count .ensures)
+    found-nowhere (keeps n) (n .entry-count .result) (l .loop .i) (l .loop .inv .1) (omega arith) ∙ slots-are n
 
 pub lowest-keeping-spec : {M : Type 1} → statement M
 lowest-keeping-spec =

@@ -1,7 +1,11 @@
+use mathlib.Core.Path.{refl, ap}
 use native.Mathlib.Omega.{arith}
-use denote.Ref.{now}
+use Prim.Native.Nat.{_+_}
+use denote.Ref.{now, ptr}
 use borrow.Author.Needs.{needs}
-use Rattle.index.proofs.View.{answer-within, view-is}
+use Rattle.lent.specs.LentDeal.{lentDeal}
+use Rattle.index.specs.declared.FoundSegment.{FoundSegment}
+use Rattle.index.proofs.View.{answer-within, view-is, view-size}
 use Rattle.index.proofs.finding.find.Statement.{statement}
 use Rattle.index.proofs.finding.find.Tie as tie
 
@@ -11,7 +15,8 @@ find-numbers-requires c κs = search needs
 add-end : tie.Need-add-end
 add-end c =
     let a = c .before .before .before .args in
-    omega (arith, answer-within (now (a .deal)) (now (a .commitment)) (c .find-numbers .result) (c .find-numbers .ensures))
+    let n = c .find-numbers in
+    omega (arith, answer-within (lentDeal (now (a .deal))) (now (a .commitment)) (n .result) (n .ensures))
 
 sub-result : tie.Need-sub-result
 sub-result c = search needs
@@ -22,13 +27,25 @@ part-result-start c = search needs
 part-result-end : tie.Need-part-result-end
 part-result-end c =
     let a = c .before .before .before .args in
-    omega (arith, answer-within (now (a .deal)) (now (a .commitment)) (c .find-numbers .result) (c .find-numbers .ensures))
+    let n = c .find-numbers in
+    omega (arith, answer-within (lentDeal (now (a .deal))) (now (a .commitment)) (n .result) (n .ensures))
 
 returns : tie.Need-returns
 returns c =
     let n = c .before in
     let a = n .before .before .before .args in
-    view-is (now (a .deal)) (now (a .commitment)) (n .find-numbers .result) (n .find-numbers .ensures)
+    let deal = lentDeal (now (a .deal)) in
+    let commitment = now (a .commitment) in
+    let found = n .find-numbers in (
+      view-is deal commitment (found .result) (found .ensures),
+      (
+        refl,
+        (
+          ap (λ (x : FoundSegment). x .offset + ptr (a .deal) .1) (found .ensures),
+          view-size deal commitment (found .result) (found .ensures),
+        ),
+      ),
+    )
 
 pub find-spec : {M : Type 1} → statement M
 find-spec =

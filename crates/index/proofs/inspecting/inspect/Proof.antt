@@ -4,96 +4,72 @@ use denote.Ref.{now}
 use borrow.Author.Tests.{not-true, not-false}
 use borrow.Author.Needs.{needs}
 use Rattle.sizes.specs.SizesLaws.{lent-size, entry-place}
-use Rattle.index.specs.Inspect.{inspected}
+use Rattle.lent.specs.LentDeal.{lentDeal}
+use Rattle.lent.specs.LentDealLaws.{refusal-none}
+use Rattle.index.proofs.InspectAnswers.{deal-refused, place-refused, inspect-done}
 use Rattle.index.proofs.inspecting.inspect.Statement.{statement}
 use Rattle.index.proofs.inspecting.inspect.Tie as tie
 
-lent-size-allowed-requires : tie.Need-lent-size-allowed-requires
-lent-size-allowed-requires c κs = search needs
+refusal-requires : tie.Need-refusal-requires
+refusal-requires c κs = search needs
 
-nothing-stands-requires : tie.Need-nothing-stands-requires
-nothing-stands-requires c κs = search needs
+refused-requires : tie.Need-refused-requires
+refused-requires c κs = search needs
 
 returns : tie.Need-returns
-unfolding inspected
 returns c =
-    let i = c .before in
-    simp (c .nothing-stands .ensures, sym (i .before .lent-size-allowed .ensures) ∙ not-true _ (i .if1 .taken))
-
-no-stray-bits-requires : tie.Need-no-stray-bits-requires
-no-stray-bits-requires c κs = search needs
-
-nothing-stands-requires-2 : tie.Need-nothing-stands-requires-2
-nothing-stands-requires-2 c κs = search needs
-
-returns-2 : tie.Need-returns-2
-unfolding inspected
-returns-2 c =
-    let n = c .before .before in
-    let z = n .before .before in
-    simp (
-      c .nothing-stands2 .ensures,
-      sym (z .lent-size-allowed .ensures) ∙ not-false _ (n .before .if1 .left),
-      sym (n .no-stray-bits .ensures) ∙ not-true _ (c .before .if2 .taken),
-    )
+    let k = c .before .before in
+    let a = k .before .before .args in
+    c .refused .ensures
+    ∙ deal-refused (lentDeal (now (a .deal))) (a .place) (k .refusal .result) (k .refusal .ensures)
+    (c .before .if1 .taken)
 
 place-allowed-requires : tie.Need-place-allowed-requires
 place-allowed-requires c κs =
-    let i = c .before .before in
-    let z = i .before in
-    lent-size (length (now (z .before .before .args .deal))) (sym (z .lent-size-allowed .ensures) ∙ not-false _ (i .if1 .left)) .allowed
+    let k = c .before in
+    let deal = now (k .before .before .args .deal) in
+    lent-size (length deal) (refusal-none deal (sym (k .refusal .ensures) ∙ c .if1 .left) .0) .allowed
 
-nothing-stands-requires-3 : tie.Need-nothing-stands-requires-3
-nothing-stands-requires-3 c κs = search needs
+refused-requires-2 : tie.Need-refused-requires-2
+refused-requires-2 c κs = search needs
 
-returns-3 : tie.Need-returns-3
-unfolding inspected
-returns-3 c =
+returns-2 : tie.Need-returns-2
+returns-2 c =
     let p = c .before .before in
-    let n = p .before .before in
-    let z = n .before .before in
-    simp (
-      c .nothing-stands3 .ensures,
-      sym (z .lent-size-allowed .ensures) ∙ not-false _ (n .before .if1 .left),
-      sym (n .no-stray-bits .ensures) ∙ not-false _ (p .before .if2 .left),
-      sym (p .place-allowed .ensures) ∙ not-true _ (c .before .if3 .taken),
-    )
+    let k = p .before .before in
+    let a = k .before .before .args in
+    c .refused2 .ensures
+    ∙ place-refused (lentDeal (now (a .deal))) (a .place) (sym (k .refusal .ensures) ∙ p .before .if1 .left)
+    (sym (p .place-allowed .ensures) ∙ not-true _ (c .before .if2 .taken))
 
 slot-holds-requires : tie.Need-slot-holds-requires
 slot-holds-requires c κs =
     let p = c .before in
-    let n = p .before .before in
-    let z = n .before .before in
-    let a = z .before .before .args in
-    let allowed = sym (z .lent-size-allowed .ensures) ∙ not-false _ (n .before .if1 .left) in
+    let k = p .before .before in
+    let a = k .before .before .args in
     let d = length (now (a .deal)) in
-    (allowed, entry-place d (a .place) (lent-size d allowed .deal) (sym (p .place-allowed .ensures) ∙ not-false _ (c .if3 .left)) .in-deal)
+    let allowed = refusal-none (now (a .deal)) (sym (k .refusal .ensures) ∙ p .before .if1 .left) .0 in
+    let at = sym (p .place-allowed .ensures) ∙ not-false _ (c .if2 .left) in
+    (allowed, entry-place d (a .place) (lent-size d allowed .deal) at .in-deal)
 
-returns-4 : tie.Need-returns-4
-unfolding inspected
-returns-4 c =
+returns-3 : tie.Need-returns-3
+returns-3 c =
     let p = c .before .before in
-    let n = p .before .before in
-    let z = n .before .before in
-    simp (
-      c .slot-holds .ensures,
-      sym (z .lent-size-allowed .ensures) ∙ not-false _ (n .before .if1 .left),
-      sym (n .no-stray-bits .ensures) ∙ not-false _ (p .before .if2 .left),
-      sym (p .place-allowed .ensures) ∙ not-false _ (c .before .if3 .left),
-    )
+    let k = p .before .before in
+    let a = k .before .before .args in
+    c .slot-holds .ensures
+    ∙ inspect-done (lentDeal (now (a .deal))) (a .place) (sym (k .refusal .ensures) ∙ p .before .if1 .left)
+    (sym (p .place-allowed .ensures) ∙ not-false _ (c .before .if2 .left))
 
 pub inspect-spec : {M : Type 1} → statement M
 inspect-spec =
     tie.close
     (tie.spec
-    lent-size-allowed-requires
-    nothing-stands-requires
+    refusal-requires
+    refused-requires
     returns
-    no-stray-bits-requires
-    nothing-stands-requires-2
-    returns-2
     place-allowed-requires
-    nothing-stands-requires-3
-    returns-3
+    refused-requires-2
+    returns-2
     slot-holds-requires
-    returns-4)
+    returns-3)

@@ -1,14 +1,38 @@
-use mathlib.Core.Path.{_∙_}
+use mathlib.Core.Path.{_≡_, _∙_}
+use mathlib.Core.Bool.{true}
+use mathlib.Core.List.{List}
+use Prim.Native.Nat.{ℕ}
 use lib.ListN.{length}
 use denote.Ref.{now}
 use borrow.Author.Tests.{not-true, not-false}
 use borrow.Author.Needs.{needs}
 use Rattle.merkle.specs.Tree.{nodeAt}
+use Rattle.merkle.specs.NodeSource.{NodeSource}
 use Rattle.index.specs.Slots.{entryAt}
 use Rattle.index.specs.SlotsLaws.{answer-stands}
 use Rattle.index.proofs.SlotAnswers.{kept-free, kept-other, kept-here}
 use Rattle.index.proofs.slots.kept_at.Statement.{statement}
 use Rattle.index.proofs.slots.kept_at.Tie as tie
+
+-- the deal's nodes and size, and the entry
+abbrev nodes : tie.Start → NodeSource
+nodes s = nodeAt (now (s .args .deal))
+
+abbrev d : tie.Start → ℕ
+d s = length (now (s .args .deal))
+
+abbrev entry : tie.Start → List ℕ
+entry s = entryAt (now (s .args .deal)) (s .args .place)
+
+abbrev start : tie.After-standing-at → tie.Start
+start c = c .before .before
+
+-- what was read stands
+abbrev read : tie.Else1 → tie.After-standing-at
+read c = c .before .before
+
+stood : (c : tie.Else1) → read c .standing-at .result .stands ≡ true
+stood c = not-false _ (c .if1 .left)
 
 standing-at-requires : tie.Need-standing-at-requires
 standing-at-requires c κs = search needs
@@ -16,37 +40,32 @@ standing-at-requires c κs = search needs
 returns : tie.Need-returns
 returns c =
     let k = c .before .before in
-    let s = k .before .before in
-    let deal = now (s .args .deal) in
-    kept-free (nodeAt deal) (length deal) (entryAt deal (s .args .place)) (k .standing-at .result) (k .standing-at .ensures) (not-true _ (c .if1 .taken))
+    kept-free (nodes (start k)) (d (start k)) (entry (start k)) (k .standing-at .ensures) (not-true _ (c .if1 .taken))
 
 segment-has-requires : tie.Need-segment-has-requires
 segment-has-requires c κs =
-    let k = c .before .before .before in
-    let s = k .before .before in
-    let deal = now (s .args .deal) in
-    let a = answer-stands (length deal) (entryAt deal (s .args .place)) (k .standing-at .result) (k .standing-at .ensures) (not-false _ (c .before .if1 .left)) in
+    let k = read (c .before) in
+    let s = start k in
+    let a = answer-stands (d s) (entry s) (k .standing-at .result) (k .standing-at .ensures) (stood (c .before)) in
     (s .pre .0, (a .size-allowed, a .offset-allowed))
 
-free-slot-requires : tie.Need-free-slot-requires
-free-slot-requires c κs = search needs
+free-row-requires : tie.Need-free-row-requires
+free-row-requires c κs = search needs
 
 returns-2 : tie.Need-returns-2
 returns-2 c =
     let h = c .before .before in
-    let k = h .before .before .before .before in
-    let s = k .before .before in
-    let deal = now (s .args .deal) in
-    c .free-slot .ensures
-    ∙ kept-other (nodeAt deal) (length deal) (entryAt deal (s .args .place)) (k .standing-at .result) (k .standing-at .ensures) (h .segment-has .result) (h .segment-has .ensures) (not-false _ (h .before .before .if1 .left)) (not-true _ (c .before .if2 .taken))
+    let k = read (h .before .before) in
+    c .free-row .ensures
+    ∙ kept-other (nodes (start k)) (d (start k)) (entry (start k)) (k .standing-at .ensures)
+    (stood (h .before .before)) (h .segment-has .ensures) (not-true _ (c .before .if2 .taken))
 
 returns-3 : tie.Need-returns-3
 returns-3 c =
     let h = c .before in
-    let k = h .before .before .before .before in
-    let s = k .before .before in
-    let deal = now (s .args .deal) in
-    kept-here (nodeAt deal) (length deal) (entryAt deal (s .args .place)) (k .standing-at .result) (k .standing-at .ensures) (h .segment-has .result) (h .segment-has .ensures) (not-false _ (h .before .before .if1 .left)) (not-false _ (c .if2 .left))
+    let k = read (h .before .before) in
+    kept-here (nodes (start k)) (d (start k)) (entry (start k)) (k .standing-at .ensures)
+    (stood (h .before .before)) (h .segment-has .ensures) (not-false _ (c .if2 .left))
 
 pub kept-at-spec : {M : Type 1} → statement M
 kept-at-spec =
@@ -55,6 +74,6 @@ kept-at-spec =
     standing-at-requires
     returns
     segment-has-requires
-    free-slot-requires
+    free-row-requires
     returns-2
     returns-3)

@@ -20,15 +20,17 @@ segment-level-requires c κs =
 segment-position-requires : tie.Need-segment-position-requires
 segment-position-requires c κs =
     let s = c .before .before in
-    let z = segment-size (length (now (s .args .deal))) (s .args .size) (lent-size (length (now (s .args .deal))) (s .pre .0) .deal) (s .pre .1 .0) in
+    let d = length (now (s .args .deal)) in
+    let z = segment-size d (s .args .size) (lent-size d (s .pre .0) .deal) (s .pre .1 .0) in
     omega arith
 
 node-at-requires : tie.Need-node-at-requires
 node-at-requires c κs =
     let s = c .before .before .before in
     let d = length (now (s .args .deal)) in
-    simp (c .before .segment-level .ensures, c .segment-position .ensures)
-    (level-high d (s .args .offset) (s .args .size) (s .pre .0) (s .pre .1 .0), node-within d (s .args .offset) (s .args .size) (s .pre .0) (s .pre .1 .0) (s .pre .1 .1))
+    let high = level-high d (s .args .offset) (s .args .size) (s .pre .0) (s .pre .1 .0) in
+    let within = node-within d (s .args .offset) (s .args .size) (s .pre .0) (s .pre .1 .0) (s .pre .1 .1) in
+    simp (c .before .segment-level .ensures, c .segment-position .ensures) (high, within)
 
 same-node-requires : tie.Need-same-node-requires
 same-node-requires c κs = search needs
@@ -38,8 +40,8 @@ returns c =
     let n = c .before in
     let p = n .before in
     let s = p .before .before .before in
-    c .same-node .ensures
-    ∙ ap (λ (l : List ℕ). sameBytes l (s .args .commitment)) (n .node-at .ensures ∙ ap₂ (nodeAt (now (s .args .deal))) (p .before .segment-level .ensures) (p .segment-position .ensures))
+    let at = ap₂ (nodeAt (now (s .args .deal))) (p .before .segment-level .ensures) (p .segment-position .ensures) in
+    c .same-node .ensures ∙ ap (λ (l : List ℕ). sameBytes l (s .args .commitment)) (n .node-at .ensures ∙ at)
 
 pub segment-has-spec : {M : Type 1} → statement M
 segment-has-spec =

@@ -1,15 +1,17 @@
 use mathlib.Core.Path.{_≡_, sym, ap, _∙_}
 use mathlib.Core.Logic.{⊎-elim}
-use Prim.Native.Nat.{_+_, _-_, _≤_}
+use mathlib.Core.List.{List}
+use Prim.Native.Nat.{ℕ, _+_, _-_, _≤_}
 use native.Mathlib.Omega.{arith}
 use lib.ListN.{length}
 use denote.Ref.{now}
 use borrow.Author.Needs.{needs}
-use Rattle.sizes.specs.Sizes.{slotPlace}
-use Rattle.sizes.specs.SizesLaws.{lent-size, slot-allowed, entry-place}
+use Rattle.sizes.specs.SizesLaws.{lent-size}
 use Rattle.entries.specs.Entry.{kindOf}
 use Rattle.entries.specs.declared.EntryKind.{EntryKind}
+use Rattle.entries.specs.declared.EntryKind.the-variants.{Blank, Damaged, Valid}
 use Rattle.index.specs.Slots.{slotAt}
+use Rattle.index.specs.KeptRowsLaws.{slot-within}
 use Rattle.index.proofs.Counting.{Counting, slot-is, counting-start, counting-turn, counting-over}
 use Rattle.index.proofs.tallying.counts_of.Statement.{statement}
 use Rattle.index.proofs.tallying.counts_of.Tie as tie
@@ -20,27 +22,35 @@ Inv-loop deal deal-size n blank₀ damaged₀ valid₀ i₀ blank damaged valid 
 abbrev μ-loop : tie.MeasureT-loop
 μ-loop deal deal-size n blank₀ damaged₀ valid₀ i₀ blank damaged valid i = n - i
 
+abbrev Start : Type 0
+Start = tie.Start Inv-loop μ-loop
+
+abbrev deal : Start → List ℕ
+deal s = now (s .args .deal)
+
 entry-count-requires : tie.Need-entry-count-requires Inv-loop μ-loop
 entry-count-requires c κs = search needs
 
 loop-holds : tie.Need-loop-holds Inv-loop μ-loop
-loop-holds c = counting-start (now (c .before .before .args .deal)) (c .entry-count .result)
+loop-holds c = counting-start (deal (c .before .before)) (c .entry-count .result)
 
 slot-place-requires : tie.Need-slot-place-requires Inv-loop μ-loop
 slot-place-requires c κs =
     let n = c .before .before in
     let s = n .before .before in
-    (lent-size (length (now (s .args .deal))) (s .pre) .allowed, omega (arith, n .entry-count .ensures))
+    (lent-size (length (deal s)) (s .pre) .allowed, omega (arith, n .entry-count .ensures))
 
 -- slot i lies within the deal
-within : (c : tie.After-slot-place Inv-loop μ-loop) → c .slot-place .result + 64 ≤ length (now (c .before .before .before .before .before .args .deal))
+abbrev start : tie.After-slot-place Inv-loop μ-loop → Start
+start c = c .before .before .before .before .before
+
+within : (c : tie.After-slot-place Inv-loop μ-loop) → c .slot-place .result + 64 ≤ length (deal (start c))
 within c =
     let l = c .before .before in
-    let s = l .before .before .before in
-    let d = length (now (s .args .deal)) in
-    let t = lent-size d (s .pre) .deal in
-    let p = entry-place d (slotPlace d (l .loop .i)) t (slot-allowed d (l .loop .i) t (omega (arith, l .before .entry-count .ensures))) in
-    omega (arith, p .in-deal, c .slot-place .ensures)
+    let s = start c in
+    let d = length (deal s) in
+    let w = slot-within d (l .loop .i) (lent-size d (s .pre) .deal) (omega (arith, l .before .entry-count .ensures)) in
+    omega (arith, w, c .slot-place .ensures)
 
 add-end : tie.Need-add-end Inv-loop μ-loop
 add-end c = omega (arith, within c)
@@ -82,32 +92,45 @@ loop-less : tie.Need-loop-less Inv-loop μ-loop
 loop-less c = search needs
 
 -- the kind of slot i, by what was read
+abbrev placed : tie.After-kind-of Inv-loop μ-loop → tie.After-slot-place Inv-loop μ-loop
+placed k = k .before .before
+
 read-kind : (k : tie.After-kind-of Inv-loop μ-loop) (kind : EntryKind) → k .kind-of .result ≡ kind
-    → let l = k .before .before .before .before in kind ≡ kindOf (slotAt (now (l .before .before .before .args .deal)) (l .loop .i))
+    → kind ≡ kindOf (slotAt (deal (start (placed k))) (placed k .before .before .loop .i))
 read-kind k kind e =
-    let p = k .before .before in
-    let l = p .before .before in
-    sym e ∙ k .kind-of .ensures ∙ ap kindOf (slot-is (now (l .before .before .before .args .deal)) (l .loop .i) (p .slot-place .result) (p .slot-place .ensures))
+    let p = placed k in
+    let slot = slot-is (deal (start p)) (p .before .before .loop .i) (p .slot-place .result) (p .slot-place .ensures) in
+    sym e ∙ k .kind-of .ensures ∙ ap kindOf slot
 
 loop-again : tie.Need-loop-again Inv-loop μ-loop
 loop-again c =
     let k = c .before in
-    let t = k .before .before .before in
+    let p = placed k in
+    let t = p .before in
     let l = t .before in
-    let turn = counting-turn (now (l .before .before .before .args .deal)) (l .before .entry-count .result) (l .loop .i) (l .loop .blank) (l .loop .damaged) (l .loop .valid) (c .match .blank) (c .match .damaged) (c .match .valid) in
+    let turn = counting-turn (deal (start p)) (l .before .entry-count .result) (l .loop .i)
+    (l .loop .blank) (l .loop .damaged) (l .loop .valid) (c .match .blank) (c .match .damaged) (c .match .valid) in
     ⊎-elim
-    (λ w. turn EntryKind.Blank (t .loop-test .taken) (l .loop .inv) (read-kind k EntryKind.Blank (w .1 .given .1)) (omega (arith, w .2)) (omega (arith, w .3)) (omega (arith, w .4)))
+    (λ w.
+    turn Blank (t .loop-test .taken) (l .loop .inv) (read-kind k Blank (w .1 .given .1))
+    (omega (arith, w .2)) (omega (arith, w .3)) (omega (arith, w .4)))
     (λ r.
     ⊎-elim
-    (λ w. turn EntryKind.Damaged (t .loop-test .taken) (l .loop .inv) (read-kind k EntryKind.Damaged (w .1 .given .1)) (omega (arith, w .2)) (omega (arith, w .3)) (omega (arith, w .4)))
-    (λ w. turn EntryKind.Valid (t .loop-test .taken) (l .loop .inv) (read-kind k EntryKind.Valid (w .1 .given .1)) (omega (arith, w .2)) (omega (arith, w .3)) (omega (arith, w .4)))
+    (λ w.
+    turn Damaged (t .loop-test .taken) (l .loop .inv) (read-kind k Damaged (w .1 .given .1))
+    (omega (arith, w .2)) (omega (arith, w .3)) (omega (arith, w .4)))
+    (λ w.
+    turn Valid (t .loop-test .taken) (l .loop .inv) (read-kind k Valid (w .1 .given .1))
+    (omega (arith, w .2)) (omega (arith, w .3)) (omega (arith, w .4)))
     r)
     (c .match .came)
 
 returns : tie.Need-returns Inv-loop μ-loop
 returns c =
     let l = c .before in
-    counting-over (now (l .before .before .before .args .deal)) (l .before .entry-count .result) (l .loop .i) (l .loop .blank) (l .loop .damaged) (l .loop .valid) (omega arith) (l .before .entry-count .ensures) (l .loop .inv)
+    let n = l .before in
+    counting-over (deal (n .before .before)) (n .entry-count .result) (l .loop .i) (l .loop .blank) (l .loop .damaged)
+    (l .loop .valid) (omega arith) (n .entry-count .ensures) (l .loop .inv)
 
 pub counts-of-spec : {M : Type 1} → statement M
 counts-of-spec =

@@ -1,64 +1,39 @@
 use mathlib.Core.Path.{sym, _∙_}
-use borrow.Author.Tests.{not-true, not-false}
+use mathlib.Core.List.{[]}
+use denote.Ref.{now}
 use borrow.Author.Needs.{needs}
-use Rattle.index.specs.Tally.{tallied}
+use Rattle.lent.specs.LentDealLaws.{refusal-none, refused-answer, passed-answer}
+use Rattle.index.specs.Tally.{refused, countsOf, tallyAnswer}
 use Rattle.index.proofs.tallying.tally.Statement.{statement}
 use Rattle.index.proofs.tallying.tally.Tie as tie
 
-lent-size-allowed-requires : tie.Need-lent-size-allowed-requires
-lent-size-allowed-requires c κs = search needs
+refusal-requires : tie.Need-refusal-requires
+refusal-requires c κs = search needs
 
-no-tally-requires : tie.Need-no-tally-requires
-no-tally-requires c κs = search needs
+refused-requires : tie.Need-refused-requires
+refused-requires c κs = search needs
 
 returns : tie.Need-returns
-unfolding tallied
+unfolding tallyAnswer
 returns c =
-    let z = c .before .before in
-    simp (c .no-tally .ensures, sym (z .lent-size-allowed .ensures) ∙ not-true _ (c .before .if1 .taken))
-
-no-stray-bits-requires : tie.Need-no-stray-bits-requires
-no-stray-bits-requires c κs = search needs
-
-no-tally-requires-2 : tie.Need-no-tally-requires-2
-no-tally-requires-2 c κs = search needs
-
-returns-2 : tie.Need-returns-2
-unfolding tallied
-returns-2 c =
-    let n = c .before .before in
-    let z = n .before .before in
-    simp (
-      c .no-tally2 .ensures,
-      sym (z .lent-size-allowed .ensures) ∙ not-false _ (n .before .if1 .left),
-      sym (n .no-stray-bits .ensures) ∙ not-true _ (c .before .if2 .taken),
-    )
+    let k = c .before .before in
+    let deal = now (k .before .before .args .deal) in
+    c .refused .ensures
+    ∙ refused-answer deal [] refused (countsOf deal) (k .refusal .result) (k .refusal .ensures) (c .before .if1 .taken)
 
 counts-of-requires : tie.Need-counts-of-requires
 counts-of-requires c κs =
-    let n = c .before in
-    sym (n .before .before .lent-size-allowed .ensures) ∙ not-false _ (n .before .if1 .left)
+    let k = c .before in
+    refusal-none (now (k .before .before .args .deal)) (sym (k .refusal .ensures) ∙ c .if1 .left) .0
 
-returns-3 : tie.Need-returns-3
-unfolding tallied
-returns-3 c =
-    let n = c .before .before in
-    let z = n .before .before in
-    simp (
-      c .counts-of .ensures,
-      sym (z .lent-size-allowed .ensures) ∙ not-false _ (n .before .if1 .left),
-      sym (n .no-stray-bits .ensures) ∙ not-false _ (c .before .if2 .left),
-    )
+returns-2 : tie.Need-returns-2
+unfolding tallyAnswer
+returns-2 c =
+    let k = c .before .before in
+    let deal = now (k .before .before .args .deal) in
+    c .counts-of .ensures
+    ∙ passed-answer deal [] refused (countsOf deal) (sym (k .refusal .ensures) ∙ c .before .if1 .left)
 
 pub tally-spec : {M : Type 1} → statement M
 tally-spec =
-    tie.close
-    (tie.spec
-    lent-size-allowed-requires
-    no-tally-requires
-    returns
-    no-stray-bits-requires
-    no-tally-requires-2
-    returns-2
-    counts-of-requires
-    returns-3)
+    tie.close (tie.spec refusal-requires refused-requires returns counts-of-requires returns-2)
