@@ -16,4 +16,6 @@ pub one-node : (node : List ℕ) → length node ≡ 32 → noStrayBits node ≡
 unfolding clearNodes
 one-node node l =
     let n : length node / 32 ≡ 1 = omega arith in
-    ap (λ (k : ℕ). clearNodes k node) n ∙ and-true (clearNode (take 32 node)) ∙ ap clearNode (take-all 32 node (omega arith))
+    ap (λ (k : ℕ). clearNodes k node) n
+    ∙ and-true (clearNode (take 32 node))
+    ∙ ap clearNode (take-all 32 node (omega arith))

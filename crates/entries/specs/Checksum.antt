@@ -1,4 +1,5 @@
--- The checksum of an index entry (document 01, "Entries and the index area"). Shut: above this file only its length and the laws below are known.
+-- The checksum of an index entry (document 01, "Entries and the index area"). Shut: above this file only its length and
+-- the laws below are known.
 use mathlib.Core.Path.{_≡_, refl, ap, _∙_}
 use Prim.Native.Nat.{ℕ, _%_, _<_}
 use native.Mathlib.Omega.{arith}
@@ -16,7 +17,8 @@ entryDigest body = sha256 (body ++ replicate 16 0)
 pub checksumOf : List ℕ → List ℕ
 checksumOf body = set (take 16 (entryDigest body)) 15 (getD (entryDigest body) 15 0 % 64)
 
-pub checksum-is : (body : List ℕ) → checksumOf body ≡ set (take 16 (entryDigest body)) 15 (getD (entryDigest body) 15 0 % 64)
+pub checksum-is : (body : List ℕ)
+    → checksumOf body ≡ set (take 16 (entryDigest body)) 15 (getD (entryDigest body) 15 0 % 64)
 unfolding checksumOf
 checksum-is body = refl
 
@@ -24,13 +26,17 @@ first-16 : (body : List ℕ) → length (take 16 (entryDigest body)) ≡ 16
 first-16 body = let l = sha256-length (body ++ replicate 16 0) in length-take-le 16 (entryDigest body) (omega arith)
 
 pub checksum-length : (body : List ℕ) → length (checksumOf body) ≡ 16
-checksum-length body = ap length (checksum-is body) ∙ length-set (take 16 (entryDigest body)) 15 (getD (entryDigest body) 15 0 % 64) ∙ first-16 body
+checksum-length body =
+    ap length (checksum-is body)
+    ∙ length-set (take 16 (entryDigest body)) 15 (getD (entryDigest body) 15 0 % 64)
+    ∙ first-16 body
 
 -- the top two bits of byte 15 are cleared, and nothing else of the digest's first 16 bytes
-pub checksum-last : (body : List ℕ) → getD (checksumOf body) 15 0 ≡ getD (entryDigest body) 15 0 % 64
+checksum-last : (body : List ℕ) → getD (checksumOf body) 15 0 ≡ getD (entryDigest body) 15 0 % 64
 checksum-last body =
     let l = first-16 body in
-    ap (λ (x : List ℕ). getD x 15 0) (checksum-is body) ∙ getD-set-same (take 16 (entryDigest body)) 15 (getD (entryDigest body) 15 0 % 64) 0 (omega arith)
+    ap (λ (x : List ℕ). getD x 15 0) (checksum-is body)
+    ∙ getD-set-same (take 16 (entryDigest body)) 15 (getD (entryDigest body) 15 0 % 64) 0 (omega arith)
 
 pub checksum-clear : (body : List ℕ) → getD (checksumOf body) 15 0 < 64
 checksum-clear body = omega (arith, checksum-last body)

@@ -38,7 +38,8 @@ sizeIn entry = numberOf (part entry 40 8)
 unfoldable pub checksumRight : List ℕ → Bool
 checksumRight entry = sameBytes (checksumOf (part entry 0 48)) (part entry 48 16)
 
--- the kind of 64 bytes (document 02, (ii)): blank where all are zero, else valid where the checksum is right, else damaged
+-- the kind of 64 bytes (document 02, (ii)): blank where all are zero, else valid where the checksum is right, else
+-- damaged
 unfoldable pub kindOf : List ℕ → EntryKind
 kindOf entry = choose (allZero entry) Blank (choose (checksumRight entry) Valid Damaged)
 
@@ -52,15 +53,17 @@ kindNumber Valid = 2
 unfoldable pub isKind : EntryKind → List ℕ → Bool
 isKind kind entry = eqb (kindNumber (kindOf entry)) (kindNumber kind)
 
--- making an entry: 1 for a commitment that is not 32 bytes long, 8 for one with stray bits; the numbers are taken as they are
-abbrev pub entryRefused : ℕ → MadeEntry
-entryRefused code = record { code = code; entry = replicate 64 0 }
+-- zeros beside a refusal's code
+abbrev pub refused : ℕ → MadeEntry
+refused code = record { code = code; entry = replicate 64 0 }
 
+-- making an entry: 1 for a commitment that is not 32 bytes long, 8 for one with stray bits; the numbers are taken as
+-- they are
 unfoldable pub madeEntry : List ℕ → ℕ → ℕ → MadeEntry
 madeEntry commitment offset size =
     unlessRefused
     (firstRefusal (rule (eqb (length commitment) 32) 1 ∷ rule (clearNode commitment) 8 ∷ []))
-    entryRefused
+    refused
     (record { code = 0; entry = entryOf commitment offset size })
 
 -- no fields: the kind with zeros
@@ -71,9 +74,17 @@ noFields code kind = record { code = code; kind = kind; commitment = replicate 3
 abbrev pub readAs : EntryKind → List ℕ → ReadEntry
 readAs Blank entry = noFields 0 Blank
 readAs Damaged entry = noFields 0 Damaged
-readAs Valid entry = record { code = 0; kind = Valid; commitment = commitmentIn entry; offset = offsetIn entry; size = sizeIn entry }
+readAs Valid entry =
+    record {
+      code = 0;
+      kind = Valid;
+      commitment = commitmentIn entry;
+      offset = offsetIn entry;
+      size = sizeIn entry;
+    }
 
--- reading an entry: 2 unless there are 64 bytes, else its kind, with its three fields where it is valid; Blank beside the 2
+-- reading an entry: 2 unless there are 64 bytes, else its kind, with its three fields where it is valid; Blank beside
+-- the 2
 unfoldable pub readEntry : List ℕ → ReadEntry
 readEntry entry =
     unlessRefused

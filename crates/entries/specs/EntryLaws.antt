@@ -62,14 +62,16 @@ module _ (commitment : List ℕ) (offset size : ℕ) (h : length commitment ≡ 
   pub made-right : checksumRight (entryOf commitment offset size) ≡ true
   unfolding checksumRight part entryOf sum
   made-right =
-      let b = body-length in
-      let c : drop 48 (entryBody commitment offset size ++ sum) ≡ sum = drop-at (entryBody commitment offset size) sum 48 b in
-      let a : take 48 (entryBody commitment offset size ++ sum) ≡ entryBody commitment offset size = take-at (entryBody commitment offset size) sum 48 b in
-      same-of (checksumOf (take 48 (entryBody commitment offset size ++ sum))) (take 16 (drop 48 (entryBody commitment offset size ++ sum)))
-      (ap checksumOf a ∙ sym (ap (take 16) c ∙ take-all 16 sum (omega (arith, checksum-length (entryBody commitment offset size)))))
+      let body : List ℕ = entryBody commitment offset size in
+      let a : take 48 (body ++ sum) ≡ body = take-at body sum 48 body-length in
+      let c : drop 48 (body ++ sum) ≡ sum = drop-at body sum 48 body-length in
+      let whole : take 16 sum ≡ sum = take-all 16 sum (omega (arith, checksum-length body)) in
+      same-of (checksumOf (take 48 (body ++ sum))) (take 16 (drop 48 (body ++ sum)))
+      (ap checksumOf a ∙ sym (ap (take 16) c ∙ whole))
 
 -- a valid entry is the one that its fields make
-pub valid-is : (entry : List ℕ) → length entry ≡ 64 → Bytes entry → checksumRight entry ≡ true → entryOf (commitmentIn entry) (offsetIn entry) (sizeIn entry) ≡ entry
+pub valid-is : (entry : List ℕ) → length entry ≡ 64 → Bytes entry → checksumRight entry ≡ true
+    → entryOf (commitmentIn entry) (offsetIn entry) (sizeIn entry) ≡ entry
 unfolding entryOf entryBody commitmentIn offsetIn sizeIn checksumRight
 valid-is entry l b e =
     let o = bytes-of-number 8 (part entry 32 8) (part-length entry 32 8 (omega arith)) (bytes-part entry 32 8 b) in

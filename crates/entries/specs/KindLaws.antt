@@ -18,7 +18,8 @@ unfolding allZero
 zero-take zero xs e = refl
 zero-take (suc n) [] e = refl
 zero-take (suc n) (x ∷ xs) e =
-    and-both (eqb x 0) (allZero (take n xs)) (and-left (eqb x 0) (allZero xs) e) (zero-take n xs (and-right (eqb x 0) (allZero xs) e))
+    and-both (eqb x 0) (allZero (take n xs)) (and-left (eqb x 0) (allZero xs) e)
+    (zero-take n xs (and-right (eqb x 0) (allZero xs) e))
 
 zero-drop : (n : ℕ) (xs : List ℕ) → allZero xs ≡ true → allZero (drop n xs) ≡ true
 unfolding allZero

@@ -17,7 +17,7 @@ use Rattle.entries.specs.Checksum.{checksumOf, checksum-length, checksum
 use Rattle.entries.specs.Entry.{entryBody, entryOf}
 use Rattle.entries.specs.EntryLaws.{body-length, entry-length}
 
-pub checksum-bytes : (body : List ℕ) → Bytes (checksumOf body)
+checksum-bytes : (body : List ℕ) → Bytes (checksumOf body)
 checksum-bytes body =
     let l = checksum-length body in
     bytes-of (checksumOf body)
@@ -32,7 +32,9 @@ checksum-bytes body =
 module _ (commitment : List ℕ) (offset size : ℕ) where
   body-bytes : Bytes commitment → Bytes (entryBody commitment offset size)
   unfolding entryBody
-  body-bytes b = bytes-append commitment (bytesOf 8 offset ++ bytesOf 8 size) b (bytes-append (bytesOf 8 offset) (bytesOf 8 size) (bytes-bytesOf 8 offset) (bytes-bytesOf 8 size))
+  body-bytes b =
+      bytes-append commitment (bytesOf 8 offset ++ bytesOf 8 size) b
+      (bytes-append (bytesOf 8 offset) (bytesOf 8 size) (bytes-bytesOf 8 offset) (bytes-bytesOf 8 size))
 
   pub made-bytes : Bytes commitment → Bytes (entryOf commitment offset size)
   unfolding entryOf
@@ -47,7 +49,8 @@ module _ (commitment : List ℕ) (offset size : ℕ) where
     first-node =
         let body : List ℕ = entryBody commitment offset size in
         let b : length body ≡ 48 = body-length commitment offset size l in
-        List·getD-append body (checksumOf body) 0 31 (omega arith) ∙ List·getD-append commitment (bytesOf 8 offset ++ bytesOf 8 size) 0 31 (omega arith)
+        List·getD-append body (checksumOf body) 0 31 (omega arith)
+        ∙ List·getD-append commitment (bytesOf 8 offset ++ bytesOf 8 size) 0 31 (omega arith)
 
     second-node : getD (entryOf commitment offset size) 63 0 < 64
     unfolding entryOf
@@ -55,7 +58,12 @@ module _ (commitment : List ℕ) (offset size : ℕ) where
         let body : List ℕ = entryBody commitment offset size in
         let b : length body ≡ 48 = body-length commitment offset size l in
         let at : 63 ≡ length body + 15 = omega arith in
-        omega (arith, ap (λ (i : ℕ). getD (body ++ checksumOf body) i 0) at, getD-append-add body (checksumOf body) 15 0, checksum-clear body)
+        omega (
+          arith,
+          ap (λ (i : ℕ). getD (body ++ checksumOf body) i 0) at,
+          getD-append-add body (checksumOf body) 15 0,
+          checksum-clear body,
+        )
 
     pub made-clear : clearNode commitment ≡ true → noStrayBits (entryOf commitment offset size) ≡ true
     made-clear e =

@@ -6,11 +6,12 @@ ghost use mathlib.Core.Path.{_≡_};
 ghost use lib.ListN.{length};
 ghost use Rattle.octets.specs.Splice.{part};
 ghost use Rattle.entries.specs.Checksum.{checksumOf};
-ghost use Rattle.entries.specs.Entry.{entryOf, checksumRight, kindOf, entryRefused, madeEntry, noFields, readEntry};
+ghost use Rattle.entries.specs.Entry.{entryOf, checksumRight, kindOf, madeEntry, noFields, readEntry};
+ghost use Rattle.entries.specs.Entry as E;
 
-// The checksum of an entry, whatever its own last 16 bytes hold: the first 16 bytes of the SHA-256 of the entry with zeros
-// there, the top two bits of the last one cleared.
-pub fn checksum(entry: &[u8]) -> [u8; 16]
+// The checksum of an entry, whatever its own last 16 bytes hold: the first 16 bytes of the SHA-256 of the entry with
+// zeros there, the top two bits of the last one cleared.
+fn checksum(entry: &[u8]) -> [u8; 16]
     requires { ⌜ length (now entry) ≡ 64 ⌝ }
     ensures { λ r. ⌜ r ≡ checksumOf (part (now (entry .entry)) 0 48) ⌝ }
 {
@@ -38,7 +39,7 @@ pub fn entry_of(commitment: [u8; 32], offset: u64, size: u64) -> [u8; 64]
 }
 
 // Whether the checksum of an entry is right.
-pub fn checksum_right(entry: &[u8]) -> bool
+fn checksum_right(entry: &[u8]) -> bool
     requires { ⌜ length (now entry) ≡ 64 ⌝ }
     ensures { λ r. ⌜ r ≡ checksumRight (now (entry .entry)) ⌝ }
 {
@@ -46,8 +47,8 @@ pub fn checksum_right(entry: &[u8]) -> bool
     octets::same(&sum, &entry[48..])
 }
 
-// The kind of an entry: blank where all its bytes are zero, else valid where its checksum is right, else damaged. A blank entry
-// costs no checksum.
+// The kind of an entry: blank where all its bytes are zero, else valid where its checksum is right, else damaged. A
+// blank entry costs no checksum.
 pub fn kind_of(entry: &[u8]) -> EntryKind
     requires { ⌜ length (now entry) ≡ 64 ⌝ }
     ensures { λ r. ⌜ r ≡ kindOf (now (entry .entry)) ⌝ }
@@ -61,9 +62,9 @@ pub fn kind_of(entry: &[u8]) -> EntryKind
     EntryKind::Valid
 }
 
-// The refusal of an entry.
-fn entry_refused(code: u8) -> MadeEntry
-    ensures { λ r. ⌜ r ≡ entryRefused code ⌝ }
+// A refusal.
+fn refused(code: u8) -> MadeEntry
+    ensures { λ r. ⌜ r ≡ E.refused code ⌝ }
 {
     MadeEntry {
         code,
@@ -71,16 +72,16 @@ fn entry_refused(code: u8) -> MadeEntry
     }
 }
 
-// The entry for a lent commitment and two numbers, which are taken as they are; 1 for a commitment that is not 32 bytes long,
-// 8 for one with stray bits.
+// The entry for a lent commitment and two numbers, which are taken as they are; 1 for a commitment that is not 32 bytes
+// long, 8 for one with stray bits.
 pub fn make_entry(commitment: &[u8], offset: u64, size: u64) -> MadeEntry
     ensures { λ r. ⌜ r ≡ madeEntry (now (commitment .entry)) offset size ⌝ }
 {
     if commitment.len() != 32 {
-        return entry_refused(1);
+        return refused(1);
     }
     if !stray::no_stray_bits(commitment) {
-        return entry_refused(8);
+        return refused(8);
     }
     let node = octets::node_at(commitment, 0);
     MadeEntry {

@@ -1,8 +1,6 @@
 // Index entries: their bytes, their checksum, and their kinds.
 mod entry; // entry.rt: entries and their checksum
 
-pub use entry::checksum;
-pub use entry::checksum_right;
 pub use entry::entry_of;
 pub use entry::kind_of;
 pub use entry::make_entry;

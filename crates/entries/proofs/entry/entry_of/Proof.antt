@@ -47,7 +47,9 @@ returns c =
     let o = z .before .before .before in
     let p = o .before .before .before in
     let s = p .before .before .before in
-    entry-written (s .args .t1) (s .args .offset) (s .args .size) (p .put .last .0) (o .put-u64 .last .0) (z .put-u642 .last .0) (k .checksum .result) (c .before .put2 .last .0) (s .good .0 .1 .0 .1) (p .put .ensures) (o .put-u64 .ensures) (z .put-u642 .ensures) (k .checksum .ensures) (c .before .put2 .ensures) (omega arith)
+    entry-written (s .args .t1) (s .args .offset) (s .args .size) (p .put .last .0) (o .put-u64 .last .0)
+    (z .put-u642 .last .0) (k .checksum .result) (c .before .put2 .last .0) (s .good .0 .1 .0 .1) (p .put .ensures)
+    (o .put-u64 .ensures) (z .put-u642 .ensures) (k .checksum .ensures) (c .before .put2 .ensures) (omega arith)
 
 pub entry-of-spec : {M : Type 1} → statement M
 entry-of-spec =

@@ -16,7 +16,8 @@ use Rattle.entries.proofs.entry.read_entry.Statement.{statement}
 use Rattle.entries.proofs.entry.read_entry.Tie as tie
 
 -- a kind that is one of the first two has no fields
-no-fields-there : (kind : EntryKind) (entry : List ℕ) → OneOf (0 ∷ 1 ∷ []) (tagOf kinds.the-type kind) → noFields 0 kind ≡ readAs kind entry
+no-fields-there : (kind : EntryKind) (entry : List ℕ) → OneOf (0 ∷ 1 ∷ []) (tagOf kinds.the-type kind)
+    → noFields 0 kind ≡ readAs kind entry
 no-fields-there Blank entry h = refl
 no-fields-there Damaged entry h = refl
 no-fields-there Valid entry h = absurd (⊎-elim (λ e. omega arith) (λ e. omega arith) h)
