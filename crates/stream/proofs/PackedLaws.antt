@@ -9,15 +9,15 @@ use Rattle.octets.specs.LittleEndianLaws.{length-bytesOf}
 use Rattle.octets.specs.Splice.{part, splice}
 use Rattle.octets.specs.SpliceLaws.{part-length, part-range, splice-whole, splice-append}
 use Rattle.stream.specs.declared.Stream.{Stream}
-use Rattle.stream.specs.Packed.{packed}
+use Rattle.stream.specs.Packed.{packedLength, packed}
 
-pub waiting-read : (bytes waiting : List ℕ) → length bytes ≡ 1072 → waiting ≡ splice (replicate 1024 0) 0 (take (length bytes - 48) (drop 48 bytes)) → waiting ≡ part bytes 48 1024
+pub waiting-read : (bytes waiting : List ℕ) → length bytes ≡ packedLength → waiting ≡ splice (replicate 1024 0) 0 (take (length bytes - 48) (drop 48 bytes)) → waiting ≡ part bytes 48 1024
 waiting-read bytes waiting l e =
     let n : length bytes - 48 ≡ 48 + 1024 - 48 = omega arith in
     let p : take (length bytes - 48) (drop 48 bytes) ≡ part bytes 48 1024 = ap (λ (k : ℕ). take k (drop 48 bytes)) n ∙ part-range bytes 48 1024 in
     e ∙ ap (splice (replicate 1024 0) 0) p ∙ splice-whole (replicate 1024 0) (part bytes 48 1024) (sym (part-length bytes 48 1024 (omega arith)))
 
-pub packed-written : (s : Stream) (before one two three four : List ℕ) → length before ≡ 1072 → length (s .partial) ≡ 32 → length (s .waiting) ≡ 1024
+pub packed-written : (s : Stream) (before one two three four : List ℕ) → length before ≡ packedLength → length (s .partial) ≡ 32 → length (s .waiting) ≡ 1024
     → one ≡ splice before 0 (bytesOf 8 (s .count))
     → two ≡ splice one 8 (s .code ∷ replicate 7 0)
     → three ≡ splice two 16 (s .partial)

@@ -14,8 +14,8 @@ use Rattle.merkle.specs.Tree.{nodeAt}
 use Rattle.merkle.specs.TreeLaws.{node-leaf}
 use Rattle.stray.specs.StrayBits.{clearNode}
 use Rattle.stray.specs.StrayBitsLaws.{node-clear}
-use Rattle.stream.specs.Stream.{largest, started, failedWith, withNode, counted, takeByte, takePiece}
-use Rattle.stream.specs.StreamLaws.{running, byte-after-failure, byte-past, byte-within, counted-open, counted-stray, counted-whole}
+use Rattle.stream.specs.Stream.{largest, started, failedWith, withNode, counted, takeByte, takePiece, takePieces, together}
+use Rattle.stream.specs.StreamLaws.{running, byte-after-failure, byte-past, byte-within, counted-open, counted-stray, counted-whole, pieces-together}
 use Rattle.stream.specs.After.{Waits, Runs, StrayNode, TooLong, After, runs, strayNode, tooLong}
 use Rattle.stream.specs.WaitingLaws.{node-waits, length-withNode}
 use Rattle.stream.specs.AppendLaws.{waits-stay}
@@ -207,3 +207,9 @@ after-piece bytes [] s a = subst (λ (v : List ℕ). After v s) (sym (append-nil
 after-piece bytes (b ∷ piece) s a =
     subst (λ (v : List ℕ). After v (takePiece (takeByte s b) piece)) (append-snoc bytes b piece)
     (after-piece (bytes ++ (b ∷ [])) piece (takeByte s b) (after-byte bytes b s a))
+
+-- several pieces from a new start
+pub after-pieces : (pieces : List (List ℕ)) → After (together pieces) (takePieces started pieces)
+after-pieces pieces =
+    subst (After (together pieces)) (sym (pieces-together started pieces))
+    (after-piece [] (together pieces) started after-start)

@@ -8,4 +8,4 @@ pub mod AppendLaws
 pub mod AfterLaws
 pub mod EndLaws
 pub mod CutAnywhere
-pub mod PackedRun
+pub mod PackedAfterLaws

@@ -1,7 +1,7 @@
 -- The state as bytes, for a program in another language to keep: count, 8 bytes; code, 1; seven zeros; the partial node, 32; the waiting
 -- nodes, 1,024.
 use Prim.Native.Nat.{ℕ}
-use mathlib.Core.List.{List, [], _∷_, _++_}
+use mathlib.Core.List.{List, _∷_, _++_}
 use lib.ListN.{getD, replicate}
 use Rattle.octets.specs.LittleEndian.{numberOf, bytesOf}
 use Rattle.octets.specs.Splice.{part}
@@ -29,8 +29,3 @@ packedTake bytes piece = packed (takePiece (unpacked bytes) piece)
 
 abbrev pub packedEnd : List ℕ → Streamed
 packedEnd bytes = ending (unpacked bytes)
-
--- the bytes after several pieces, handed on as each piece left them
-unfoldable pub packedTakes : List ℕ → List (List ℕ) → List ℕ
-packedTakes bytes [] = bytes
-packedTakes bytes (p ∷ ps) = packedTakes (packedTake bytes p) ps

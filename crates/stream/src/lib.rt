@@ -3,6 +3,7 @@
 mod packed; // packed.rt: the state as bytes
 mod waiting; // waiting.rt: the waiting nodes
 
+pub use packed::STATE_LENGTH;
 pub use packed::pack;
 pub use packed::unpack;
 ghost use mathlib.Core.Path.{_≡_};
