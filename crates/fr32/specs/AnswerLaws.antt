@@ -3,19 +3,19 @@ use mathlib.Core.Path.{_≡_, refl, sym, ap, _∙_}
 use mathlib.Core.Bool.{true}
 use Prim.Native.Nat.{ℕ, zero, suc, _≤_}
 use native.Mathlib.Omega.{arith}
-use mathlib.Core.List.{List, [], _∷_}
+use mathlib.Core.List.{List}
 use lib.ListN.{length}
-use lib.Dec.{leb, eqb}
 use borrow.Author.Tests.{leb-true, eqb-true, le-leb, eq-eqb}
-use Rattle.rules.specs.Refusals.{Rule, rule, unlessRefused}
-use Rattle.rules.specs.RefusalLaws.{none-refused, all-passed}
+use Rattle.rules.specs.Refusals.{unlessRefused}
+use Rattle.rules.specs.RefusalLaws.{Codes, none-refused, all-passed}
 use Rattle.octets.specs.Splice.{part, splice}
 use Rattle.octets.specs.SpliceLaws.{part-written}
 use Rattle.fr32.specs.declared.Written.{Written}
 use Rattle.fr32.specs.Padding.{rawLengthAllowed, segmentLength, padded, unpadded, onlyRawBits}
 use Rattle.fr32.specs.PaddingLaws.{length-padded}
 use Rattle.fr32.specs.UnpaddingLaws.{length-unpadded}
-use Rattle.fr32.specs.Answers.{refused, written, padCode, padAnswer, padOutput, unpadCode, unpadAnswer, unpadOutput}
+use Rattle.fr32.specs.Answers.{refused, written}
+use Rattle.fr32.specs.Answers.{padRules, padCode, padAnswer, padOutput, unpadRules, unpadCode, unpadAnswer, unpadOutput}
 
 -- the bytes that a routine wrote
 abbrev writtenBytes : Written → List ℕ → List ℕ
@@ -47,18 +47,17 @@ module _ (raw output : List ℕ) where
     pub raw-length : rawLengthAllowed (length raw) ≡ true
     pub room : segmentLength (length raw) ≤ length output
 
-  pad-rules : List Rule
-  pad-rules = rule (rawLengthAllowed (length raw)) 2 ∷ rule (leb (segmentLength (length raw)) (length output)) 12 ∷ []
-
   pub pad-allowed : padAnswer raw output .code ≡ 0 → PadAllowed
-  unfolding padCode pad-rules
+  unfolding padCode
   pad-allowed e =
-      let p = none-refused pad-rules (omega arith, (omega arith, tt)) (sym (answer-code (padCode raw output) (segmentLength (length raw))) ∙ e) in
+      let code = sym (answer-code (padCode raw output) (segmentLength (length raw))) ∙ e in
+      let p = none-refused (padRules raw output) (omega arith, (omega arith, tt)) code in
       record { raw-length = p .0; room = leb-true (segmentLength (length raw)) (length output) (p .1 .0) }
 
   pad-passes : PadAllowed → padCode raw output ≡ 0
-  unfolding padCode pad-rules
-  pad-passes a = all-passed pad-rules (a .raw-length, (le-leb (segmentLength (length raw)) (length output) (a .room), tt))
+  unfolding padCode
+  pad-passes a =
+      all-passed (padRules raw output) (a .raw-length, (le-leb (segmentLength (length raw)) (length output) (a .room), tt))
 
   pub pad-answers : PadAllowed → padAnswer raw output ≡ written (segmentLength (length raw))
   pad-answers a = ap (λ (c : ℕ). unlessRefused c refused (written (segmentLength (length raw)))) (pad-passes a)
@@ -74,13 +73,12 @@ module _ (n : ℕ) (segment output : List ℕ) where
     pub only-raw : onlyRawBits n segment ≡ true
     pub room : n ≤ length output
 
-  unpad-rules : List Rule
-  unpad-rules = rule (rawLengthAllowed n) 2 ∷ rule (eqb (length segment) (segmentLength n)) 24 ∷ rule (onlyRawBits n segment) 11 ∷ rule (leb n (length output)) 12 ∷ []
-
   pub unpad-allowed : unpadAnswer n segment output .code ≡ 0 → UnpadAllowed
-  unfolding unpadCode unpad-rules
+  unfolding unpadCode
   unpad-allowed e =
-      let p = none-refused unpad-rules (omega arith, (omega arith, (omega arith, (omega arith, tt)))) (sym (answer-code (unpadCode n segment output) n) ∙ e) in
+      let code = sym (answer-code (unpadCode n segment output) n) ∙ e in
+      let codes : Codes (unpadRules n segment output) = (omega arith, (omega arith, (omega arith, (omega arith, tt)))) in
+      let p = none-refused (unpadRules n segment output) codes code in
       record {
         raw-length = p .0;
         sized = eqb-true (length segment) (segmentLength n) (p .1 .0);
@@ -89,9 +87,11 @@ module _ (n : ℕ) (segment output : List ℕ) where
       }
 
   unpad-passes : UnpadAllowed → unpadCode n segment output ≡ 0
-  unfolding unpadCode unpad-rules
+  unfolding unpadCode
   unpad-passes a =
-      all-passed unpad-rules (a .raw-length, (eq-eqb (length segment) (segmentLength n) (a .sized), (a .only-raw, (le-leb n (length output) (a .room), tt))))
+      let sized = eq-eqb (length segment) (segmentLength n) (a .sized) in
+      let room = le-leb n (length output) (a .room) in
+      all-passed (unpadRules n segment output) (a .raw-length, (sized, (a .only-raw, (room, tt))))
 
   pub unpad-answers : UnpadAllowed → unpadAnswer n segment output ≡ written n
   unpad-answers a = ap (λ (c : ℕ). unlessRefused c refused (written n)) (unpad-passes a)

@@ -52,9 +52,9 @@ module _ (memory : List ℕ) (pieces : List (List ℕ)) (sized : length memory �
   -- what is answered then, with a lent node and a lent count
   pub calls-cut-anywhere : (node : List ℕ) (count : ℕ) → length node ≡ 32
       → let code = endCode left node in
-        let answer = streamed (together pieces) in
-        (code ≡ answer .code)
-        × (lentOutput code (packedEnd left .node) node ≡ lentOutput (answer .code) (answer .node) node)
-        × (lentOutput code (packedEnd left .count) count ≡ lentOutput (answer .code) (answer .count) count)
+      let answer = streamed (together pieces) in
+      (code ≡ answer .code)
+      × (lentOutput code (packedEnd left .node) node ≡ lentOutput (answer .code) (answer .node) node)
+      × (lentOutput code (packedEnd left .count) count ≡ lentOutput (answer .code) (answer .count) count)
   calls-cut-anywhere node count l =
       rw (eq-eqb (length left) packedLength left-sized, eq-eqb (length node) 32 l, ends) (refl, refl, refl)

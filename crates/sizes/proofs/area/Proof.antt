@@ -28,12 +28,6 @@ returns c =
 mul-taken : tie.Need-mul-taken Inv-loop μ-loop
 mul-taken c = let l = c .before .before in omega (arith, l .loop .inv .1, taken-fits (l .loop .i) (l .loop .inv .0))
 
-add-i : tie.Need-add-i Inv-loop μ-loop
-add-i c = search needs
-
-loop-less : tie.Need-loop-less Inv-loop μ-loop
-loop-less c = search needs
-
 loop-again : tie.Need-loop-again Inv-loop μ-loop
 loop-again c =
     let l = c .before .before in (
@@ -50,4 +44,4 @@ returns-2 c =
 pub area-spec : {M : Type 1} → statement M
 area-spec =
     tie.close
-    (tie.spec Inv-loop μ-loop loop-holds returns mul-taken add-i loop-less loop-again returns-2)
+    (tie.spec Inv-loop μ-loop loop-holds returns mul-taken (λ c. search needs) (λ c. search needs) loop-again returns-2)

@@ -6,15 +6,6 @@ use Rattle.sizes.specs.Sizes.{area, segmentLevel}
 use Rattle.sizes.proofs.segment_level.Statement.{statement}
 use Rattle.sizes.proofs.segment_level.Tie as tie
 
-area-requires : tie.Need-area-requires
-area-requires c κs = search needs
-
-log2-requires : tie.Need-log2-requires
-log2-requires c κs = search needs
-
-cast-result : tie.Need-cast-result
-cast-result c = search needs
-
 sub-result : tie.Need-sub-result
 unfolding segmentLevel
 sub-result c =
@@ -29,4 +20,4 @@ returns c =
 
 pub segment-level-spec : {M : Type 1} → statement M
 segment-level-spec =
-    tie.close (tie.spec area-requires log2-requires cast-result sub-result returns)
+    tie.close (tie.spec (λ c κs. search needs) (λ c κs. search needs) (λ c. search needs) sub-result returns)

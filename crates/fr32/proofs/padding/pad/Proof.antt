@@ -10,12 +10,6 @@ use borrow.Author.Needs.{needs}
 use Rattle.fr32.proofs.padding.pad.Statement.{statement}
 use Rattle.fr32.proofs.padding.pad.Tie as tie
 
-raw-length-allowed-requires : tie.Need-raw-length-allowed-requires
-raw-length-allowed-requires c κs = search needs
-
-refused-requires : tie.Need-refused-requires
-refused-requires c κs = search needs
-
 returns : tie.Need-returns
 returns c =
     let l = c .before .before in
@@ -29,9 +23,6 @@ allowed c = sym (c .before .raw-length-allowed .ensures) ∙ not-false _ (c .if1
 segment-length-requires : tie.Need-segment-length-requires
 segment-length-requires c κs = largest-raw (length (now (c .before .before .before .before .args .raw))) (allowed c)
 
-refused-requires-2 : tie.Need-refused-requires-2
-refused-requires-2 c κs = search needs
-
 returns-2 : tie.Need-returns-2
 returns-2 c =
     let m = c .before .before in
@@ -44,9 +35,6 @@ write-segment-requires c κs =
     let a = m .before .before .before .before .before .args in
     (largest-raw (length (now (a .raw))) (allowed (m .before)), omega (arith, m .segment-length .ensures, c .before .if2 .left))
 
-same-length : tie.Need-same-length
-same-length c = search needs
-
 returns-3 : tie.Need-returns-3
 returns-3 c =
     let w = c .before .before in
@@ -58,12 +46,12 @@ pub pad-spec : {M : Type 1} → statement M
 pad-spec =
     tie.close
     (tie.spec
-    raw-length-allowed-requires
-    refused-requires
+    (λ c κs. search needs)
+    (λ c κs. search needs)
     returns
     segment-length-requires
-    refused-requires-2
+    (λ c κs. search needs)
     returns-2
     write-segment-requires
-    same-length
+    (λ c. search needs)
     returns-3)

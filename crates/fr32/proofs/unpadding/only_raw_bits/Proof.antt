@@ -6,12 +6,6 @@ use borrow.Author.Needs.{needs}
 use Rattle.fr32.proofs.unpadding.only_raw_bits.Statement.{statement}
 use Rattle.fr32.proofs.unpadding.only_raw_bits.Tie as tie
 
-no-stray-bits-requires : tie.Need-no-stray-bits-requires
-no-stray-bits-requires c κs = search needs
-
-raw-byte-requires : tie.Need-raw-byte-requires
-raw-byte-requires c κs = search needs
-
 returns : tie.Need-returns
 returns c =
     let n = c .before .before in
@@ -27,4 +21,4 @@ returns-2 c =
 
 pub only-raw-bits-spec : {M : Type 1} → statement M
 only-raw-bits-spec =
-    tie.close (tie.spec no-stray-bits-requires raw-byte-requires returns returns-2)
+    tie.close (tie.spec (λ c κs. search needs) (λ c κs. search needs) returns returns-2)

@@ -9,12 +9,6 @@ use borrow.Author.Needs.{needs}
 use Rattle.fr32.proofs.unpadding.unpad.Statement.{statement}
 use Rattle.fr32.proofs.unpadding.unpad.Tie as tie
 
-raw-length-allowed-requires : tie.Need-raw-length-allowed-requires
-raw-length-allowed-requires c κs = search needs
-
-refused-requires : tie.Need-refused-requires
-refused-requires c κs = search needs
-
 returns : tie.Need-returns
 returns c =
     let l = c .before .before in
@@ -27,9 +21,6 @@ allowed c = sym (c .before .raw-length-allowed .ensures) ∙ not-false _ (c .if1
 
 segment-length-requires : tie.Need-segment-length-requires
 segment-length-requires c κs = largest-raw (c .before .before .before .before .args .raw-length) (allowed c)
-
-refused-requires-2 : tie.Need-refused-requires-2
-refused-requires-2 c κs = search needs
 
 returns-2 : tie.Need-returns-2
 returns-2 c =
@@ -46,18 +37,12 @@ only-raw-bits-requires c κs =
     let e = c .before .before in
     (largest-raw (e .before .before .before .before .args .raw-length) (allowed e), sized c)
 
-refused-requires-3 : tie.Need-refused-requires-3
-refused-requires-3 c κs = search needs
-
 returns-3 : tie.Need-returns-3
 returns-3 c =
     let o = c .before .before in
     let e = o .before .before .before in
     let a = e .before .before .before .before .args in
     bits-refused (a .raw-length) (now (a .segment)) (now (a .output)) (allowed e) (sized (o .before)) (c .refused3 .ensures) (sym (o .only-raw-bits .ensures) ∙ not-true _ (c .before .if3 .taken))
-
-refused-requires-4 : tie.Need-refused-requires-4
-refused-requires-4 c κs = search needs
 
 returns-4 : tie.Need-returns-4
 returns-4 c =
@@ -73,9 +58,6 @@ write-raw-requires c κs =
     let e = o .before .before .before in
     (largest-raw (e .before .before .before .before .args .raw-length) (allowed e), sized (o .before), c .before .if4 .left)
 
-same-length : tie.Need-same-length
-same-length c = search needs
-
 returns-5 : tie.Need-returns-5
 returns-5 c =
     let w = c .before .before in
@@ -90,17 +72,17 @@ pub unpad-spec : {M : Type 1} → statement M
 unpad-spec =
     tie.close
     (tie.spec
-    raw-length-allowed-requires
-    refused-requires
+    (λ c κs. search needs)
+    (λ c κs. search needs)
     returns
     segment-length-requires
-    refused-requires-2
+    (λ c κs. search needs)
     returns-2
     only-raw-bits-requires
-    refused-requires-3
+    (λ c κs. search needs)
     returns-3
-    refused-requires-4
+    (λ c κs. search needs)
     returns-4
     write-raw-requires
-    same-length
+    (λ c. search needs)
     returns-5)

@@ -22,18 +22,6 @@ abbrev μ-loop : tie.MeasureT-loop
 loop-holds : tie.Need-loop-holds Inv-loop μ-loop
 loop-holds c = let a = c .before .before .args in (search needs, paste-zero (now (a .output)) 0 (unpadded (a .n) (now (a .segment))), refl)
 
-raw-byte-requires : tie.Need-raw-byte-requires Inv-loop μ-loop
-raw-byte-requires c κs = search needs
-
-slice-write-output : tie.Need-slice-write-output Inv-loop μ-loop
-slice-write-output c = search needs
-
-add-p : tie.Need-add-p Inv-loop μ-loop
-add-p c = search needs
-
-loop-less : tie.Need-loop-less Inv-loop μ-loop
-loop-less c = search needs
-
 loop-again : tie.Need-loop-again Inv-loop μ-loop
 loop-again c =
     let l = c .before .before in
@@ -46,9 +34,6 @@ loop-again c =
           (raw-place n (l .loop .p) segment (s .pre .1) (c .raw-byte .ensures) (c .before .loop-test .taken)) (omega arith) (omega arith),
       simp length-set (omega arith),
     )
-
-same-length : tie.Need-same-length Inv-loop μ-loop
-same-length c = search needs
 
 returns : tie.Need-returns Inv-loop μ-loop
 returns c =
@@ -64,10 +49,10 @@ write-raw-spec =
     Inv-loop
     μ-loop
     loop-holds
-    raw-byte-requires
-    slice-write-output
-    add-p
-    loop-less
+    (λ c κs. search needs)
+    (λ c. search needs)
+    (λ c. search needs)
+    (λ c. search needs)
     loop-again
-    same-length
+    (λ c. search needs)
     returns)
