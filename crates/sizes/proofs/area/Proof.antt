@@ -23,7 +23,8 @@ loop-holds c = (omega arith, refl, refl)
 returns : tie.Need-returns Inv-loop μ-loop
 returns c =
     let l = c .before .before in
-    sym (l .loop .inv .2 ∙ stop-doubling 28 (l .loop .i) (l .loop .taken) (l .before .args .size) (omega arith) (c .if1 .taken))
+    let size = l .before .args .size in
+    sym (l .loop .inv .2 ∙ stop-doubling 28 (l .loop .i) (l .loop .taken) size (omega arith) (c .if1 .taken))
 
 mul-taken : tie.Need-mul-taken Inv-loop μ-loop
 mul-taken c = let l = c .before .before in omega (arith, l .loop .inv .1, taken-fits (l .loop .i) (l .loop .inv .0))
@@ -33,7 +34,8 @@ loop-again c =
     let l = c .before .before in (
       omega arith,
       omega (arith, l .loop .inv .1, pow-suc 2 (l .loop .i)) ∙ ap (λ (n : ℕ). 128 * 2 ^ n) (sym (add-one (l .loop .i))),
-      l .loop .inv .2 ∙ double-once 28 (l .loop .i) (l .loop .taken) (l .before .args .size) (omega arith) (c .if1 .left),
+      l .loop .inv .2
+          ∙ double-once 28 (l .loop .i) (l .loop .taken) (l .before .args .size) (omega arith) (c .if1 .left),
     )
 
 returns-2 : tie.Need-returns-2 Inv-loop μ-loop

@@ -6,7 +6,8 @@ use Rattle.sizes.proofs.deal_size_allowed.Tie as tie
 
 returns : tie.Need-returns
 unfolding dealSizeAllowed
-returns c = simp (le-leb _ _ (c .before .before .if1 .taken), le-leb _ _ (c .before .if2 .taken)) (c .is-power-of-two .ensures)
+returns c =
+    simp (le-leb _ _ (c .before .before .if1 .taken), le-leb _ _ (c .before .if2 .taken)) (c .is-power-of-two .ensures)
 
 returns-2 : tie.Need-returns-2
 unfolding dealSizeAllowed

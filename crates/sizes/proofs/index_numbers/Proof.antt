@@ -14,7 +14,12 @@ index-start-requires c κs = sym (c .before .before .deal-size-allowed .ensures)
 
 returns-2 : tie.Need-returns-2
 unfolding indexNumbers
-returns-2 c = simp (sym (c .before .before .before .deal-size-allowed .ensures) ∙ not-false _ (c .before .before .if1 .left), c .before .entry-count .ensures, c .index-start .ensures)
+returns-2 c =
+    simp (
+      sym (c .before .before .before .deal-size-allowed .ensures) ∙ not-false _ (c .before .before .if1 .left),
+      c .before .entry-count .ensures,
+      c .index-start .ensures,
+    )
 
 pub index-numbers-spec : {M : Type 1} → statement M
 index-numbers-spec =

@@ -8,10 +8,12 @@ use Rattle.sizes.proofs.index_start.Statement.{statement}
 use Rattle.sizes.proofs.index_start.Tie as tie
 
 mul-result : tie.Need-mul-result
-mul-result c = let d = c .before .args .d in let t = deal-size d (c .before .pre) in let i = index-area d t in omega arith
+mul-result c =
+    let d = c .before .args .d in let t = deal-size d (c .before .pre) in let i = index-area d t in omega arith
 
 sub-result : tie.Need-sub-result
-sub-result c = let d = c .before .args .d in let t = deal-size d (c .before .pre) in let i = index-area d t in omega arith
+sub-result c =
+    let d = c .before .args .d in let t = deal-size d (c .before .pre) in let i = index-area d t in omega arith
 
 returns : tie.Need-returns
 unfolding indexStart

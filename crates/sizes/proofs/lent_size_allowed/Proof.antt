@@ -6,7 +6,9 @@ use Rattle.sizes.proofs.lent_size_allowed.Tie as tie
 
 returns : tie.Need-returns
 unfolding lentSizeAllowed
-returns c = simp (le-leb _ _ (c .before .before .if1 .taken), le-leb _ _ (c .before .if2 .taken)) (c .is-power-of-two-usize .ensures)
+returns c =
+    simp (le-leb _ _ (c .before .before .if1 .taken), le-leb _ _ (c .before .if2 .taken))
+    (c .is-power-of-two-usize .ensures)
 
 returns-2 : tie.Need-returns-2
 unfolding lentSizeAllowed

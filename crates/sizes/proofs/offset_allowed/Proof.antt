@@ -32,7 +32,8 @@ returns c =
     let taken = c .before .before .area .result in
     let start = c .index-start .result in
     let h : taken ≤ start = omega arith in
-    simp (← c .before .before .area .ensures, ← c .index-start .ensures, eq-eqb _ _ (c .before .if1 .taken)) (ends-by (s .args .offset) taken start h)
+    simp (← c .before .before .area .ensures, ← c .index-start .ensures, eq-eqb _ _ (c .before .if1 .taken))
+    (ends-by (s .args .offset) taken start h)
 
 returns-2 : tie.Need-returns-2
 unfolding offsetAllowed

@@ -6,11 +6,13 @@ use Rattle.sizes.proofs.place_allowed.Tie as tie
 
 returns : tie.Need-returns
 unfolding placeAllowed
-returns c = simp (eq-eqb _ _ (c .before .before .if1 .taken), ← c .before .index-start .ensures, le-leb _ _ (c .if2 .taken))
+returns c =
+    simp (eq-eqb _ _ (c .before .before .if1 .taken), ← c .before .index-start .ensures, le-leb _ _ (c .if2 .taken))
 
 returns-2 : tie.Need-returns-2
 unfolding placeAllowed
-returns-2 c = simp (eq-eqb _ _ (c .before .before .if1 .taken), ← c .before .index-start .ensures, lt-leb _ _ (c .if2 .left))
+returns-2 c =
+    simp (eq-eqb _ _ (c .before .before .if1 .taken), ← c .before .index-start .ensures, lt-leb _ _ (c .if2 .left))
 
 returns-3 : tie.Need-returns-3
 unfolding placeAllowed

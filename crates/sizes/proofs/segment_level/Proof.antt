@@ -9,13 +9,15 @@ use Rattle.sizes.proofs.segment_level.Tie as tie
 sub-result : tie.Need-sub-result
 unfolding segmentLevel
 sub-result c =
-    let e : c .log2 .result ≡ height (area (c .before .before .args .size)) = c .log2 .ensures ∙ ap height (c .before .area .ensures) in
+    let e : c .log2 .result ≡ height (area (c .before .before .args .size)) =
+    c .log2 .ensures ∙ ap height (c .before .area .ensures) in
     omega arith
 
 returns : tie.Need-returns
 unfolding segmentLevel
 returns c =
-    let e : c .log2 .result ≡ height (area (c .before .before .args .size)) = c .log2 .ensures ∙ ap height (c .before .area .ensures) in
+    let e : c .log2 .result ≡ height (area (c .before .before .args .size)) =
+    c .log2 .ensures ∙ ap height (c .before .area .ensures) in
     omega arith
 
 pub segment-level-spec : {M : Type 1} → statement M

@@ -8,10 +8,12 @@ use Rattle.sizes.proofs.slot_place.Statement.{statement}
 use Rattle.sizes.proofs.slot_place.Tie as tie
 
 mul-result : tie.Need-mul-result
-mul-result c = let s = c .before in let t = deal-size (s .args .d) (s .pre .0) in let i = index-area (s .args .d) t in omega arith
+mul-result c =
+    let s = c .before in let t = deal-size (s .args .d) (s .pre .0) in let i = index-area (s .args .d) t in omega arith
 
 add-result : tie.Need-add-result
-add-result c = let s = c .before in let t = deal-size (s .args .d) (s .pre .0) in let i = index-area (s .args .d) t in omega arith
+add-result c =
+    let s = c .before in let t = deal-size (s .args .d) (s .pre .0) in let i = index-area (s .args .d) t in omega arith
 
 returns : tie.Need-returns
 unfolding slotPlace
