@@ -3,7 +3,7 @@ use mathlib.Core.Path.{_≡_, sym, ap, _∙_}
 use Prim.Native.Nat.{ℕ, _+_, _-_}
 use native.Mathlib.Omega.{arith}
 use mathlib.Core.List.{List, _∷_, _++_, append-assoc}
-use lib.ListN.{length, take, drop, replicate, length-append, length-replicate}
+use lib.ListN.{length, take, drop, replicate, length-append}
 use Rattle.octets.specs.LittleEndian.{bytesOf}
 use Rattle.octets.specs.LittleEndianLaws.{length-bytesOf}
 use Rattle.octets.specs.Splice.{part, splice}

@@ -7,7 +7,6 @@ use Prim.Native.Nat.{ℕ}
 use lib.ListN.{length}
 use borrow.Author.Tests.{eq-eqb}
 use Rattle.stream.specs.declared.Stream.{Stream}
-use Rattle.stream.specs.declared.Streamed.{Streamed}
 use Rattle.stream.specs.Stream.{streamed, started, takePiece, ending, takePieces, together}
 use Rattle.stream.specs.Packed.{packedLength, packed, packedEnd}
 use Rattle.stream.specs.PackedLaws.{unpack-packed, length-packed}

@@ -1,10 +1,5 @@
-use mathlib.Core.Path.{_≡_}
-use Prim.Native.Nat.{ℕ}
-use mathlib.Core.List.{List}
-use lib.ListN.{getD}
 use denote.Ref.{now}
 use borrow.Author.Needs.{needs}
-use Rattle.stream.specs.declared.Stream.{Stream}
 use Rattle.stream.specs.Packed.{unpacked}
 use Rattle.stream.proofs.PackedLaws.{waiting-read}
 use Rattle.stream.proofs.packed.unpack.Statement.{statement}

@@ -1,7 +1,6 @@
-use mathlib.Core.Path.{_≡_, refl, sym, ap, _∙_}
+use mathlib.Core.Path.{_≡_, refl, ap, _∙_}
 use denote.Ref.{now}
 use borrow.Author.Needs.{needs}
-use Rattle.stream.specs.declared.Streamed.{Streamed}
 use Rattle.stream.specs.Stream.{ending}
 use Rattle.stream.specs.Packed.{packedLength, unpacked}
 use Rattle.vizhuthamen.proofs.Outputs.{wrong-length, right-length}
