@@ -15,7 +15,8 @@ use Rattle.fr32.specs.Padding.{rawLengthAllowed, segmentLength, padded, 
 use Rattle.fr32.specs.PaddingLaws.{length-padded}
 use Rattle.fr32.specs.UnpaddingLaws.{length-unpadded}
 use Rattle.fr32.specs.Answers.{refused, written}
-use Rattle.fr32.specs.Answers.{padRules, padCode, padAnswer, padOutput, unpadRules, unpadCode, unpadAnswer, unpadOutput}
+use Rattle.fr32.specs.Answers.{padRules, padCode, padAnswer, padOutput, unpadRules, unpadCode, unpadAnswer}
+use Rattle.fr32.specs.Answers.{unpadOutput}
 
 -- the bytes that a routine wrote
 abbrev writtenBytes : Written → List ℕ → List ℕ
@@ -37,7 +38,9 @@ answer-code (suc code) n = refl
 all-written : (code n : ℕ) (output s : List ℕ) → code ≡ 0 → length s ≡ n → n ≤ length output
     → writtenBytes (unlessRefused code refused (written n)) (unlessRefused code (λ c. output) (splice output 0 s)) ≡ s
 all-written code n output s e l h =
-    ap (λ (c : ℕ). writtenBytes (unlessRefused c refused (written n)) (unlessRefused c (λ d. output) (splice output 0 s))) e
+    ap
+    (λ (c : ℕ). writtenBytes (unlessRefused c refused (written n)) (unlessRefused c (λ d. output) (splice output 0 s)))
+    e
     ∙ ap (part (splice output 0 s) 0) (sym l)
     ∙ part-written output 0 s (omega arith)
 
@@ -57,13 +60,18 @@ module _ (raw output : List ℕ) where
   pad-passes : PadAllowed → padCode raw output ≡ 0
   unfolding padCode
   pad-passes a =
-      all-passed (padRules raw output) (a .raw-length, (le-leb (segmentLength (length raw)) (length output) (a .room), tt))
+      all-passed (padRules raw output) (
+        a .raw-length,
+        (le-leb (segmentLength (length raw)) (length output) (a .room), tt),
+      )
 
   pub pad-answers : PadAllowed → padAnswer raw output ≡ written (segmentLength (length raw))
   pad-answers a = ap (λ (c : ℕ). unlessRefused c refused (written (segmentLength (length raw)))) (pad-passes a)
 
   pub pad-writes : PadAllowed → padWritten raw output ≡ padded raw
-  pad-writes a = all-written (padCode raw output) (segmentLength (length raw)) output (padded raw) (pad-passes a) (length-padded raw) (a .room)
+  pad-writes a =
+      all-written (padCode raw output) (segmentLength (length raw)) output (padded raw) (pad-passes a)
+      (length-padded raw) (a .room)
 
 module _ (n : ℕ) (segment output : List ℕ) where
   -- all that is asked outward
@@ -77,7 +85,8 @@ module _ (n : ℕ) (segment output : List ℕ) where
   unfolding unpadCode
   unpad-allowed e =
       let code = sym (answer-code (unpadCode n segment output) n) ∙ e in
-      let codes : Codes (unpadRules n segment output) = (omega arith, (omega arith, (omega arith, (omega arith, tt)))) in
+      let codes : Codes (unpadRules n segment output) =
+      (omega arith, (omega arith, (omega arith, (omega arith, tt)))) in
       let p = none-refused (unpadRules n segment output) codes code in
       record {
         raw-length = p .0;
@@ -97,4 +106,6 @@ module _ (n : ℕ) (segment output : List ℕ) where
   unpad-answers a = ap (λ (c : ℕ). unlessRefused c refused (written n)) (unpad-passes a)
 
   pub unpad-writes : UnpadAllowed → unpadWritten n segment output ≡ unpadded n segment
-  unpad-writes a = all-written (unpadCode n segment output) n output (unpadded n segment) (unpad-passes a) (length-unpadded n segment) (a .room)
+  unpad-writes a =
+      all-written (unpadCode n segment output) n output (unpadded n segment) (unpad-passes a)
+      (length-unpadded n segment) (a .room)

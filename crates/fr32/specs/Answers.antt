@@ -1,4 +1,5 @@
--- What the public routines answer and write (document 02, request (iv)). The rest of the output stays; nothing changes on a refusal.
+-- What the public routines answer and write (document 02, request (iv)). The rest of the output stays; nothing changes
+-- on a refusal.
 use Prim.Native.Nat.{ℕ}
 use mathlib.Core.List.{List, [], _∷_}
 use lib.ListN.{length}
@@ -46,4 +47,5 @@ abbrev pub unpadAnswer : ℕ → List ℕ → List ℕ → Written
 unpadAnswer n segment output = unlessRefused (unpadCode n segment output) refused (written n)
 
 abbrev pub unpadOutput : ℕ → List ℕ → List ℕ → List ℕ
-unpadOutput n segment output = unlessRefused (unpadCode n segment output) (λ code. output) (splice output 0 (unpadded n segment))
+unpadOutput n segment output =
+    unlessRefused (unpadCode n segment output) (λ code. output) (splice output 0 (unpadded n segment))

@@ -1,5 +1,5 @@
--- Document 02, request (i): from a new start, with each state handed on as it came back, and however the bytes were cut,
--- the answer is that of the definition over all of them. (Over the bytes that a caller in another language keeps:
+-- Document 02, request (i): from a new start, with each state handed on as it came back, and however the bytes were
+-- cut, the answer is that of the definition over all of them. (Over the bytes that a caller in another language keeps:
 -- `calls-cut-anywhere` in crates/vizhuthamen/specs/CallsCutAnywhere.antt.)
 use mathlib.Core.Path.{_≡_}
 use mathlib.Core.List.{List}

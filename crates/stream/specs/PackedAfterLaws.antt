@@ -1,4 +1,5 @@
--- Every state that is reached from a new start fits into its bytes, so that handing on the bytes is handing on the state.
+-- Every state that is reached from a new start fits into its bytes, so that handing on the bytes is handing on the
+-- state.
 use mathlib.Core.Path.{_≡_, refl, sym, ap, subst}
 use mathlib.Core.List.{List}
 use Prim.Native.Nat.{ℕ}

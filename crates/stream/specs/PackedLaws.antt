@@ -30,11 +30,14 @@ module _ (s : Stream) (fits : Packable s) where
   behind : drop 16 (number ++ (code ++ rest)) ≡ rest
   behind =
       let l = length-bytesOf 8 (s .count) in
-      ap (drop 16) (sym (append-assoc number code rest)) ∙ drop-at (number ++ code) rest 16 (length-append number code ∙ omega arith)
+      ap (drop 16) (sym (append-assoc number code rest))
+      ∙ drop-at (number ++ code) rest 16 (length-append number code ∙ omega arith)
 
   count-back : numberOf (part (packed s) 0 8) ≡ s .count
   unfolding packed part
-  count-back = ap numberOf (take-at number (code ++ rest) 8 (length-bytesOf 8 (s .count))) ∙ number-of-bytes 8 (s .count) (fits .count-8)
+  count-back =
+      ap numberOf (take-at number (code ++ rest) 8 (length-bytesOf 8 (s .count)))
+      ∙ number-of-bytes 8 (s .count) (fits .count-8)
 
   code-back : getD (packed s) 8 0 ≡ s .code
   unfolding packed
@@ -50,7 +53,10 @@ module _ (s : Stream) (fits : Packable s) where
   waiting-back : part (packed s) 48 1024 ≡ s .waiting
   unfolding packed part
   waiting-back =
-      ap (take 1024) (sym (drop-drop 32 16 (number ++ (code ++ rest))) ∙ ap (drop 32) behind ∙ drop-at (s .partial) (s .waiting) 32 (fits .partial-sized))
+      ap (take 1024)
+      (sym (drop-drop 32 16 (number ++ (code ++ rest)))
+      ∙ ap (drop 32) behind
+      ∙ drop-at (s .partial) (s .waiting) 32 (fits .partial-sized))
       ∙ take-all 1024 (s .waiting) (omega (arith, fits .waiting-sized))
 
   pub unpack-packed : unpacked (packed s) ≡ s

@@ -1,5 +1,5 @@
--- The calls of a stream over a lent state (include/vizhuthamen.h): what they answer, and the state that they leave. A state of another
--- length than 1,072 bytes is refused with 12 and stays.
+-- The calls of a stream over a lent state (include/vizhuthamen.h): what they answer, and the state that they leave. A
+-- state of another length than 1,072 bytes is refused with 12 and stays.
 use Prim.Native.Nat.{ℕ}
 use mathlib.Core.List.{List, [], _∷_}
 use lib.ListN.{length}

@@ -14,7 +14,8 @@ returns : tie.Need-returns
 returns c =
     let l = c .before .before in
     let a = l .before .before .before .args in
-    pad-length-refused (now (a .raw)) (now (a .output)) (c .refused .ensures) (sym (l .raw-length-allowed .ensures) ∙ not-true _ (c .before .if1 .taken))
+    pad-length-refused (now (a .raw)) (now (a .output)) (c .refused .ensures)
+    (sym (l .raw-length-allowed .ensures) ∙ not-true _ (c .before .if1 .taken))
 
 -- the raw length is allowed
 allowed : (c : tie.Else1) → rawLengthAllowed (length (now (c .before .before .before .before .args .raw))) ≡ true
@@ -27,20 +28,24 @@ returns-2 : tie.Need-returns-2
 returns-2 c =
     let m = c .before .before in
     let a = m .before .before .before .before .before .args in
-    pad-output-short (now (a .raw)) (now (a .output)) (c .refused2 .ensures) (allowed (m .before)) (omega (arith, m .segment-length .ensures, c .before .if2 .taken))
+    pad-output-short (now (a .raw)) (now (a .output)) (c .refused2 .ensures) (allowed (m .before))
+    (omega (arith, m .segment-length .ensures, c .before .if2 .taken))
 
 write-segment-requires : tie.Need-write-segment-requires
 write-segment-requires c κs =
     let m = c .before .before in
-    let a = m .before .before .before .before .before .args in
-    (largest-raw (length (now (a .raw))) (allowed (m .before)), omega (arith, m .segment-length .ensures, c .before .if2 .left))
+    let a = m .before .before .before .before .before .args in (
+      largest-raw (length (now (a .raw))) (allowed (m .before)),
+      omega (arith, m .segment-length .ensures, c .before .if2 .left),
+    )
 
 returns-3 : tie.Need-returns-3
 returns-3 c =
     let w = c .before .before in
     let m = w .before .before .before in
     let a = m .before .before .before .before .before .args in
-    pad-done (now (a .raw)) (now (a .output)) (rw (m .segment-length .ensures)) (allowed (m .before)) (omega (arith, m .segment-length .ensures, w .before .before .if2 .left)) (w .write-segment .ensures)
+    pad-done (now (a .raw)) (now (a .output)) (rw (m .segment-length .ensures)) (allowed (m .before))
+    (omega (arith, m .segment-length .ensures, w .before .before .if2 .left)) (w .write-segment .ensures)
 
 pub pad-spec : {M : Type 1} → statement M
 pad-spec =

@@ -11,7 +11,9 @@ returns c =
     let h = a .before in
     let l = h .before in
     let s = l .before .before in
-    at-last-place (now (s .args .raw)) (s .args .q) (bytes-of-slice (now (s .args .raw)) (l .before .shared-slice-known .given)) (s .pre .1) (l .byte-at .ensures) (h .byte-at2 .ensures) (a .across .ensures) (c .if1 .taken)
+    at-last-place (now (s .args .raw)) (s .args .q)
+    (bytes-of-slice (now (s .args .raw)) (l .before .shared-slice-known .given)) (s .pre .1) (l .byte-at .ensures)
+    (h .byte-at2 .ensures) (a .across .ensures) (c .if1 .taken)
 
 returns-2 : tie.Need-returns-2
 returns-2 c =
@@ -19,7 +21,9 @@ returns-2 c =
     let h = a .before in
     let l = h .before in
     let s = l .before .before in
-    at-place (now (s .args .raw)) (s .args .q) (bytes-of-slice (now (s .args .raw)) (l .before .shared-slice-known .given)) (s .pre .1) (l .byte-at .ensures) (h .byte-at2 .ensures) (a .across .ensures) (c .if1 .left)
+    at-place (now (s .args .raw)) (s .args .q)
+    (bytes-of-slice (now (s .args .raw)) (l .before .shared-slice-known .given)) (s .pre .1) (l .byte-at .ensures)
+    (h .byte-at2 .ensures) (a .across .ensures) (c .if1 .left)
 
 pub segment-byte-spec : {M : Type 1} → statement M
 segment-byte-spec =

@@ -13,13 +13,16 @@ use Rattle.fr32.proofs.padding.write_segment.Statement.{statement}
 use Rattle.fr32.proofs.padding.write_segment.Tie as tie
 
 abbrev Inv-loop : tie.InvT-loop
-Inv-loop raw output₀ n q₀ output q = (q ≤ n) × (output ≡ paste output₀ 0 (padded raw) q) × (length output ≡ length output₀)
+Inv-loop raw output₀ n q₀ output q =
+    (q ≤ n) × (output ≡ paste output₀ 0 (padded raw) q) × (length output ≡ length output₀)
 
 abbrev μ-loop : tie.MeasureT-loop
 μ-loop raw output₀ n q₀ output q = n - q
 
 loop-holds : tie.Need-loop-holds Inv-loop μ-loop
-loop-holds c = let a = c .before .before .before .args in (search needs, paste-zero (now (a .output)) 0 (padded (now (a .raw))), refl)
+loop-holds c =
+    let a =
+    c .before .before .before .args in (search needs, paste-zero (now (a .output)) 0 (padded (now (a .raw))), refl)
 
 loop-again : tie.Need-loop-again Inv-loop μ-loop
 loop-again c =
@@ -28,7 +31,8 @@ loop-again c =
     let a = n .before .before .before .args in
     let known = length-padded (now (a .raw)) in (
       search needs,
-      byte-written (now (a .output)) (padded (now (a .raw))) (l .loop .output) (l .loop .q) (c .segment-byte .result) (l .loop .inv .1) (c .segment-byte .ensures) (omega arith) (omega (arith, n .segment-length .ensures)),
+      byte-written (now (a .output)) (padded (now (a .raw))) (l .loop .output) (l .loop .q) (c .segment-byte .result)
+          (l .loop .inv .1) (c .segment-byte .ensures) (omega arith) (omega (arith, n .segment-length .ensures)),
       simp length-set (omega arith),
     )
 
@@ -38,7 +42,8 @@ returns c =
     let n = l .before in
     let a = n .before .before .before .args in
     let known = length-padded (now (a .raw)) in
-    l .loop .inv .1 ∙ end-written (now (a .output)) (padded (now (a .raw))) (l .loop .q) (omega (arith, n .segment-length .ensures))
+    l .loop .inv .1
+    ∙ end-written (now (a .output)) (padded (now (a .raw))) (l .loop .q) (omega (arith, n .segment-length .ensures))
 
 pub write-segment-spec : {M : Type 1} → statement M
 write-segment-spec =

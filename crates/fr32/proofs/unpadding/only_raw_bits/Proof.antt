@@ -11,7 +11,9 @@ returns c =
     let n = c .before .before in
     let s = n .before .before in
     let segment = now (s .args .segment) in
-    after-raw (s .args .n) (s .args .n) segment (s .pre .1) (c .raw-byte .ensures) refl (bytes-of-slice segment (n .before .shared-slice-known .given)) (sym (n .no-stray-bits .ensures) ∙ c .before .if1 .taken)
+    after-raw (s .args .n) (s .args .n) segment (s .pre .1) (c .raw-byte .ensures) refl
+    (bytes-of-slice segment (n .before .shared-slice-known .given))
+    (sym (n .no-stray-bits .ensures) ∙ c .before .if1 .taken)
 
 returns-2 : tie.Need-returns-2
 returns-2 c =

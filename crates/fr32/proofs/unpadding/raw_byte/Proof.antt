@@ -10,14 +10,18 @@ returns c =
     let h = c .before .before in
     let l = h .before in
     let s = l .before .before in
-    within-node (now (s .args .segment)) (s .args .p) (bytes-of-slice (now (s .args .segment)) (l .before .shared-slice-known .given)) (l .byte-at .ensures) (h .byte-at2 .ensures) (c .across .ensures) (c .before .if1 .taken)
+    within-node (now (s .args .segment)) (s .args .p)
+    (bytes-of-slice (now (s .args .segment)) (l .before .shared-slice-known .given)) (l .byte-at .ensures)
+    (h .byte-at2 .ensures) (c .across .ensures) (c .before .if1 .taken)
 
 returns-2 : tie.Need-returns-2
 returns-2 c =
     let h = c .before .before in
     let l = h .before in
     let s = l .before .before in
-    across-end (now (s .args .segment)) (s .args .p) (bytes-of-slice (now (s .args .segment)) (l .before .shared-slice-known .given)) (l .byte-at .ensures) (h .byte-at2 .ensures) (c .across-nodes .ensures) (c .before .if1 .left)
+    across-end (now (s .args .segment)) (s .args .p)
+    (bytes-of-slice (now (s .args .segment)) (l .before .shared-slice-known .given)) (l .byte-at .ensures)
+    (h .byte-at2 .ensures) (c .across-nodes .ensures) (c .before .if1 .left)
 
 pub raw-byte-spec : {M : Type 1} → statement M
 raw-byte-spec =

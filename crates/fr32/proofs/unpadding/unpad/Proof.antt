@@ -4,7 +4,8 @@ use lib.ListN.{length}
 use denote.Ref.{now}
 use borrow.Author.Tests.{not-true, not-false}
 use Rattle.fr32.specs.Padding.{rawLengthAllowed, segmentLength}
-use Rattle.fr32.proofs.Answers.{largest-raw, unpad-length-refused, segment-refused, bits-refused, unpad-output-short, unpad-done}
+use Rattle.fr32.proofs.Answers.{largest-raw, unpad-length-refused, segment-refused, bits-refused}
+use Rattle.fr32.proofs.Answers.{unpad-output-short, unpad-done}
 use borrow.Author.Needs.{needs}
 use Rattle.fr32.proofs.unpadding.unpad.Statement.{statement}
 use Rattle.fr32.proofs.unpadding.unpad.Tie as tie
@@ -13,7 +14,8 @@ returns : tie.Need-returns
 returns c =
     let l = c .before .before in
     let a = l .before .before .before .args in
-    unpad-length-refused (a .raw-length) (now (a .segment)) (now (a .output)) (c .refused .ensures) (sym (l .raw-length-allowed .ensures) ∙ not-true _ (c .before .if1 .taken))
+    unpad-length-refused (a .raw-length) (now (a .segment)) (now (a .output)) (c .refused .ensures)
+    (sym (l .raw-length-allowed .ensures) ∙ not-true _ (c .before .if1 .taken))
 
 -- the raw length is allowed
 allowed : (c : tie.Else1) → rawLengthAllowed (c .before .before .before .before .args .raw-length) ≡ true
@@ -26,10 +28,13 @@ returns-2 : tie.Need-returns-2
 returns-2 c =
     let m = c .before .before in
     let a = m .before .before .before .before .before .args in
-    segment-refused (a .raw-length) (now (a .segment)) (now (a .output)) (allowed (m .before)) (c .refused2 .ensures) (λ e. c .before .if2 .taken (e ∙ sym (m .segment-length .ensures)))
+    segment-refused (a .raw-length) (now (a .segment)) (now (a .output)) (allowed (m .before)) (c .refused2 .ensures)
+    (λ e. c .before .if2 .taken (e ∙ sym (m .segment-length .ensures)))
 
 -- and the segment has the length that it gives
-sized : (c : tie.Else2) → length (now (c .before .before .before .before .before .before .args .segment)) ≡ segmentLength (c .before .before .before .before .before .before .args .raw-length)
+sized : (c : tie.Else2)
+    → length (now (c .before .before .before .before .before .before .args .segment))
+    ≡ segmentLength (c .before .before .before .before .before .before .args .raw-length)
 sized c = c .if2 .left ∙ c .before .segment-length .ensures
 
 only-raw-bits-requires : tie.Need-only-raw-bits-requires
@@ -42,7 +47,8 @@ returns-3 c =
     let o = c .before .before in
     let e = o .before .before .before in
     let a = e .before .before .before .before .args in
-    bits-refused (a .raw-length) (now (a .segment)) (now (a .output)) (allowed e) (sized (o .before)) (c .refused3 .ensures) (sym (o .only-raw-bits .ensures) ∙ not-true _ (c .before .if3 .taken))
+    bits-refused (a .raw-length) (now (a .segment)) (now (a .output)) (allowed e) (sized (o .before))
+    (c .refused3 .ensures) (sym (o .only-raw-bits .ensures) ∙ not-true _ (c .before .if3 .taken))
 
 returns-4 : tie.Need-returns-4
 returns-4 c =
@@ -50,13 +56,17 @@ returns-4 c =
     let o = i .before in
     let e = o .before .before .before in
     let a = e .before .before .before .before .args in
-    unpad-output-short (a .raw-length) (now (a .segment)) (now (a .output)) (allowed e) (sized (o .before)) (c .refused4 .ensures) (sym (o .only-raw-bits .ensures) ∙ not-false _ (i .if3 .left)) (c .before .if4 .taken)
+    unpad-output-short (a .raw-length) (now (a .segment)) (now (a .output)) (allowed e) (sized (o .before))
+    (c .refused4 .ensures) (sym (o .only-raw-bits .ensures) ∙ not-false _ (i .if3 .left)) (c .before .if4 .taken)
 
 write-raw-requires : tie.Need-write-raw-requires
 write-raw-requires c κs =
     let o = c .before .before .before in
-    let e = o .before .before .before in
-    (largest-raw (e .before .before .before .before .args .raw-length) (allowed e), sized (o .before), c .before .if4 .left)
+    let e = o .before .before .before in (
+      largest-raw (e .before .before .before .before .args .raw-length) (allowed e),
+      sized (o .before),
+      c .before .if4 .left,
+    )
 
 returns-5 : tie.Need-returns-5
 returns-5 c =
@@ -66,7 +76,8 @@ returns-5 c =
     let o = i .before in
     let e = o .before .before .before in
     let a = e .before .before .before .before .args in
-    unpad-done (a .raw-length) (now (a .segment)) (now (a .output)) (allowed e) (sized (o .before)) refl (sym (o .only-raw-bits .ensures) ∙ not-false _ (i .if3 .left)) (r .if4 .left) (w .write-raw .ensures)
+    unpad-done (a .raw-length) (now (a .segment)) (now (a .output)) (allowed e) (sized (o .before)) refl
+    (sym (o .only-raw-bits .ensures) ∙ not-false _ (i .if3 .left)) (r .if4 .left) (w .write-raw .ensures)
 
 pub unpad-spec : {M : Type 1} → statement M
 unpad-spec =

@@ -14,13 +14,16 @@ use Rattle.fr32.proofs.unpadding.write_raw.Statement.{statement}
 use Rattle.fr32.proofs.unpadding.write_raw.Tie as tie
 
 abbrev Inv-loop : tie.InvT-loop
-Inv-loop n segment output₀ p₀ output p = (p ≤ n) × (output ≡ paste output₀ 0 (unpadded n segment) p) × (length output ≡ length output₀)
+Inv-loop n segment output₀ p₀ output p =
+    (p ≤ n) × (output ≡ paste output₀ 0 (unpadded n segment) p) × (length output ≡ length output₀)
 
 abbrev μ-loop : tie.MeasureT-loop
 μ-loop n segment output₀ p₀ output p = n - p
 
 loop-holds : tie.Need-loop-holds Inv-loop μ-loop
-loop-holds c = let a = c .before .before .args in (search needs, paste-zero (now (a .output)) 0 (unpadded (a .n) (now (a .segment))), refl)
+loop-holds c =
+    let a =
+    c .before .before .args in (search needs, paste-zero (now (a .output)) 0 (unpadded (a .n) (now (a .segment))), refl)
 
 loop-again : tie.Need-loop-again Inv-loop μ-loop
 loop-again c =
@@ -30,8 +33,10 @@ loop-again c =
     let segment = now (s .args .segment) in
     let known = length-unpadded n segment in (
       search needs,
-      byte-written (now (s .args .output)) (unpadded n segment) (l .loop .output) (l .loop .p) (c .raw-byte .result) (l .loop .inv .1)
-          (raw-place n (l .loop .p) segment (s .pre .1) (c .raw-byte .ensures) (c .before .loop-test .taken)) (omega arith) (omega arith),
+      byte-written (now (s .args .output)) (unpadded n segment) (l .loop .output) (l .loop .p) (c .raw-byte .result)
+          (l .loop .inv .1)
+          (raw-place n (l .loop .p) segment (s .pre .1) (c .raw-byte .ensures) (c .before .loop-test .taken))
+          (omega arith) (omega arith),
       simp length-set (omega arith),
     )
 

@@ -11,7 +11,8 @@ returns c =
     let k = p .before .before .before .before in
     let n = k .before .before .before .before .before in
     let s = n .before .before .before .before .before in
-    packed-written (s .args .state) (now (s .args .bytes)) (n .put-u64 .last .0) (k .put .last .0) (p .put-node .last .0) (w .put-waiting .last .0) (s .pre)
+    packed-written (s .args .state) (now (s .args .bytes)) (n .put-u64 .last .0) (k .put .last .0)
+    (p .put-node .last .0) (w .put-waiting .last .0) (s .pre)
     (p .put-node .ensures .1)
     (w .put-waiting .ensures .1)
     (n .put-u64 .ensures)

@@ -11,7 +11,11 @@ returns c =
     let p = c .before .before .before .before in
     let s = p .before .before .before .before in
     let bytes = now (s .args .bytes) in
-    rw (c .before .read-u64 .ensures, c .node-at .ensures, waiting-read bytes (p .put .last .0) (s .pre) (p .put .ensures))
+    rw (
+      c .before .read-u64 .ensures,
+      c .node-at .ensures,
+      waiting-read bytes (p .put .last .0) (s .pre) (p .put .ensures),
+    )
 
 pub unpack-spec : {M : Type 1} → statement M
 unpack-spec =

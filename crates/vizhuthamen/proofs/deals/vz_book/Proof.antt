@@ -9,7 +9,10 @@ returns c =
     let offset = place .before .before in
     let t = offset .before .before in
     let k = t .before .before .before in
-    rw (← k .book .ensures .0, ← t .written-with .ensures) (refl, (k .book .ensures .1, (offset .write-u64 .ensures, place .write-u642 .ensures)))
+    rw (← k .book .ensures .0, ← t .written-with .ensures) (
+      refl,
+      (k .book .ensures .1, (offset .write-u64 .ensures, place .write-u642 .ensures)),
+    )
 
 pub vz-book-spec : {M : Type 1} → statement M
 vz-book-spec =

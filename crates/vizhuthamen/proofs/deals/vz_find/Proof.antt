@@ -9,7 +9,10 @@ returns c =
     let size = place .before .before in
     let offset = size .before .before in
     let k = offset .before .before .before in
-    rw (← k .find-numbers .ensures) (refl, (offset .write-u64 .ensures, (size .write-u642 .ensures, place .write-u643 .ensures)))
+    rw (← k .find-numbers .ensures) (
+      refl,
+      (offset .write-u64 .ensures, (size .write-u642 .ensures, place .write-u643 .ensures)),
+    )
 
 pub vz-find-spec : {M : Type 1} → statement M
 vz-find-spec =

@@ -20,8 +20,13 @@ returns-2 c =
     let k = n .before .before .before in
     let i = k .before in
     let a = i .before .before .before .args in
-    rw (← k .inspect .ensures)
-    (right-length 32 (now (a .commitment)) (k .inspect .result .code) (i .if1 .left), (rw (← n .state-number .ensures) (number .write-u32 .ensures), (bytes .write-32-bytes .ensures, (offset .write-u64 .ensures, size .write-u642 .ensures))))
+    rw (← k .inspect .ensures) (
+      right-length 32 (now (a .commitment)) (k .inspect .result .code) (i .if1 .left),
+      (
+        rw (← n .state-number .ensures) (number .write-u32 .ensures),
+        (bytes .write-32-bytes .ensures, (offset .write-u64 .ensures, size .write-u642 .ensures)),
+      ),
+    )
 
 pub vz-inspect-spec : {M : Type 1} → statement M
 vz-inspect-spec =

@@ -9,7 +9,10 @@ returns c =
     let damaged = valid .before .before in
     let blank = damaged .before .before in
     let k = blank .before .before .before in
-    rw (← k .tally .ensures) (refl, (blank .write-u64 .ensures, (damaged .write-u642 .ensures, valid .write-u643 .ensures)))
+    rw (← k .tally .ensures) (
+      refl,
+      (blank .write-u64 .ensures, (damaged .write-u642 .ensures, valid .write-u643 .ensures)),
+    )
 
 pub vz-tally-spec : {M : Type 1} → statement M
 vz-tally-spec =

@@ -16,7 +16,10 @@ returns-2 c =
     let k = w .before .before .before .before in
     let i = k .before in
     let a = i .before .before .before .args in
-    rw (← k .commitment .ensures) (right-length 32 (now (a .node)) (k .commitment .result .code) (i .if1 .left), w .write-32-bytes .ensures)
+    rw (← k .commitment .ensures) (
+      right-length 32 (now (a .node)) (k .commitment .result .code) (i .if1 .left),
+      w .write-32-bytes .ensures,
+    )
 
 pub vz-commitment-spec : {M : Type 1} → statement M
 vz-commitment-spec =

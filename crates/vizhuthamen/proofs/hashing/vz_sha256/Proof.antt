@@ -16,7 +16,10 @@ returns-2 c =
     let k = w .before .before .before .before in
     let i = k .before in
     let a = i .before .before .before .args in
-    rw (← k .sha256 .ensures) (right-length 32 (now (a .digest)) (k .sha256 .result .code) (i .if1 .left), w .write-32-bytes .ensures)
+    rw (← k .sha256 .ensures) (
+      right-length 32 (now (a .digest)) (k .sha256 .result .code) (i .if1 .left),
+      w .write-32-bytes .ensures,
+    )
 
 pub vz-sha256-spec : {M : Type 1} → statement M
 vz-sha256-spec =

@@ -16,7 +16,10 @@ returns-2 c =
     let k = w .before .before .before .before in
     let i = k .before in
     let a = i .before .before .before .args in
-    rw (← k .make-entry .ensures) (right-length 64 (now (a .entry)) (k .make-entry .result .code) (i .if1 .left), w .write-64-bytes .ensures)
+    rw (← k .make-entry .ensures) (
+      right-length 64 (now (a .entry)) (k .make-entry .result .code) (i .if1 .left),
+      w .write-64-bytes .ensures,
+    )
 
 pub vz-make-entry-spec : {M : Type 1} → statement M
 vz-make-entry-spec =

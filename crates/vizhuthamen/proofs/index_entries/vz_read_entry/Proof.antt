@@ -20,8 +20,13 @@ returns-2 c =
     let k = n .before .before .before in
     let i = k .before in
     let a = i .before .before .before .args in
-    rw (← k .read-entry .ensures)
-    (right-length 32 (now (a .commitment)) (k .read-entry .result .code) (i .if1 .left), (rw (← n .kind-number .ensures) (number .write-u32 .ensures), (bytes .write-32-bytes .ensures, (offset .write-u64 .ensures, size .write-u642 .ensures))))
+    rw (← k .read-entry .ensures) (
+      right-length 32 (now (a .commitment)) (k .read-entry .result .code) (i .if1 .left),
+      (
+        rw (← n .kind-number .ensures) (number .write-u32 .ensures),
+        (bytes .write-32-bytes .ensures, (offset .write-u64 .ensures, size .write-u642 .ensures)),
+      ),
+    )
 
 pub vz-read-entry-spec : {M : Type 1} → statement M
 vz-read-entry-spec =
