@@ -2,6 +2,7 @@ pub mod Settles
 pub mod BuildsExactly
 pub mod Demand2
 pub mod Demand3
+pub mod TableLaws
 pub mod Table
 pub mod Chains
 pub mod TwoRecords

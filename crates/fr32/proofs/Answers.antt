@@ -9,7 +9,8 @@ use borrow.Author.Tests.{leb-true, le-leb, lt-leb, eq-eqb, ne-eqb}
 use Rattle.rules.specs.RefusalLaws.{and-right}
 use Rattle.octets.specs.Splice.{splice}
 use Rattle.fr32.specs.Padding.{rawLengthAllowed, segmentLength, padded, unpadded, onlyRawBits}
-use Rattle.fr32.specs.Answers.{refused, written, padCode, padAnswer, padOutput, unpadCode, unpadAnswer, unpadOutput}
+use Rattle.fr32.specs.Answers.{refused, written, padCode, padAnswer, padOutput, unpadCode, unpadAnswer}
+use Rattle.fr32.specs.Answers.{unpadOutput}
 use Rattle.fr32.specs.declared.Written.{Written}
 
 pub largest-raw : (n : ℕ) → rawLengthAllowed n ≡ true → n ≤ 8323072
@@ -25,11 +26,13 @@ module _ (raw output : List ℕ) where
     unfolding padCode
     pad-length-refused a t = (a ∙ rw t, rw t)
 
-    pub pad-output-short : answer ≡ refused 12 → rawLengthAllowed (length raw) ≡ true → length output < segmentLength (length raw) → PadAnswered answer output
+    pub pad-output-short : answer ≡ refused 12 → rawLengthAllowed (length raw) ≡ true
+        → length output < segmentLength (length raw) → PadAnswered answer output
     unfolding padCode
     pad-output-short a t h = let k = lt-leb (segmentLength (length raw)) (length output) h in (a ∙ rw (t, k), rw (t, k))
 
-    pub pad-done : {after : List ℕ} → answer ≡ written (segmentLength (length raw)) → rawLengthAllowed (length raw) ≡ true → segmentLength (length raw) ≤ length output
+    pub pad-done : {after : List ℕ} → answer ≡ written (segmentLength (length raw))
+        → rawLengthAllowed (length raw) ≡ true → segmentLength (length raw) ≤ length output
         → after ≡ splice output 0 (padded raw) → PadAnswered answer after
     unfolding padCode
     pad-done a t h e = let k = le-leb (segmentLength (length raw)) (length output) h in (a ∙ rw (t, k), e ∙ rw (t, k))
@@ -55,7 +58,8 @@ module _ (n : ℕ) (segment output : List ℕ) where
         unfolding unpadCode
         bits-refused a o = let l = eq-eqb (length segment) (segmentLength n) s in (a ∙ rw (t, l, o), rw (t, l, o))
 
-        pub unpad-output-short : answer ≡ refused 12 → onlyRawBits n segment ≡ true → length output < n → UnpadAnswered answer output
+        pub unpad-output-short : answer ≡ refused 12 → onlyRawBits n segment ≡ true → length output < n
+            → UnpadAnswered answer output
         unfolding unpadCode
         unpad-output-short a o h =
             let l = eq-eqb (length segment) (segmentLength n) s in

@@ -30,13 +30,17 @@ module _ (raw : List ℕ) (q : ℕ) (bytes : Bytes raw) (within : q < segmentLen
   pub at-place : (q % 32 ≡ 31 → ⊥) → byte ≡ getD (padded raw) q 0
   at-place n =
       from-raw
-      ∙ sym (padded-byte raw (q / 32) (q % 32) (omega arith) (omega arith) bytes (startBit q / 8) (startBit q % 8) (omega arith) (omega arith) (omega arith))
+      ∙ sym
+      (padded-byte raw (q / 32) (q % 32) (omega arith) (omega arith) bytes
+      (startBit q / 8) (startBit q % 8) (omega arith) (omega arith) (omega arith))
       ∙ ap (λ (k : ℕ). getD (padded raw) k 0) place
 
   pub at-last-place : q % 32 ≡ 31 → byte % 64 ≡ getD (padded raw) q 0
   at-last-place e =
       ap (λ (x : ℕ). x % 64) from-raw
-      ∙ sym (padded-last-byte raw (q / 32) (q % 32) (omega arith) (omega arith) bytes (startBit q / 8) (startBit q % 8) (omega arith) (omega arith) e)
+      ∙ sym
+      (padded-last-byte raw (q / 32) (q % 32) (omega arith) (omega arith) bytes
+      (startBit q / 8) (startBit q % 8) (omega arith) (omega arith) e)
       ∙ ap (λ (k : ℕ). getD (padded raw) k 0) place
 
 -- where raw byte p starts: a bit of a node, in a byte of the segment
@@ -46,21 +50,29 @@ nodeBit p = 8 * p % 254
 abbrev startByte : ℕ → ℕ
 startByte p = 32 * (8 * p / 254) + nodeBit p / 8
 
-module _ (segment : List ℕ) (p : ℕ) (bytes : Bytes segment) {low high byte : ℕ} (l : low ≡ getD segment (startByte p) 0) (h : high ≡ getD segment (startByte p + 1) 0) where
-  pub within-node : byte ≡ (low + 256 * high) / 2 ^ (nodeBit p % 8) % 256 → nodeBit p < 248 → byte ≡ dataOf ((length segment + 31) / 32) segment / 2 ^ (8 * p) % 256
+module _ (segment : List ℕ) (p : ℕ) (bytes : Bytes segment) {low high byte : ℕ}
+    (l : low ≡ getD segment (startByte p) 0) (h : high ≡ getD segment (startByte p + 1) 0) where
+  pub within-node : byte ≡ (low + 256 * high) / 2 ^ (nodeBit p % 8) % 256 → nodeBit p < 248
+      → byte ≡ dataOf ((length segment + 31) / 32) segment / 2 ^ (8 * p) % 256
   within-node b n =
       b
       ∙ ap₂ (λ (x y : ℕ). (x + 256 * y) / 2 ^ (nodeBit p % 8) % 256) l h
-      ∙ sym (raw-byte ((length segment + 31) / 32) segment bytes (omega arith) p (8 * p / 254) (nodeBit p / 8) (nodeBit p % 8) (omega arith) (omega arith) (omega arith))
+      ∙ sym
+      (raw-byte ((length segment + 31) / 32) segment bytes (omega arith) p
+      (8 * p / 254) (nodeBit p / 8) (nodeBit p % 8) (omega arith) (omega arith) (omega arith))
 
-  pub across-end : byte ≡ (low % 64 + 64 * high) / 2 ^ (nodeBit p % 8) % 256 → 248 ≤ nodeBit p → byte ≡ dataOf ((length segment + 31) / 32) segment / 2 ^ (8 * p) % 256
+  pub across-end : byte ≡ (low % 64 + 64 * high) / 2 ^ (nodeBit p % 8) % 256 → 248 ≤ nodeBit p
+      → byte ≡ dataOf ((length segment + 31) / 32) segment / 2 ^ (8 * p) % 256
   across-end b n =
       b
       ∙ ap₂ (λ (x y : ℕ). (x % 64 + 64 * y) / 2 ^ (nodeBit p % 8) % 256) l h
-      ∙ sym (raw-last-byte ((length segment + 31) / 32) segment bytes (omega arith) p (8 * p / 254) (nodeBit p / 8) (nodeBit p % 8) (omega arith) (omega arith) (omega arith))
+      ∙ sym
+      (raw-last-byte ((length segment + 31) / 32) segment bytes (omega arith) p
+      (8 * p / 254) (nodeBit p / 8) (nodeBit p % 8) (omega arith) (omega arith) (omega arith))
 
 -- raw byte p of n, and whether there are other bits
-module _ (n p : ℕ) (segment : List ℕ) (sized : length segment ≡ segmentLength n) {byte : ℕ} (b : byte ≡ dataOf ((length segment + 31) / 32) segment / 2 ^ (8 * p) % 256) where
+module _ (n p : ℕ) (segment : List ℕ) (sized : length segment ≡ segmentLength n) {byte : ℕ}
+    (b : byte ≡ dataOf ((length segment + 31) / 32) segment / 2 ^ (8 * p) % 256) where
   from-data : byte ≡ dataOf (segmentNodes n) segment / 2 ^ (8 * p) % 256
   from-data = b ∙ ap (λ (l : ℕ). dataOf ((l + 31) / 32) segment / 2 ^ (8 * p) % 256) sized
 

@@ -1,7 +1,8 @@
 -- Bits of little-endian numbers: eight of them from any bit on lie in two bytes.
 use mathlib.Core.Path.{_≡_, refl, sym, ap, ap₂, _∙_}
 use Prim.Native.Nat.{ℕ, zero, suc, _+_, _-_, _*_, _/_, _%_, _^_, _≤_, _<_}
-use native.Mathlib.Nat.{pow-suc, add-zero, mul-assoc, div-one, zero-div, mod-add-div, add-mul-div-left, add-mul-mod-self-left}
+use native.Mathlib.Nat.{pow-suc, add-zero, mul-assoc, div-one, zero-div, mod-add-div, add-mul-div-left}
+use native.Mathlib.Nat.{add-mul-mod-self-left}
 use native.Mathlib.Omega.{arith}
 use mathlib.Core.List.{List, [], _∷_}
 use lib.ListN.{take, drop, getD}
@@ -29,7 +30,8 @@ bits-below x k w s h =
     ∙ add-mul-mod-self-left (x / 2 ^ s) 256 (2 ^ (w - (s + 8)) * k)
 
 pub bits-kept : (v w s : ℕ) → s + 8 ≤ w → v % 2 ^ w / 2 ^ s % 256 ≡ v / 2 ^ s % 256
-bits-kept v w s h = sym (bits-below (v % 2 ^ w) (v / 2 ^ w) w s h) ∙ ap (λ (y : ℕ). y / 2 ^ s % 256) (mod-add-div v (2 ^ w))
+bits-kept v w s h =
+    sym (bits-below (v % 2 ^ w) (v / 2 ^ w) w s h) ∙ ap (λ (y : ℕ). y / 2 ^ s % 256) (mod-add-div v (2 ^ w))
 
 -- the bytes of a number
 pub take-bytesOf : (k n v : ℕ) → k ≤ n → take k (bytesOf n v) ≡ bytesOf k v
@@ -69,7 +71,8 @@ two-bytes [] = refl
 two-bytes (x ∷ []) = omega arith
 two-bytes (x ∷ y ∷ xs) = omega arith
 
-pub eight-bits : (xs : List ℕ) (a s : ℕ) → Bytes xs → s ≤ 8 → numberOf xs / 2 ^ (8 * a + s) % 256 ≡ (getD xs a 0 + 256 * getD xs (a + 1) 0) / 2 ^ s % 256
+pub eight-bits : (xs : List ℕ) (a s : ℕ) → Bytes xs → s ≤ 8
+    → numberOf xs / 2 ^ (8 * a + s) % 256 ≡ (getD xs a 0 + 256 * getD xs (a + 1) 0) / 2 ^ s % 256
 eight-bits xs a s h k =
     ap (λ (y : ℕ). y % 256) (sym (shr-shr (numberOf xs) (8 * a) s))
     ∙ ap (λ (y : ℕ). y / 2 ^ s % 256) (number-from xs a h ∙ two-bytes (drop a xs))

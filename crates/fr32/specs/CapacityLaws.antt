@@ -2,7 +2,8 @@
 use mathlib.Core.Path.{_≡_, refl, sym, ap, ap₂, _∙_}
 use mathlib.Core.Bool.{Bool, true, false}
 use Prim.Native.Nat.{ℕ, zero, suc, _+_, _*_, _/_, _%_, _^_, _≤_, _<_}
-use native.Mathlib.Nat.{add-zero, mul-suc, mod-lt, mod-eq-of-lt, div-eq-of-lt, lt-of-lt-of-le, le-trans, le-of-eq, mul-le-mul-left, div-lt-iff-lt-mul, le-div-iff-mul-le, mul-comm, one-mul}
+use native.Mathlib.Nat.{add-zero, mul-suc, mod-lt, mod-eq-of-lt, div-eq-of-lt, lt-of-lt-of-le, le-trans, le-of-eq}
+use native.Mathlib.Nat.{mul-le-mul-left, div-lt-iff-lt-mul, le-div-iff-mul-le, mul-comm, one-mul}
 use native.Mathlib.Omega.{arith}
 use mathlib.Core.List.{List, []}
 use lib.ListN.{length, take, drop, length-drop, drop-of-length-le}
@@ -39,7 +40,8 @@ unfolding dataOf numberOf
 data-none zero = refl
 data-none (suc m) = ap (λ (y : ℕ). 0 + 2 ^ 254 * y) (data-none m)
 
-pub data-cut : (m : ℕ) (segment : List ℕ) → Bytes segment → length segment < 32 → dataOf (suc m) segment ≡ numberOf segment
+pub data-cut : (m : ℕ) (segment : List ℕ) → Bytes segment → length segment < 32
+    → dataOf (suc m) segment ≡ numberOf segment
 unfolding dataOf
 data-cut m segment h l =
     let t : take 32 segment ≡ segment = take-all 32 segment (omega arith) in
@@ -52,7 +54,8 @@ data-cut m segment h l =
 two-parts : (x d p q : ℕ) → x < p → d < q → x + p * d < p * q
 two-parts x d p q h k = let u = mul-le-mul-left p k in let v = mul-suc p d in omega arith
 
-data-bound : (m k t : ℕ) (segment : List ℕ) → Bytes segment → length segment ≡ 32 * k + t → t < 32 → length segment ≤ 32 * m
+data-bound : (m k t : ℕ) (segment : List ℕ) → Bytes segment → length segment ≡ 32 * k + t → t < 32
+    → length segment ≤ 32 * m
     → dataOf m segment < 2 ^ (254 * k + 8 * t)
 unfolding dataOf
 data-bound zero k t segment h e lt l = pow-pos (254 * k + 8 * t)
@@ -62,8 +65,11 @@ data-bound (suc m) zero t segment h e lt l =
 data-bound (suc m) (suc k) t segment h e lt l =
     let b : 254 * suc k + 8 * t ≡ 254 + (254 * k + 8 * t) = omega arith in
     let rest : length (drop 32 segment) ≡ 32 * k + t = length-drop 32 segment ∙ omega arith in
-    let d : dataOf m (drop 32 segment) < 2 ^ (254 * k + 8 * t) = data-bound m k t (drop 32 segment) (bytes-drop 32 segment h) rest lt (omega arith) in
-    lt-of-lt-of-le (two-parts (numberOf (take 32 segment) % 2 ^ 254) (dataOf m (drop 32 segment)) (2 ^ 254) (2 ^ (254 * k + 8 * t)) (mod-lt (numberOf (take 32 segment)) (pow-pos 254)) d)
+    let d : dataOf m (drop 32 segment) < 2 ^ (254 * k + 8 * t) =
+    data-bound m k t (drop 32 segment) (bytes-drop 32 segment h) rest lt (omega arith) in
+    lt-of-lt-of-le
+    (two-parts (numberOf (take 32 segment) % 2 ^ 254) (dataOf m (drop 32 segment)) (2 ^ 254) (2 ^ (254 * k + 8 * t))
+    (mod-lt (numberOf (take 32 segment)) (pow-pos 254)) d)
     (le-of-eq (sym (ap (λ (i : ℕ). 2 ^ i) b ∙ pow-add 2 254 (254 * k + 8 * t))))
 
 -- a number of at most eight bits more than p has: its upper eight bits are zero if and only if it is below p
@@ -85,6 +91,7 @@ pub rest-zero : (n : ℕ) (segment : List ℕ) → Bytes segment → length segm
     → ltb (dataOf (segmentNodes n) segment) (2 ^ (8 * n)) ≡ eqb (dataOf (segmentNodes n) segment / 2 ^ (8 * n) % 256) 0
 rest-zero n segment h e =
     let l = segmentLength n in
-    let b : dataOf (segmentNodes n) segment < 2 ^ dataBits l = data-bound (segmentNodes n) (l / 32) (l % 32) segment h (omega arith) (omega arith) (omega arith) in
+    let b : dataOf (segmentNodes n) segment < 2 ^ dataBits l =
+    data-bound (segmentNodes n) (l / 32) (l % 32) segment h (omega arith) (omega arith) (omega arith) in
     upper-zero (dataOf (segmentNodes n) segment) (2 ^ (8 * n)) (pow-pos (8 * n))
     (lt-of-lt-of-le b (le-trans (pow-mono (room-left n)) (le-of-eq (pow-add 2 (8 * n) 8))))

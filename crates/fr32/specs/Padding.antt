@@ -1,5 +1,5 @@
--- Fr32 padding (document 02, request (iv)): raw bytes are read as one little-endian number, and each node of 32 bytes takes the next
--- 254 bits of it; its two high bits are zero.
+-- Fr32 padding (document 02, request (iv)): raw bytes are read as one little-endian number, and each node of 32 bytes
+-- takes the next 254 bits of it; its two high bits are zero.
 use mathlib.Core.Bool.{Bool, _&&_}
 use Prim.Native.Nat.{ℕ, zero, suc, _+_, _*_, _/_, _%_, _^_}
 use mathlib.Core.List.{List, [], _++_}

@@ -29,7 +29,8 @@ length-padded raw =
     length-take-le (segmentLength n) (nodesOf (segmentNodes n) (numberOf raw)) (rw length-nodesOf (omega arith))
 
 -- byte j of node i
-nodes-byte : (m v i j : ℕ) → i < m → j < 32 → getD (nodesOf m v) (32 * i + j) 0 ≡ v / 2 ^ (254 * i) % 2 ^ 254 / 2 ^ (8 * j) % 256
+nodes-byte : (m v i j : ℕ) → i < m → j < 32
+    → getD (nodesOf m v) (32 * i + j) 0 ≡ v / 2 ^ (254 * i) % 2 ^ 254 / 2 ^ (8 * j) % 256
 unfolding nodesOf
 nodes-byte zero v i j h k = absurd (omega arith)
 nodes-byte (suc m) v zero j h k =
@@ -88,8 +89,11 @@ module _ (raw : List ℕ) (i j : ℕ) (within : 32 * i + j < segmentLength (leng
     raw-bits : numberOf raw / 2 ^ (254 * i + 8 * j) % 256 ≡ (getD raw a 0 + 256 * getD raw (a + 1) 0) / 2 ^ s % 256
     raw-bits = ap (λ (b : ℕ). numberOf raw / 2 ^ b % 256) at ∙ eight-bits raw a s bytes (omega arith)
 
-    pub padded-byte : j < 31 → getD (padded raw) (32 * i + j) 0 ≡ (getD raw a 0 + 256 * getD raw (a + 1) 0) / 2 ^ s % 256
+    pub padded-byte : j < 31
+        → getD (padded raw) (32 * i + j) 0 ≡ (getD raw a 0 + 256 * getD raw (a + 1) 0) / 2 ^ s % 256
     padded-byte h = bits h ∙ raw-bits
 
-    pub padded-last-byte : j ≡ 31 → getD (padded raw) (32 * i + j) 0 ≡ (getD raw a 0 + 256 * getD raw (a + 1) 0) / 2 ^ s % 256 % 64
-    padded-last-byte e = last-bits e ∙ six-of-eight (numberOf raw / 2 ^ (254 * i + 8 * j)) ∙ ap (λ (y : ℕ). y % 64) raw-bits
+    pub padded-last-byte : j ≡ 31
+        → getD (padded raw) (32 * i + j) 0 ≡ (getD raw a 0 + 256 * getD raw (a + 1) 0) / 2 ^ s % 256 % 64
+    padded-last-byte e =
+        last-bits e ∙ six-of-eight (numberOf raw / 2 ^ (254 * i + 8 * j)) ∙ ap (λ (y : ℕ). y % 64) raw-bits

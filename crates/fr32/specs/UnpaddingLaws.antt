@@ -1,7 +1,8 @@
 -- Laws of the data in a segment: each raw byte from two bytes of it.
 use mathlib.Core.Path.{_≡_, refl, sym, ap, ap₂, _∙_}
 use Prim.Native.Nat.{ℕ, zero, suc, _+_, _-_, _*_, _/_, _%_, _^_, _≤_, _<_}
-use native.Mathlib.Nat.{zero-add, add-assoc, sub-zero, zero-sub, mul-assoc, div-one, zero-div, mod-lt, add-mul-div-left, div-eq-of-lt}
+use native.Mathlib.Nat.{zero-add, add-assoc, sub-zero, zero-sub, mul-assoc, div-one, zero-div, mod-lt, add-mul-div-left}
+use native.Mathlib.Nat.{div-eq-of-lt}
 use native.Mathlib.Omega.{arith}
 use mathlib.Core.List.{List, [], _∷_}
 use lib.ListN.{length, take, drop, getD, length-drop}
@@ -25,7 +26,8 @@ above x p d h = add-mul-div-left (x % p) d h ∙ ap (λ (y : ℕ). y + d) (div-e
 data-from : (i m : ℕ) (segment : List ℕ) → dataOf m segment / 2 ^ (254 * i) ≡ dataOf (m - i) (drop (32 * i) segment)
 unfolding dataOf
 data-from zero m segment = div-one (dataOf m segment) ∙ ap (λ (k : ℕ). dataOf k segment) (sym (sub-zero m))
-data-from (suc i) zero segment = zero-div (2 ^ (254 * suc i)) ∙ ap (λ (k : ℕ). dataOf k (drop (32 * suc i) segment)) (sym (zero-sub (suc i)))
+data-from (suc i) zero segment =
+    zero-div (2 ^ (254 * suc i)) ∙ ap (λ (k : ℕ). dataOf k (drop (32 * suc i) segment)) (sym (zero-sub (suc i)))
 data-from (suc i) (suc m) segment =
     let v = dataOf (suc m) segment in
     let e : 254 * suc i ≡ 254 + 254 * i = omega arith in
@@ -33,7 +35,8 @@ data-from (suc i) (suc m) segment =
     let d : 32 + 32 * i ≡ 32 * suc i = omega arith in
     ap (λ (b : ℕ). v / 2 ^ b) e
     ∙ sym (shr-shr v 254 (254 * i))
-    ∙ ap (λ (y : ℕ). y / 2 ^ (254 * i)) (above (numberOf (take 32 segment)) (2 ^ 254) (dataOf m (drop 32 segment)) (pow-pos 254))
+    ∙ ap (λ (y : ℕ). y / 2 ^ (254 * i))
+    (above (numberOf (take 32 segment)) (2 ^ 254) (dataOf m (drop 32 segment)) (pow-pos 254))
     ∙ data-from i m (drop 32 segment)
     ∙ ap₂ (λ (n : ℕ) (l : List ℕ). dataOf n l) k (drop-drop (32 * i) 32 segment ∙ ap (λ (n : ℕ). drop n segment) d)
 
@@ -48,10 +51,12 @@ node-bits (suc m) segment a s h l w k =
     bits-below (x % 2 ^ 254) (dataOf m (drop 32 segment)) 254 (8 * a + s) w
     ∙ bits-kept x 254 (8 * a + s) w
     ∙ eight-bits (take 32 segment) a s (bytes-take 32 segment h) (omega arith)
-    ∙ ap₂ (λ (y z : ℕ). (y + 256 * z) / 2 ^ s % 256) (getD-take 32 segment a 0 (omega arith)) (getD-take 32 segment (a + 1) 0 (omega arith))
+    ∙ ap₂ (λ (y z : ℕ). (y + 256 * z) / 2 ^ s % 256) (getD-take 32 segment a 0 (omega arith))
+    (getD-take 32 segment (a + 1) 0 (omega arith))
 
 -- the first byte
-first-byte : (m : ℕ) (segment : List ℕ) → Bytes segment → length segment ≤ 32 * m → dataOf m segment % 256 ≡ getD segment 0 0
+first-byte : (m : ℕ) (segment : List ℕ) → Bytes segment → length segment ≤ 32 * m
+    → dataOf m segment % 256 ≡ getD segment 0 0
 first-byte m segment h l =
     ap (λ (y : ℕ). y % 256) (sym (div-one (dataOf m segment)))
     ∙ node-bits m segment 0 0 h l (omega arith) (omega arith)
@@ -68,7 +73,8 @@ low-six [] = refl
 low-six (x ∷ xs) = omega arith
 
 -- the node's last six bits, and the data after it
-last-byte : (m : ℕ) (segment : List ℕ) → Bytes segment → dataOf (suc m) segment / 2 ^ 248 ≡ getD segment 31 0 % 64 + 64 * dataOf m (drop 32 segment)
+last-byte : (m : ℕ) (segment : List ℕ) → Bytes segment
+    → dataOf (suc m) segment / 2 ^ 248 ≡ getD segment 31 0 % 64 + 64 * dataOf m (drop 32 segment)
 unfolding dataOf
 last-byte m segment h =
     let node = take 32 segment in
@@ -95,13 +101,15 @@ next-bits (suc m) segment s h l k =
     ap (λ (z : ℕ). z % 256) (sym (shr-shr (dataOf (suc m) segment) 248 s))
     ∙ ap (λ (z : ℕ). z / 2 ^ s % 256) (last-byte m segment h ∙ split y d)
     ∙ bits-below (y + 64 * (d % 256)) (d / 256) 14 s (omega arith)
-    ∙ ap (λ (z : ℕ). (y + 64 * z) / 2 ^ s % 256) (first-byte m (drop 32 segment) (bytes-drop 32 segment h) rest ∙ getD-drop 32 segment 0 0)
+    ∙ ap (λ (z : ℕ). (y + 64 * z) / 2 ^ s % 256)
+    (first-byte m (drop 32 segment) (bytes-drop 32 segment h) rest ∙ getD-drop 32 segment 0 0)
   where
     split : (y d : ℕ) → y + 64 * d ≡ y + 64 * (d % 256) + 2 ^ 14 * (d / 256)
     split y d = omega arith
 
 -- Raw byte p: bit 8 p of the data is bit s of byte a of node i.
-module _ (m : ℕ) (segment : List ℕ) (bytes : Bytes segment) (sized : length segment ≤ 32 * m) (p i a s : ℕ) (at : 8 * p ≡ 254 * i + (8 * a + s)) where
+module _ (m : ℕ) (segment : List ℕ) (bytes : Bytes segment) (sized : length segment ≤ 32 * m) (p i a s : ℕ)
+    (at : 8 * p ≡ 254 * i + (8 * a + s)) where
   left : length (drop (32 * i) segment) ≤ 32 * (m - i)
   left = rw length-drop (omega arith)
 
@@ -114,13 +122,17 @@ module _ (m : ℕ) (segment : List ℕ) (bytes : Bytes segment) (sized : length 
   next : getD (drop (32 * i) segment) (a + 1) 0 ≡ getD segment (32 * i + a + 1) 0
   next = getD-drop (32 * i) segment (a + 1) 0 ∙ ap (λ (q : ℕ). getD segment q 0) (sym (add-assoc (32 * i) a 1))
 
-  pub raw-byte : 8 * a + s ≤ 246 → s < 8 → dataOf m segment / 2 ^ (8 * p) % 256 ≡ (getD segment (32 * i + a) 0 + 256 * getD segment (32 * i + a + 1) 0) / 2 ^ s % 256
+  pub raw-byte : 8 * a + s ≤ 246 → s < 8
+      → dataOf m segment / 2 ^ (8 * p) % 256
+      ≡ (getD segment (32 * i + a) 0 + 256 * getD segment (32 * i + a + 1) 0) / 2 ^ s % 256
   raw-byte w k =
       from-node
       ∙ node-bits (m - i) (drop (32 * i) segment) a s (bytes-drop (32 * i) segment bytes) left (omega arith) k
       ∙ ap₂ (λ (y z : ℕ). (y + 256 * z) / 2 ^ s % 256) (getD-drop (32 * i) segment a 0) next
 
-  pub raw-last-byte : a ≡ 31 → s ≤ 6 → dataOf m segment / 2 ^ (8 * p) % 256 ≡ (getD segment (32 * i + a) 0 % 64 + 64 * getD segment (32 * i + a + 1) 0) / 2 ^ s % 256
+  pub raw-last-byte : a ≡ 31 → s ≤ 6
+      → dataOf m segment / 2 ^ (8 * p) % 256
+      ≡ (getD segment (32 * i + a) 0 % 64 + 64 * getD segment (32 * i + a + 1) 0) / 2 ^ s % 256
   raw-last-byte e k =
       let rest = drop (32 * i) segment in
       from-node

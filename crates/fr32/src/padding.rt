@@ -41,10 +41,11 @@ fn write_segment(raw: &[u8], output: &mut [u8])
     }
 }
 
-// Writes the segment of raw bytes into the first bytes of `output`, and answers its length; the rest of `output` stays. 2 for a raw
-// length that is not allowed, 12 for an output shorter than the segment: then nothing is written.
+// Writes the segment of raw bytes into the first bytes of `output`, and answers its length; the rest of `output` stays.
+// 2 for a raw length that is not allowed, 12 for an output shorter than the segment: then nothing is written.
 pub fn pad(raw: &[u8], output: &mut [u8]) -> Written
-    ensures { λ r. ⌜ (r ≡ padAnswer (now (raw .entry)) (now (output .entry))) × (now (output .exit) ≡ padOutput (now (raw .entry)) (now (output .entry))) ⌝ }
+    ensures { λ r. ⌜ (r ≡ padAnswer (now (raw .entry)) (now (output .entry)))
+        × (now (output .exit) ≡ padOutput (now (raw .entry)) (now (output .entry))) ⌝ }
 {
     if !raw_length_allowed(raw.len() as u64) {
         return refused(2);

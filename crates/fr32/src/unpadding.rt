@@ -16,7 +16,8 @@ ghost use Rattle.fr32.specs.Answers.{unpadAnswer, unpadOutput};
 // Eight data bits of the segment, from bit 8 p on: raw byte p.
 fn raw_byte(segment: &[u8], p: usize) -> u8
     requires { ⌜ p ≤ 8323072 ⌝ }
-    ensures { λ r. ⌜ r ≡ dataOf ((length (now (segment .entry)) + 31) / 32) (now (segment .entry)) / 2 ^ (8 * p) % 256 ⌝ }
+    ensures { λ r. ⌜ r
+        ≡ dataOf ((length (now (segment .entry)) + 31) / 32) (now (segment .entry)) / 2 ^ (8 * p) % 256 ⌝ }
 {
     let bit = 8 * p % 254;
     let at = 32 * (8 * p / 254) + bit / 8;
@@ -29,8 +30,8 @@ fn raw_byte(segment: &[u8], p: usize) -> u8
     across_nodes(low, high, shift)
 }
 
-// Whether the segment has no other bits than those of n raw bytes: no stray bits, and zeros after the last raw bit, which are eight
-// at most.
+// Whether the segment has no other bits than those of n raw bytes: no stray bits, and zeros after the last raw bit,
+// which are eight at most.
 fn only_raw_bits(n: usize, segment: &[u8]) -> bool
     requires { ⌜ (n ≤ 8323072) × (length (now segment) ≡ segmentLength n) ⌝ }
     ensures { λ r. ⌜ r ≡ onlyRawBits n (now (segment .entry)) ⌝ }
@@ -50,11 +51,13 @@ fn write_raw(n: usize, segment: &[u8], output: &mut [u8])
     }
 }
 
-// Writes the raw bytes of a segment, as many as the caller names, into the first bytes of `output`, and answers their number; the
-// rest of `output` stays. 2 for a raw length that is not allowed, 24 for a segment of another length than that gives, 11 for stray bits
-// or bits after the last raw bit, 12 for an output shorter than the raw bytes: then nothing is written.
+// Writes the raw bytes of a segment, as many as the caller names, into the first bytes of `output`, and answers their
+// number; the rest of `output` stays. 2 for a raw length that is not allowed, 24 for a segment of another length than
+// that gives, 11 for stray bits or bits after the last raw bit, 12 for an output shorter than the raw bytes: then
+// nothing is written.
 pub fn unpad(raw_length: u64, segment: &[u8], output: &mut [u8]) -> Written
-    ensures { λ r. ⌜ (r ≡ unpadAnswer «raw_length» (now (segment .entry)) (now (output .entry))) × (now (output .exit) ≡ unpadOutput «raw_length» (now (segment .entry)) (now (output .entry))) ⌝ }
+    ensures { λ r. ⌜ (r ≡ unpadAnswer «raw_length» (now (segment .entry)) (now (output .entry)))
+        × (now (output .exit) ≡ unpadOutput «raw_length» (now (segment .entry)) (now (output .entry))) ⌝ }
 {
     if !raw_length_allowed(raw_length) {
         return refused(2);

@@ -10,15 +10,18 @@ use Rattle.rules.specs.Choice.{choose}
 use Rattle.sizes.specs.Sizes.{doubledTo}
 
 module _ (n i taken size : ℕ) where
-  open-turn : i < n → doubledTo (n - i) taken size ≡ choose (leb size taken) taken (doubledTo (n - (i + 1)) (2 * taken) size)
+  open-turn : i < n
+      → doubledTo (n - i) taken size ≡ choose (leb size taken) taken (doubledTo (n - (i + 1)) (2 * taken) size)
   unfolding doubledTo
   open-turn h = let e : n - i ≡ suc (n - (i + 1)) = omega arith in ap (λ (m : ℕ). doubledTo m taken size) e
 
   pub stop-doubling : i < n → size ≤ taken → doubledTo (n - i) taken size ≡ taken
-  stop-doubling h k = open-turn h ∙ ap (λ (b : Bool). choose b taken (doubledTo (n - (i + 1)) (2 * taken) size)) (le-leb size taken k)
+  stop-doubling h k =
+      open-turn h ∙ ap (λ (b : Bool). choose b taken (doubledTo (n - (i + 1)) (2 * taken) size)) (le-leb size taken k)
 
   pub double-once : i < n → taken < size → doubledTo (n - i) taken size ≡ doubledTo (n - (i + 1)) (2 * taken) size
-  double-once h k = open-turn h ∙ ap (λ (b : Bool). choose b taken (doubledTo (n - (i + 1)) (2 * taken) size)) (lt-leb size taken k)
+  double-once h k =
+      open-turn h ∙ ap (λ (b : Bool). choose b taken (doubledTo (n - (i + 1)) (2 * taken) size)) (lt-leb size taken k)
 
   pub no-more : n ≤ i → doubledTo (n - i) taken size ≡ taken
   unfolding doubledTo

@@ -1,4 +1,5 @@
--- Testing an offset against what is left before the index start is testing where the area ends, without a sum that could wrap.
+-- Testing an offset against what is left before the index start is testing where the area ends, without a sum that
+-- could wrap.
 use mathlib.Core.Path.{_≡_, refl, sym, _∙_}
 use mathlib.Core.Bool.{Bool, true, false}
 use Prim.Native.Nat.{ℕ, _+_, _-_, _≤_}

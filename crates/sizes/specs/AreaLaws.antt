@@ -1,4 +1,5 @@
--- The area of a segment: the smallest power of two at or above both its size and 128. Only this file opens `area`.
+-- The area of a segment: the smallest power of two at or above both its size and 128. Other laws cite these, and do not
+-- open `area`.
 use mathlib.Core.Path.{_≡_, refl, ap, _∙_}
 use mathlib.Core.Bool.{Bool, true, false}
 use Prim.Native.Nat.{ℕ, zero, suc, _+_, _*_, _^_, _≤_, _<_}
@@ -35,7 +36,14 @@ pub record Doubled (n k size : ℕ) : Type 0 where
 doubled : (n k size : ℕ) → Doubled n k size
 unfolding doubledTo
 doubled zero k size =
-    record { exponent = k; is-power = refl; low = omega arith; high = omega arith; reaches = λ h. rw (add-zero k) at h; least = λ m a b. a }
+    record {
+      exponent = k;
+      is-power = refl;
+      low = omega arith;
+      high = omega arith;
+      reaches = λ h. rw (add-zero k) at h;
+      least = λ m a b. a;
+    }
 doubled (suc n) k size = go (leb size (2 ^ k)) refl (doubled n (suc k) size)
   where
     go : (t : Bool) → leb size (2 ^ k) ≡ t → Doubled n (suc k) size → Doubled (suc n) k size
@@ -53,7 +61,10 @@ doubled (suc n) k size = go (leb size (2 ^ k)) refl (doubled n (suc k) size)
         let last : k + suc n ≡ suc k + n = omega arith in
         record {
           exponent = r .exponent;
-          is-power = ap (λ (b : Bool). choose b (2 ^ k) (doubledTo n (2 * 2 ^ k) size)) e ∙ ap (λ (a : ℕ). doubledTo n a size) twice ∙ r .is-power;
+          is-power =
+              ap (λ (b : Bool). choose b (2 ^ k) (doubledTo n (2 * 2 ^ k) size)) e
+              ∙ ap (λ (a : ℕ). doubledTo n a size) twice
+              ∙ r .is-power;
           low = omega (arith, r .low);
           high = omega (arith, r .high);
           reaches = λ h. r .reaches (rw last at h);
@@ -78,7 +89,8 @@ pub area-is-doubled : (size : ℕ) → area size ≡ 2 ^ area-doubled size .expo
 unfolding area
 area-is-doubled size = area-doubled size .is-power
 
--- what the area of a size is: for every size up to half of the largest deal the smallest power of two at or above both the size and 128
+-- what the area of a size is: for every size up to half of the largest deal the smallest power of two at or above both
+-- the size and 128
 pub record IsArea (size a : ℕ) : Type 0 where
   pub power : (j : ℕ) × (a ≡ 2 ^ j)
   pub holds-size : size ≤ a

@@ -18,8 +18,8 @@ unfoldable pub doubledTo : ℕ → ℕ → ℕ → ℕ
 doubledTo zero a size = a
 doubledTo (suc n) a size = choose (leb size a) a (doubledTo n (2 * a) size)
 
--- the bytes that a segment of a size takes up in the deal: the smallest power of two at or above both the size and 128 (document 02,
--- request (iii); AreaLaws.area-least). 28 doublings reach 2 ^ 35, half of the largest deal
+-- the bytes that a segment of a size takes up in the deal: the smallest power of two at or above both the size and 128
+-- (document 02, request (iii); AreaLaws.area-least). 28 doublings reach 2 ^ 35, half of the largest deal
 unfoldable pub area : ℕ → ℕ
 area size = doubledTo 28 128 size
 

@@ -11,7 +11,9 @@ use Rattle.rules.specs.RefusalLaws.{and-left, and-right}
 use Rattle.pow2.specs.Power.{isPower, height}
 use Rattle.pow2.specs.PowerLaws.{power-is, height-pow}
 use Rattle.sizes.specs.AreaLaws.{exponent-le, area-doubled, area-is-doubled}
-use Rattle.sizes.specs.Sizes.{dealSizeAllowed, lentSizeAllowed, area, segmentSizeAllowed, entryCount, indexStart, offsetAllowed, placeAllowed, slotPlace, dealLevel, segmentLevel, segmentPathLevels, entryPathLevels, segmentPosition, entryPosition}
+use Rattle.sizes.specs.Sizes.{dealSizeAllowed, lentSizeAllowed, area, segmentSizeAllowed, entryCount, indexStart}
+use Rattle.sizes.specs.Sizes.{offsetAllowed, placeAllowed, slotPlace, dealLevel, segmentLevel, segmentPathLevels}
+use Rattle.sizes.specs.Sizes.{entryPathLevels, segmentPosition, entryPosition}
 
 -- a power of two of at least one node
 node-power : (n h : ℕ) → 32 ≤ n → n ≡ 2 ^ h → (n ≡ 32 * 2 ^ (h - 5)) × (5 ≤ h)
@@ -32,7 +34,8 @@ pub record DealSize (d : ℕ) : Type 0 where
   pub size-low : 512 ≤ d
   pub size-high : d ≤ 2 ^ 36
 
-sized : (d top : ℕ) → 512 ≤ d → d ≤ 2 ^ top → top ≤ 36 → isPower d ≡ true → (d ≡ 32 * 2 ^ dealLevel d) × (4 ≤ dealLevel d) × (dealLevel d ≤ top - 5)
+sized : (d top : ℕ) → 512 ≤ d → d ≤ 2 ^ top → top ≤ 36 → isPower d ≡ true
+    → (d ≡ 32 * 2 ^ dealLevel d) × (4 ≤ dealLevel d) × (dealLevel d ≤ top - 5)
 unfolding dealLevel
 sized d top l u t p =
     let w : 2 ^ top ≤ 2 ^ 36 = pow-mono t in
@@ -66,7 +69,8 @@ lent-size d e =
     let u : d ≤ 2 ^ 24 = leb-true d (2 ^ 24) (and-left (leb d (2 ^ 24)) (isPower d) q) in
     let p = and-right (leb d (2 ^ 24)) (isPower d) q in
     let s = sized d 24 l u (omega arith) p in
-    let a : (leb 512 d && (leb d (2 ^ 36) && isPower d)) ≡ true = rw (le-leb 512 d l, le-leb d (2 ^ 36) (omega arith), p) in
+    let a : (leb 512 d && (leb d (2 ^ 36) && isPower d)) ≡ true =
+    rw (le-leb 512 d l, le-leb d (2 ^ 36) (omega arith), p) in
     record { allowed = a; deal = deal-size d a; lent-high = u; lent-level = omega (arith, s .2) }
 
 half-power : (d h : ℕ) → 4 ≤ h - 5 → d ≡ 32 * 2 ^ (h - 5) → d / 2 ≡ 2 ^ (h - 1)
@@ -130,8 +134,15 @@ index-area d t =
     let l : 512 ≤ d = t .size-low in
     let w = power-32 (dealLevel d) in
     let v : dealLevel d ≡ 4 + (dealLevel d - 4) = let z : 4 ≤ dealLevel d = t .level-low in omega arith in
-    let x : d ≡ 512 * 2 ^ (dealLevel d - 4) = t .is-power ∙ ap (λ (m : ℕ). 32 * 2 ^ m) v ∙ ap (λ (m : ℕ). 32 * m) (pow-add 2 4 (dealLevel d - 4)) ∙ omega arith in
-    record { count-low = omega arith; count-high = omega arith; start-count = omega arith; start-aligned = omega arith; start-half = omega arith }
+    let x : d ≡ 512 * 2 ^ (dealLevel d - 4) =
+    t .is-power ∙ ap (λ (m : ℕ). 32 * 2 ^ m) v ∙ ap (λ (m : ℕ). 32 * m) (pow-add 2 4 (dealLevel d - 4)) ∙ omega arith in
+    record {
+      count-low = omega arith;
+      count-high = omega arith;
+      start-count = omega arith;
+      start-aligned = omega arith;
+      start-half = omega arith;
+    }
 
 -- an allowed offset of a segment
 pub record SegmentPlace (d offset size : ℕ) : Type 0 where
@@ -140,22 +151,33 @@ pub record SegmentPlace (d offset size : ℕ) : Type 0 where
   pub position-in : segmentPosition offset size < 2 ^ segmentPathLevels d size
   pub at-position : offset ≡ segmentPosition offset size * area size
 
-pub segment-place : (d offset size : ℕ) → DealSize d → SegmentSize d size → offsetAllowed d offset size ≡ true → SegmentPlace d offset size
+pub segment-place : (d offset size : ℕ) → DealSize d → SegmentSize d size → offsetAllowed d offset size ≡ true
+    → SegmentPlace d offset size
 unfolding offsetAllowed segmentPosition
 segment-place d offset size t a e =
-    let z : offset % area size ≡ 0 = eqb-true (offset % area size) 0 (and-left (eqb (offset % area size) 0) (leb (offset + area size) (indexStart d)) e) in
-    let s : offset + area size ≤ indexStart d = leb-true (offset + area size) (indexStart d) (and-right (eqb (offset % area size) 0) (leb (offset + area size) (indexStart d)) e) in
+    let z : offset % area size ≡ 0 =
+    eqb-true (offset % area size) 0
+    (and-left (eqb (offset % area size) 0) (leb (offset + area size) (indexStart d)) e) in
+    let s : offset + area size ≤ indexStart d =
+    leb-true (offset + area size) (indexStart d)
+    (and-right (eqb (offset % area size) 0) (leb (offset + area size) (indexStart d)) e) in
     let sd = index-start-le d in
     let w : area size ≡ 2 ^ (5 + segmentLevel size) = a .area-is ∙ power-32 (segmentLevel size) in
     let b : segmentLevel size < dealLevel d = a .below-deal in
     let v : 5 + dealLevel d ≡ segmentPathLevels d size + (5 + segmentLevel size) = omega arith in
-    let x : d ≡ 2 ^ (segmentPathLevels d size + (5 + segmentLevel size)) = t .is-power ∙ power-32 (dealLevel d) ∙ ap (λ (m : ℕ). 2 ^ m) v in
+    let x : d ≡ 2 ^ (segmentPathLevels d size + (5 + segmentLevel size)) =
+    t .is-power ∙ power-32 (dealLevel d) ∙ ap (λ (m : ℕ). 2 ^ m) v in
     let p = pow-pos (5 + segmentLevel size) in
     record {
       aligned = z;
       ends = s;
-      position-in = subst (λ (m : ℕ). offset / m < 2 ^ segmentPathLevels d size) (sym w) (shr-lt (segmentPathLevels d size) (5 + segmentLevel size) (omega arith));
-      at-position = sym (div-add-mod' offset (area size)) ∙ ap (λ (m : ℕ). offset / area size * area size + m) z ∙ add-zero (offset / area size * area size);
+      position-in =
+          subst (λ (m : ℕ). offset / m < 2 ^ segmentPathLevels d size) (sym w)
+          (shr-lt (segmentPathLevels d size) (5 + segmentLevel size) (omega arith));
+      at-position =
+          sym (div-add-mod' offset (area size))
+          ∙ ap (λ (m : ℕ). offset / area size * area size + m) z
+          ∙ add-zero (offset / area size * area size);
     }
 
 -- an allowed entry place
@@ -168,15 +190,22 @@ pub record EntryPlace (d place : ℕ) : Type 0 where
 pub entry-place : (d place : ℕ) → DealSize d → placeAllowed d place ≡ true → EntryPlace d place
 unfolding placeAllowed
 entry-place d place t e =
-    let a : place % 64 ≡ 0 = eqb-true (place % 64) 0 (and-left (eqb (place % 64) 0) (leb (indexStart d) place && ltb place d) e) in
+    let a : place % 64 ≡ 0 =
+    eqb-true (place % 64) 0 (and-left (eqb (place % 64) 0) (leb (indexStart d) place && ltb place d) e) in
     let q = and-right (eqb (place % 64) 0) (leb (indexStart d) place && ltb place d) e in
-    let s : indexStart d ≤ place = leb-true (indexStart d) place (and-left (leb (indexStart d) place) (ltb place d) q) in
+    let s : indexStart d ≤ place =
+    leb-true (indexStart d) place (and-left (leb (indexStart d) place) (ltb place d) q) in
     let b : place < d = ltb-true place d (and-right (leb (indexStart d) place) (ltb place d) q) in
     let l : 4 ≤ dealLevel d = t .level-low in
     let v : 5 + dealLevel d ≡ entryPathLevels d + 6 = omega arith in
     let x : d ≡ 2 ^ (entryPathLevels d + 6) = t .is-power ∙ power-32 (dealLevel d) ∙ ap (λ (m : ℕ). 2 ^ m) v in
     let y : 2 ^ (entryPathLevels d + 6) ≡ 2 ^ entryPathLevels d * 64 = pow-add 2 (entryPathLevels d) 6 in
-    record { position-in = shr-lt (entryPathLevels d) 6 (omega arith); at-position = omega arith; in-deal = omega arith; from-start = s }
+    record {
+      position-in = shr-lt (entryPathLevels d) 6 (omega arith);
+      at-position = omega arith;
+      in-deal = omega arith;
+      from-start = s;
+    }
 
 -- every slot is at an allowed place
 pub slot-allowed : (d i : ℕ) → DealSize d → i < entryCount d → placeAllowed d (slotPlace d i) ≡ true
@@ -185,4 +214,8 @@ slot-allowed d i t h =
     let x = index-area d t in
     let a : indexStart d % 64 ≡ 0 = x .start-aligned in
     let b : indexStart d + 64 * entryCount d ≡ d = x .start-count in
-    rw (eq-eqb ((indexStart d + 64 * i) % 64) 0 (omega arith), le-leb (indexStart d) (indexStart d + 64 * i) (omega arith), lt-ltb (indexStart d + 64 * i) d (omega arith))
+    rw (
+      eq-eqb ((indexStart d + 64 * i) % 64) 0 (omega arith),
+      le-leb (indexStart d) (indexStart d + 64 * i) (omega arith),
+      lt-ltb (indexStart d + 64 * i) d (omega arith),
+    )

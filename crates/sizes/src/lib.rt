@@ -2,7 +2,9 @@
 ghost use mathlib.Core.Path.{_≡_};
 ghost use mathlib.Core.Bool.{true};
 ghost use Prim.Native.Nat.{_≤_, _<_};
-ghost use Rattle.sizes.specs.Sizes.{dealSizeAllowed, lentSizeAllowed, area, segmentSizeAllowed, entryCount, indexStart, offsetAllowed, placeAllowed, slotPlace, dealLevel, segmentLevel, segmentPosition};
+ghost use Rattle.sizes.specs.Sizes.{dealSizeAllowed, lentSizeAllowed, area, segmentSizeAllowed, entryCount};
+ghost use Rattle.sizes.specs.Sizes.{indexStart, offsetAllowed, placeAllowed, slotPlace, dealLevel, segmentLevel};
+ghost use Rattle.sizes.specs.Sizes.{segmentPosition};
 ghost use Rattle.sizes.specs.Numbers.{indexNumbers};
 
 // The number of entries and the index start for a deal size; zeros with code 2.
@@ -40,8 +42,8 @@ pub fn lent_size_allowed(d: usize) -> bool
     SMALLEST_LENT_DEAL <= d && (d <= LARGEST_LENT_DEAL && pow2::is_power_of_two_usize(d))
 }
 
-// The bytes that a segment of a size takes up in the deal: the smallest power of two at or above both the size and 128, and for
-// sizes over 2 ^ 35, which are in no deal, 2 ^ 35.
+// The bytes that a segment of a size takes up in the deal: the smallest power of two at or above both the size and 128,
+// and for sizes over 2 ^ 35, which are in no deal, 2 ^ 35.
 pub fn area(size: u64) -> u64
     ensures { λ r. ⌜ r ≡ area size ⌝ }
 {

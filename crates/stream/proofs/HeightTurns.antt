@@ -12,14 +12,16 @@ use Rattle.stream.specs.Stream.{withNode}
 
 -- an odd number of nodes: one height up
 pub goes-up : (h k : ℕ) (node waiting : List ℕ) → h < 32 → k % 2 ≡ 1
-    → withNode (32 - h) h k node waiting ≡ withNode (32 - (h + 1)) (h + 1) (k / 2) (nodeHash (part waiting (32 * h) 32 ++ node)) waiting
+    → withNode (32 - h) h k node waiting
+    ≡ withNode (32 - (h + 1)) (h + 1) (k / 2) (nodeHash (part waiting (32 * h) 32 ++ node)) waiting
 unfolding withNode
 goes-up h k node waiting l odd =
     let e : 32 - h ≡ suc (32 - (h + 1)) = omega arith in
     rw e (simp (ne-eqb (k % 2) 0 (λ z. omega arith), add-one h))
 
 -- an even one: the node waits
-pub waits : (h k : ℕ) (node waiting : List ℕ) → h < 32 → k % 2 ≡ 0 → withNode (32 - h) h k node waiting ≡ splice waiting (32 * h) node
+pub waits : (h k : ℕ) (node waiting : List ℕ) → h < 32 → k % 2 ≡ 0
+    → withNode (32 - h) h k node waiting ≡ splice waiting (32 * h) node
 unfolding withNode
 waits h k node waiting l even =
     let e : 32 - h ≡ suc (32 - (h + 1)) = omega arith in

@@ -8,12 +8,13 @@ use Rattle.merkle.specs.Tree.{nodeAt}
 use Rattle.stream.specs.Stream.{largest, failedWith}
 use Rattle.stream.specs.declared.Stream.{Stream}
 
--- n whole nodes give n / 2 ^ h nodes of height h. Where that is odd, the last of them has no right neighbour yet: it waits
+-- n whole nodes give n / 2 ^ h nodes of height h. Where that is odd, the last of them has no right neighbour yet: it
+-- waits
 abbrev pub Waits : List ℕ → List ℕ → ℕ → Type 0
 Waits bytes waiting n = (h : ℕ) → h < 32 → n / 2 ^ h % 2 ≡ 1 → part waiting (32 * h) 32 ≡ nodeAt bytes h (n / 2 ^ h - 1)
 
--- no code sticks: no node has stray bits, the count is that of the bytes, the last bytes are in the partial node, and the nodes of the
--- tree wait
+-- no code sticks: no node has stray bits, the count is that of the bytes, the last bytes are in the partial node, and
+-- the nodes of the tree wait
 pub record Runs (bytes : List ℕ) (s : Stream) : Type 0 where
   pub allowed : length bytes ≤ largest
   pub clear : (i : ℕ) → i < length bytes / 32 → getD bytes (i * 32 + 31) 0 < 64

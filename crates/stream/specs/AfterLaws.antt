@@ -14,8 +14,10 @@ use Rattle.merkle.specs.Tree.{nodeAt}
 use Rattle.merkle.specs.TreeLaws.{node-leaf}
 use Rattle.stray.specs.StrayBits.{clearNode}
 use Rattle.stray.specs.StrayBitsLaws.{node-clear}
-use Rattle.stream.specs.Stream.{largest, started, failedWith, withNode, counted, takeByte, takePiece}
-use Rattle.stream.specs.StreamLaws.{running, byte-after-failure, byte-past, byte-within, counted-open, counted-stray, counted-whole}
+use Rattle.stream.specs.Stream.{largest, started, failedWith, withNode, counted, takeByte, takePiece, takePieces}
+use Rattle.stream.specs.Stream.{together}
+use Rattle.stream.specs.StreamLaws.{running, byte-after-failure, byte-past, byte-within, counted-open}
+use Rattle.stream.specs.StreamLaws.{counted-stray, counted-whole, pieces-together}
 use Rattle.stream.specs.After.{Waits, Runs, StrayNode, TooLong, After, runs, strayNode, tooLong}
 use Rattle.stream.specs.WaitingLaws.{node-waits, length-withNode}
 use Rattle.stream.specs.AppendLaws.{waits-stay}
@@ -140,7 +142,9 @@ module _ (bytes : List ℕ) (b : ℕ) where
               state-is = refl;
             }
 
-        whole-node : clearNode put ≡ true → Runs longer (running (length bytes + 1) put (withNode 32 0 ((length bytes + 1) / 32 - 1) put (s .waiting)))
+        whole-node : clearNode put ≡ true
+            → Runs longer
+            (running (length bytes + 1) put (withNode 32 0 ((length bytes + 1) / 32 - 1) put (s .waiting)))
         whole-node e =
             let l = one-more in
             let d : length longer / 32 ≡ suc n = omega arith in
@@ -152,10 +156,14 @@ module _ (bytes : List ℕ) (b : ℕ) where
               no-code = refl;
               counts = sym one-more;
               partial-sized = put-sized;
-              waiting-sized = length-withNode 32 0 ((length bytes + 1) / 32 - 1) put (s .waiting) refl put-sized (r .waiting-sized);
-              last = ap (λ (j : ℕ). take j put) m ∙ sym (drop-of-length-le longer {i = length longer / 32 * 32} (omega arith));
+              waiting-sized =
+                  length-withNode 32 0 ((length bytes + 1) / 32 - 1) put (s .waiting) refl put-sized (r .waiting-sized);
+              last =
+                  ap (λ (j : ℕ). take j put) m
+                  ∙ sym (drop-of-length-le longer {i = length longer / 32 * 32} (omega arith));
               waits =
-                  subst (λ (j : ℕ). Waits longer (withNode 32 0 ((length bytes + 1) / 32 - 1) put (s .waiting)) j) (sym d)
+                  subst (λ (j : ℕ). Waits longer (withNode 32 0 ((length bytes + 1) / 32 - 1) put (s .waiting)) j)
+                  (sym d)
                   (subst (λ (j : ℕ). Waits longer (withNode 32 0 j put (s .waiting)) (suc n)) (sym q)
                   (node-waits longer (s .waiting) n (r .waiting-sized) old-waits put put-sized leaf));
             }
@@ -166,26 +174,33 @@ module _ (bytes : List ℕ) (b : ℕ) where
             new-clear : (i : ℕ) → i ≤ n → getD longer (i * 32 + 31) 0 < 64
             new-clear i g =
                 ⊎-elim
-                (λ (same : i ≡ n). subst (λ (j : ℕ). getD longer (j * 32 + 31) 0 < 64) (sym same) (rw (← last-byte) (node-clear put e)))
+                (λ (same : i ≡ n).
+                subst (λ (j : ℕ). getD longer (j * 32 + 31) 0 < 64) (sym same) (rw (← last-byte) (node-clear put e)))
                 (λ (before : i < n). old-clear i before)
                 (eq-or-lt-of-le g)
 
       -- all of these
       module _ (g : s .count < largest) where
         is-counted : takeByte s b ≡ counted (length bytes + 1) put (s .waiting)
-        is-counted = byte-within s b (r .no-code) g ∙ ap (λ (j : ℕ). counted (j + 1) (set (s .partial) (j % 32) b) (s .waiting)) (r .counts)
+        is-counted =
+            byte-within s b (r .no-code) g
+            ∙ ap (λ (j : ℕ). counted (j + 1) (set (s .partial) (j % 32) b) (s .waiting)) (r .counts)
 
         whole-counted : (k : length bytes % 32 ≡ 31) (t : Bool) → clearNode put ≡ t → After longer (takeByte s b)
         whole-counted k true e =
-            subst (After longer) (sym (is-counted ∙ counted-whole (length bytes + 1) put (s .waiting) (omega arith) e)) (runs (whole-node k e))
+            subst (After longer) (sym (is-counted ∙ counted-whole (length bytes + 1) put (s .waiting) (omega arith) e))
+            (runs (whole-node k e))
         whole-counted k false e =
-            subst (After longer) (sym (is-counted ∙ counted-stray (length bytes + 1) put (s .waiting) (omega arith) e)) (strayNode (stray-node k e))
+            subst (After longer) (sym (is-counted ∙ counted-stray (length bytes + 1) put (s .waiting) (omega arith) e))
+            (strayNode (stray-node k e))
 
         goes-on : After longer (takeByte s b)
         goes-on =
             elim (ℕ-discrete (length bytes % 32) 31) [
               | yes k ↦ whole-counted k (clearNode put) refl
-              | no k ↦ subst (After longer) (sym (is-counted ∙ counted-open (length bytes + 1) put (s .waiting) (λ z. k (omega arith)))) (runs (open-node k))
+              | no k ↦ subst (After longer)
+                  (sym (is-counted ∙ counted-open (length bytes + 1) put (s .waiting) (λ z. k (omega arith))))
+                  (runs (open-node k))
             ]
 
     takes : After longer (takeByte s b)
@@ -207,3 +222,9 @@ after-piece bytes [] s a = subst (λ (v : List ℕ). After v s) (sym (append-nil
 after-piece bytes (b ∷ piece) s a =
     subst (λ (v : List ℕ). After v (takePiece (takeByte s b) piece)) (append-snoc bytes b piece)
     (after-piece (bytes ++ (b ∷ [])) piece (takeByte s b) (after-byte bytes b s a))
+
+-- several pieces from a new start
+pub after-pieces : (pieces : List (List ℕ)) → After (together pieces) (takePieces started pieces)
+after-pieces pieces =
+    subst (After (together pieces)) (sym (pieces-together started pieces))
+    (after-piece [] (together pieces) started after-start)

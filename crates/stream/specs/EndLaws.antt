@@ -17,7 +17,8 @@ use Rattle.merkle.specs.TreeLaws.{top-node}
 use Rattle.stray.specs.StrayBits.{noStrayBits}
 use Rattle.stray.specs.StrayBitsLaws.{clear-nodes, nodes-clear}
 use Rattle.stream.specs.Stream.{largest, failedWith, streamed, ending}
-use Rattle.stream.specs.StreamLaws.{ends-stray, ends-failed, ends-refused, ends-committed, gets-stray, gets-refused, gets-committed, tree-bytes, height-waits}
+use Rattle.stream.specs.StreamLaws.{ends-stray, ends-failed, ends-refused, ends-committed, gets-stray}
+use Rattle.stream.specs.StreamLaws.{gets-refused, gets-committed, tree-bytes, height-waits}
 use Rattle.stream.specs.After.{Runs, StrayNode, TooLong, After, runs, strayNode, tooLong}
 use Rattle.stream.specs.declared.Stream.{Stream}
 
@@ -26,7 +27,9 @@ module _ (bytes : List ℕ) (s : Stream) where
   has-stray : StrayNode bytes s → noStrayBits (take largest bytes) ≡ true → ⊥
   has-stray x e =
       let l = length-take largest bytes in
-      let c = nodes-clear (length (take largest bytes) / 32) (take largest bytes) e (x .node) (omega (arith, x .whole, x .within)) in
+      let c =
+      nodes-clear (length (take largest bytes) / 32) (take largest bytes) e (x .node)
+      (omega (arith, x .whole, x .within)) in
       omega (arith, x .stray, getD-take largest bytes (x .node * 32 + 31) 0 (x .within))
 
   end-stray-node : StrayNode bytes s → ending s ≡ streamed bytes
@@ -48,12 +51,15 @@ module _ (bytes : List ℕ) (s : Stream) where
   end-too-long x =
       ap ending (x .state-is)
       ∙ ends-failed (failedWith 2) (λ z. omega arith) (λ z. omega arith)
-      ∙ sym (gets-refused bytes (none-stray x) (above-bound 32 largest (length bytes) (omega (arith, x .more)) (x .more)))
+      ∙ sym
+      (gets-refused bytes (none-stray x) (above-bound 32 largest (length bytes) (omega (arith, x .more)) (x .more)))
 
   -- no code sticks
   module _ (r : Runs bytes s) where
     all-clear : noStrayBits (take largest bytes) ≡ true
-    all-clear = ap (λ (v : List ℕ). noStrayBits v) (take-all largest bytes (r .allowed)) ∙ clear-nodes (length bytes / 32) bytes (r .clear)
+    all-clear =
+        ap (λ (v : List ℕ). noStrayBits v) (take-all largest bytes (r .allowed))
+        ∙ clear-nodes (length bytes / 32) bytes (r .clear)
 
     -- a power of two: the one node that waits is the top of the tree
     top-waits : powerBetween 32 largest (length bytes) ≡ true
@@ -71,10 +77,13 @@ module _ (bytes : List ℕ) (s : Stream) where
     end-runs = by-size (powerBetween 32 largest (length bytes)) refl
       where
         by-size : (t : Bool) → powerBetween 32 largest (length bytes) ≡ t → ending s ≡ streamed bytes
-        by-size false p = ends-refused s (r .no-code) (ap (powerBetween 32 largest) (r .counts) ∙ p) ∙ sym (gets-refused bytes all-clear p)
+        by-size false p =
+            ends-refused s (r .no-code) (ap (powerBetween 32 largest) (r .counts) ∙ p)
+            ∙ sym (gets-refused bytes all-clear p)
         by-size true p =
             ends-committed s (r .no-code) (ap (powerBetween 32 largest) (r .counts) ∙ p)
-            ∙ ap (λ (c : ℕ). record { code = 0; node = part (s .waiting) (32 * (height c - 5)) 32; count = c }) (r .counts)
+            ∙ ap (λ (c : ℕ). record { code = 0; node = part (s .waiting) (32 * (height c - 5)) 32; count = c })
+            (r .counts)
             ∙ ap (λ (v : List ℕ). record { code = 0; node = v; count = length bytes }) (top-waits p)
             ∙ sym (gets-committed bytes all-clear p)
 

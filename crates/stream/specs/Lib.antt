@@ -8,3 +8,4 @@ pub mod AppendLaws
 pub mod AfterLaws
 pub mod EndLaws
 pub mod CutAnywhere
+pub mod PackedAfterLaws

@@ -9,9 +9,15 @@ use Rattle.octets.specs.LittleEndian.{numberOf, bytesOf}
 use Rattle.octets.specs.LittleEndianLaws.{length-bytesOf, number-of-bytes}
 use Rattle.octets.specs.Splice.{part}
 use Rattle.stream.specs.declared.Stream.{Stream}
-use Rattle.stream.specs.Packed.{packed, unpacked}
+use Rattle.stream.specs.Packed.{packedLength, packed, unpacked}
 
-module _ (s : Stream) (c : s .count < 256 ^ 8) (p : length (s .partial) ≡ 32) (w : length (s .waiting) ≡ 1024) where
+-- a state that fits into its bytes
+pub record Packable (s : Stream) : Type 0 where
+  pub count-8 : s .count < 256 ^ 8
+  pub partial-sized : length (s .partial) ≡ 32
+  pub waiting-sized : length (s .waiting) ≡ 1024
+
+module _ (s : Stream) (fits : Packable s) where
   abbrev number : List ℕ
   number = bytesOf 8 (s .count)
 
@@ -24,11 +30,14 @@ module _ (s : Stream) (c : s .count < 256 ^ 8) (p : length (s .partial) ≡ 32) 
   behind : drop 16 (number ++ (code ++ rest)) ≡ rest
   behind =
       let l = length-bytesOf 8 (s .count) in
-      ap (drop 16) (sym (append-assoc number code rest)) ∙ drop-at (number ++ code) rest 16 (length-append number code ∙ omega arith)
+      ap (drop 16) (sym (append-assoc number code rest))
+      ∙ drop-at (number ++ code) rest 16 (length-append number code ∙ omega arith)
 
   count-back : numberOf (part (packed s) 0 8) ≡ s .count
   unfolding packed part
-  count-back = ap numberOf (take-at number (code ++ rest) 8 (length-bytesOf 8 (s .count))) ∙ number-of-bytes 8 (s .count) c
+  count-back =
+      ap numberOf (take-at number (code ++ rest) 8 (length-bytesOf 8 (s .count)))
+      ∙ number-of-bytes 8 (s .count) (fits .count-8)
 
   code-back : getD (packed s) 8 0 ≡ s .code
   unfolding packed
@@ -39,14 +48,23 @@ module _ (s : Stream) (c : s .count < 256 ^ 8) (p : length (s .partial) ≡ 32) 
 
   partial-back : part (packed s) 16 32 ≡ s .partial
   unfolding packed part
-  partial-back = ap (take 32) behind ∙ take-at (s .partial) (s .waiting) 32 p
+  partial-back = ap (take 32) behind ∙ take-at (s .partial) (s .waiting) 32 (fits .partial-sized)
 
   waiting-back : part (packed s) 48 1024 ≡ s .waiting
   unfolding packed part
   waiting-back =
-      ap (take 1024) (sym (drop-drop 32 16 (number ++ (code ++ rest))) ∙ ap (drop 32) behind ∙ drop-at (s .partial) (s .waiting) 32 p)
-      ∙ take-all 1024 (s .waiting) (omega arith)
+      ap (take 1024)
+      (sym (drop-drop 32 16 (number ++ (code ++ rest)))
+      ∙ ap (drop 32) behind
+      ∙ drop-at (s .partial) (s .waiting) 32 (fits .partial-sized))
+      ∙ take-all 1024 (s .waiting) (omega (arith, fits .waiting-sized))
 
   pub unpack-packed : unpacked (packed s) ≡ s
   unfolding unpacked
   unpack-packed = rw (count-back, code-back, partial-back, waiting-back)
+
+  pub length-packed : length (packed s) ≡ packedLength
+  unfolding packed
+  length-packed =
+      let l = length-bytesOf 8 (s .count) in
+      simp (length-append) (omega (arith, fits .partial-sized, fits .waiting-sized))

@@ -21,8 +21,8 @@ largest = 2 ^ 36
 abbrev pub refused : ℕ → Streamed
 refused code = record { code = code; node = replicate 32 0; count = 0 }
 
--- What all the bytes together get: 11 where a whole node within the first 2^36 bytes has stray bits, else 2 where their number is no
--- power of two from 32 to 2^36, else their commitment and their number. 32 bytes are 2 ^ 5
+-- What all the bytes together get: 11 where a whole node within the first 2^36 bytes has stray bits, else 2 where their
+-- number is no power of two from 32 to 2^36, else their commitment and their number. 32 bytes are 2 ^ 5
 unfoldable pub streamed : List ℕ → Streamed
 streamed bytes =
     unlessRefused (firstRefusal (
@@ -39,9 +39,9 @@ started = record { code = 0; count = 0; partial = replicate 32 0; waiting = repl
 abbrev pub failedWith : ℕ → Stream
 failedWith code = record { code = code; count = 0; partial = replicate 32 0; waiting = replicate 1024 0 }
 
--- The waiting nodes, one for each height, after one more node of a height that has k nodes already. Where k is even the node waits.
--- Where it is odd, the one that waits is its left neighbour: their node hash is one more node of the next height, which has k / 2.
--- The first number is how many heights are left.
+-- The waiting nodes, one for each height, after one more node of a height that has k nodes already. Where k is even the
+-- node waits. Where it is odd, the one that waits is its left neighbour: their node hash is one more node of the next
+-- height, which has k / 2. The first number is how many heights are left.
 unfoldable pub withNode : ℕ → ℕ → ℕ → List ℕ → List ℕ → List ℕ
 withNode zero h k node waiting = waiting
 withNode (suc left) h k node waiting =
@@ -49,7 +49,8 @@ withNode (suc left) h k node waiting =
     (splice waiting (32 * h) node)
     (withNode left (suc h) (k / 2) (nodeHash (part waiting (32 * h) 32 ++ node)) waiting)
 
--- the state with a count of bytes, of which the partial node holds the last ones: once it is whole, it is judged and goes to the waiting ones
+-- the state with a count of bytes, of which the partial node holds the last ones: once it is whole, it is judged and
+-- goes to the waiting ones
 abbrev pub counted : ℕ → List ℕ → List ℕ → Stream
 counted count partial waiting =
     choose (eqb (count % 32) 0)
@@ -72,7 +73,8 @@ unfoldable pub takePiece : Stream → List ℕ → Stream
 takePiece s [] = s
 takePiece s (b ∷ bs) = takePiece (takeByte s b) bs
 
--- the code that a state stands for: 11 and 0 are its own, any other counts as 2, also in a state that was never handed out
+-- the code that a state stands for: 11 and 0 are its own, any other counts as 2, also in a state that was never handed
+-- out
 abbrev pub lastingCode : ℕ → ℕ
 lastingCode code = choose (eqb code 0) 0 (choose (eqb code 11) 11 2)
 

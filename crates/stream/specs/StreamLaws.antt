@@ -14,7 +14,8 @@ use Rattle.pow2.specs.PowerLaws.{power-bounds}
 use Rattle.merkle.specs.Tree.{commitmentOf}
 use Rattle.stray.specs.StrayBits.{clearNode, noStrayBits}
 use Rattle.merkle.specs.CommitmentLaws.{height-five, tree-sized}
-use Rattle.stream.specs.Stream.{largest, refused, streamed, failedWith, withNode, counted, takeByte, takePiece, ending, takePieces, together}
+use Rattle.stream.specs.Stream.{largest, refused, streamed, failedWith, withNode, counted, takeByte, takePiece}
+use Rattle.stream.specs.Stream.{ending, takePieces, together}
 use Rattle.stream.specs.declared.Stream.{Stream}
 
 -- a state in which no code sticks
@@ -34,7 +35,8 @@ module _ (s : Stream) (b : ℕ) where
   unfolding takeByte
   byte-past e h = rw (eq-eqb (s .code) 0 e, le-ltb (s .count) largest h)
 
-  pub byte-within : s .code ≡ 0 → s .count < largest → takeByte s b ≡ counted (s .count + 1) (set (s .partial) (s .count % 32) b) (s .waiting)
+  pub byte-within : s .code ≡ 0 → s .count < largest
+      → takeByte s b ≡ counted (s .count + 1) (set (s .partial) (s .count % 32) b) (s .waiting)
   unfolding takeByte
   byte-within e h = rw (eq-eqb (s .code) 0 e, lt-ltb (s .count) largest h)
 
@@ -54,7 +56,8 @@ module _ (count : ℕ) (partial waiting : List ℕ) where
 pub piece-after-failure : (s : Stream) (bytes : List ℕ) → (s .code ≡ 0 → ⊥) → takePiece s bytes ≡ s
 unfolding takePiece
 piece-after-failure s [] h = refl
-piece-after-failure s (b ∷ bytes) h = ap (λ (t : Stream). takePiece t bytes) (byte-after-failure s b h) ∙ piece-after-failure s bytes h
+piece-after-failure s (b ∷ bytes) h =
+    ap (λ (t : Stream). takePiece t bytes) (byte-after-failure s b h) ∙ piece-after-failure s bytes h
 
 pub piece-append : (s : Stream) (p q : List ℕ) → takePiece s (p ++ q) ≡ takePiece (takePiece s p) q
 unfolding takePiece
@@ -91,12 +94,14 @@ module _ (bytes : List ℕ) where
   unfolding streamed
   gets-stray e = simp e
 
-  pub gets-refused : noStrayBits (take largest bytes) ≡ true → powerBetween 32 largest (length bytes) ≡ false → streamed bytes ≡ refused 2
+  pub gets-refused : noStrayBits (take largest bytes) ≡ true → powerBetween 32 largest (length bytes) ≡ false
+      → streamed bytes ≡ refused 2
   unfolding streamed
   gets-refused e p = simp (e, p)
 
   pub gets-committed : noStrayBits (take largest bytes) ≡ true → powerBetween 32 largest (length bytes) ≡ true
-      → streamed bytes ≡ record { code = 0; node = commitmentOf (height (length bytes) - 5) bytes; count = length bytes }
+      → streamed bytes
+      ≡ record { code = 0; node = commitmentOf (height (length bytes) - 5) bytes; count = length bytes }
   unfolding streamed
   gets-committed e p = simp (e, p)
 

@@ -35,7 +35,8 @@ above m n h i e l =
     ∙ shr-shr n h (i - h)
     ∙ ap (λ (k : ℕ). n / 2 ^ k) s
 
--- n nodes were there, and one more comes. At height h, which had k, it is `node`; below that height the new number of nodes is even
+-- n nodes were there, and one more comes. At height h, which had k, it is `node`; below that height the new number of
+-- nodes is even
 record Comes (bytes : List ℕ) (n h k : ℕ) (node : List ℕ) : Type 0 where
   pub had : n / 2 ^ h ≡ k
   pub has : suc n / 2 ^ h ≡ suc k
@@ -45,13 +46,17 @@ record Comes (bytes : List ℕ) (n h k : ℕ) (node : List ℕ) : Type 0 where
 
 module _ (bytes waiting : List ℕ) (n : ℕ) (room : length waiting ≡ 1024) (waits : Waits bytes waiting n) where
   -- k is even: the node waits
-  put : (h k : ℕ) (node : List ℕ) → h < 32 → k % 2 ≡ 0 → Comes bytes n h k node → Waits bytes (splice waiting (32 * h) node) (suc n)
+  put : (h k : ℕ) (node : List ℕ) → h < 32 → k % 2 ≡ 0 → Comes bytes n h k node
+      → Waits bytes (splice waiting (32 * h) node) (suc n)
   put h k node l even c i b odd =
       elim (decLt i h) [
         | yes low ↦ absurd (omega (arith, c .even-below i low))
         | no not-low ↦
             ⊎-elim
-            (λ (same : h ≡ i). subst (λ (x : ℕ). part (splice waiting (32 * h) node) (32 * x) 32 ≡ nodeAt bytes x (suc n / 2 ^ x - 1)) same here)
+            (λ (same : h ≡ i).
+            subst (λ (x : ℕ). part (splice waiting (32 * h) node) (32 * x) 32 ≡ nodeAt bytes x (suc n / 2 ^ x - 1))
+            same
+            here)
             (λ (over : h < i).
             let e : n / 2 ^ i ≡ suc n / 2 ^ i = above n (suc n) (suc h) i same-above over in
             part-after waiting (32 * h) node fits (32 * i) 32 (omega arith) (omega arith)
@@ -108,23 +113,29 @@ module _ (bytes waiting : List ℕ) (n : ℕ) (room : length waiting ≡ 1024) (
           (c .is ∙ ap (nodeAt bytes h) g)
           ∙ sym (node-split h (k / 2) bytes)
 
-  goes-on : (left h k : ℕ) (node : List ℕ) → h + left ≡ 32 → Comes bytes n h k node → Waits bytes (withNode left h k node waiting) (suc n)
+  goes-on : (left h k : ℕ) (node : List ℕ) → h + left ≡ 32 → Comes bytes n h k node
+      → Waits bytes (withNode left h k node waiting) (suc n)
   unfolding withNode
   goes-on zero h k node e c = λ i b odd. absurd (omega (arith, c .even-below i (omega arith)))
   goes-on (suc left) h k node e c =
-      by-parity (λ c'. goes-on left (suc h) (k / 2) (nodeHash (part waiting (32 * h) 32 ++ node)) (omega arith) c') (eqb (k % 2) 0) refl
+      by-parity (λ c'. goes-on left (suc h) (k / 2) (nodeHash (part waiting (32 * h) 32 ++ node)) (omega arith) c')
+      (eqb (k % 2) 0) refl
     where
       by-parity : (Comes bytes n (suc h) (k / 2) (nodeHash (part waiting (32 * h) 32 ++ node))
           → Waits bytes (withNode left (suc h) (k / 2) (nodeHash (part waiting (32 * h) 32 ++ node)) waiting) (suc n))
           → (t : Bool) → eqb (k % 2) 0 ≡ t
-          → Waits bytes (choose t (splice waiting (32 * h) node) (withNode left (suc h) (k / 2) (nodeHash (part waiting (32 * h) 32 ++ node)) waiting)) (suc n)
+          → Waits bytes
+          (choose t (splice waiting (32 * h) node)
+          (withNode left (suc h) (k / 2) (nodeHash (part waiting (32 * h) 32 ++ node)) waiting))
+          (suc n)
       by-parity rest true p = put h k node (omega arith) (eqb-true (k % 2) 0 p) c
       by-parity rest false p =
           let q = eqb-false (k % 2) 0 p in
           rest (up h k node (omega arith) (omega arith) c)
 
   -- one more node of height 0
-  pub node-waits : (node : List ℕ) → length node ≡ 32 → node ≡ nodeAt bytes 0 n → Waits bytes (withNode 32 0 n node waiting) (suc n)
+  pub node-waits : (node : List ℕ) → length node ≡ 32 → node ≡ nodeAt bytes 0 n
+      → Waits bytes (withNode 32 0 n node waiting) (suc n)
   node-waits node l e =
       goes-on 32 0 n node refl
       (record {
@@ -141,9 +152,11 @@ pub length-withNode : (left h k : ℕ) (node waiting : List ℕ) → h + left �
 unfolding withNode
 length-withNode zero h k node waiting e l r = r
 length-withNode (suc left) h k node waiting e l r =
-    by-parity (eqb (k % 2) 0) (splice waiting (32 * h) node) (withNode left (suc h) (k / 2) (nodeHash (part waiting (32 * h) 32 ++ node)) waiting)
+    by-parity (eqb (k % 2) 0) (splice waiting (32 * h) node)
+    (withNode left (suc h) (k / 2) (nodeHash (part waiting (32 * h) 32 ++ node)) waiting)
     (length-splice waiting (32 * h) node (omega arith) ∙ r)
-    (length-withNode left (suc h) (k / 2) (nodeHash (part waiting (32 * h) 32 ++ node)) waiting (omega arith) (node-hash-length (part waiting (32 * h) 32 ++ node)) r)
+    (length-withNode left (suc h) (k / 2) (nodeHash (part waiting (32 * h) 32 ++ node)) waiting (omega arith)
+    (node-hash-length (part waiting (32 * h) 32 ++ node)) r)
   where
     by-parity : (t : Bool) (v w : List ℕ) → length v ≡ 1024 → length w ≡ 1024 → length (choose t v w) ≡ 1024
     by-parity true v w a b = a

@@ -1,8 +1,9 @@
-// The commitment of bytes that arrive in pieces. The state is handed in and handed back: it keeps the bytes of the node that is not
-// whole yet, and one waiting node for each height.
+// The commitment of bytes that arrive in pieces. The state is handed in and handed back: it keeps the bytes of the node
+// that is not whole yet, and one waiting node for each height.
 mod packed; // packed.rt: the state as bytes
 mod waiting; // waiting.rt: the waiting nodes
 
+pub use packed::STATE_LENGTH;
 pub use packed::pack;
 pub use packed::unpack;
 ghost use mathlib.Core.Path.{_≡_};
@@ -108,7 +109,8 @@ impl Stream {
         self
     }
 
-    // The answer for all bytes taken so far. Code 2: their number is no power of two from 32 to 2^36. Code 11 where it stands.
+    // The answer for all bytes taken so far. Code 2: their number is no power of two from 32 to 2^36. Code 11 where it
+    // stands.
     pub fn end(self) -> Streamed
         ensures { λ r. ⌜ r ≡ ending self ⌝ }
     {

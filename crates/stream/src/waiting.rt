@@ -8,7 +8,8 @@ ghost use Prim.Native.Nat.{_^_, _<_};
 ghost use lib.ListN.{length};
 ghost use Rattle.stream.specs.Stream.{withNode};
 
-// One more node of height 0, which has k nodes already. Each odd number of nodes has one waiting: the left neighbour of the new one.
+// One more node of height 0, which has k nodes already. Each odd number of nodes has one waiting: the left neighbour of
+// the new one.
 pub(crate) fn add_node(waiting: &mut [u8], k: u64, node: [u8; 32])
     requires { ⌜ (length (now waiting) ≡ 1024) × (k < 2 ^ 31) ⌝ }
     ensures { λ _. ⌜ now (waiting .exit) ≡ withNode 32 0 k node (now (waiting .entry)) ⌝ }

@@ -14,6 +14,10 @@ use Rattle.record.specs.declared.Field.the-variants.{Content, Refused}
 abbrev pub lentCode : ℕ → List ℕ → ℕ → ℕ
 lentCode n output code = choose (eqb (length output) n) code 12
 
+-- the same for the two strings of a settling
+abbrev pub lentPairCode : List ℕ → List ℕ → ℕ → ℕ
+lentPairCode left right code = lentCode 64 left (lentCode 64 right code)
+
 -- an output afterwards, bytes or a number: written with code 0, left as it was with every other
 abbrev pub lentOutput : {A : Type 0} → ℕ → A → A → A
 lentOutput code value before = choose (eqb code 0) value before

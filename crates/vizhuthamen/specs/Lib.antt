@@ -1,1 +1,3 @@
 pub mod Export
+pub mod StreamCalls
+pub mod CallsCutAnywhere

@@ -35,9 +35,12 @@ pub extern "C" fn vz_inspect(
     size: &mut u64,
 ) -> u32
     ensures { λ r. ⌜ r ≡ lentCode 32 (now (commitment .entry)) (inspectAnswer (lentDeal (now (deal .entry))) place .code) ⌝ }
-    ensures { λ r. ⌜ now (state .exit) ≡ lentOutput r (stateNumber (inspectAnswer (lentDeal (now (deal .entry))) place .state)) (now (state .entry)) ⌝ }
-    ensures { λ r. ⌜ now (commitment .exit) ≡ lentOutput r (inspectAnswer (lentDeal (now (deal .entry))) place .commitment) (now (commitment .entry)) ⌝ }
-    ensures { λ r. ⌜ now (offset .exit) ≡ lentOutput r (inspectAnswer (lentDeal (now (deal .entry))) place .offset) (now (offset .entry)) ⌝ }
+    ensures { λ r. ⌜ now (state .exit)
+        ≡ lentOutput r (stateNumber (inspectAnswer (lentDeal (now (deal .entry))) place .state)) (now (state .entry)) ⌝ }
+    ensures { λ r. ⌜ now (commitment .exit)
+        ≡ lentOutput r (inspectAnswer (lentDeal (now (deal .entry))) place .commitment) (now (commitment .entry)) ⌝ }
+    ensures { λ r. ⌜ now (offset .exit)
+        ≡ lentOutput r (inspectAnswer (lentDeal (now (deal .entry))) place .offset) (now (offset .entry)) ⌝ }
     ensures { λ r. ⌜ now (size .exit) ≡ lentOutput r (inspectAnswer (lentDeal (now (deal .entry))) place .size) (now (size .entry)) ⌝ }
 {
     if commitment.len() != 32 {
@@ -59,7 +62,8 @@ pub extern "C" fn vz_inspect(
 pub extern "C" fn vz_tally(deal: &[u8], blank: &mut u64, damaged: &mut u64, valid: &mut u64) -> u32
     ensures { λ r. ⌜ r ≡ tallyAnswer (now (deal .entry)) .code ⌝ }
     ensures { λ r. ⌜ now (blank .exit) ≡ lentOutput r (tallyAnswer (now (deal .entry)) .blank) (now (blank .entry)) ⌝ }
-    ensures { λ r. ⌜ now (damaged .exit) ≡ lentOutput r (tallyAnswer (now (deal .entry)) .damaged) (now (damaged .entry)) ⌝ }
+    ensures { λ r. ⌜ now (damaged .exit)
+        ≡ lentOutput r (tallyAnswer (now (deal .entry)) .damaged) (now (damaged .entry)) ⌝ }
     ensures { λ r. ⌜ now (valid .exit) ≡ lentOutput r (tallyAnswer (now (deal .entry)) .valid) (now (valid .entry)) ⌝ }
 {
     let answer = index::tally(deal);
@@ -80,9 +84,12 @@ pub extern "C" fn vz_find(
     place: &mut u64,
 ) -> u32
     ensures { λ r. ⌜ r ≡ findNumbers (lentDeal (now (deal .entry))) (now (commitment .entry)) .code ⌝ }
-    ensures { λ r. ⌜ now (offset .exit) ≡ lentOutput r (findNumbers (lentDeal (now (deal .entry))) (now (commitment .entry)) .offset) (now (offset .entry)) ⌝ }
-    ensures { λ r. ⌜ now (size .exit) ≡ lentOutput r (findNumbers (lentDeal (now (deal .entry))) (now (commitment .entry)) .size) (now (size .entry)) ⌝ }
-    ensures { λ r. ⌜ now (place .exit) ≡ lentOutput r (findNumbers (lentDeal (now (deal .entry))) (now (commitment .entry)) .place) (now (place .entry)) ⌝ }
+    ensures { λ r. ⌜ now (offset .exit)
+        ≡ lentOutput r (findNumbers (lentDeal (now (deal .entry))) (now (commitment .entry)) .offset) (now (offset .entry)) ⌝ }
+    ensures { λ r. ⌜ now (size .exit)
+        ≡ lentOutput r (findNumbers (lentDeal (now (deal .entry))) (now (commitment .entry)) .size) (now (size .entry)) ⌝ }
+    ensures { λ r. ⌜ now (place .exit)
+        ≡ lentOutput r (findNumbers (lentDeal (now (deal .entry))) (now (commitment .entry)) .place) (now (place .entry)) ⌝ }
 {
     let answer = index::find_numbers(deal, commitment);
     let written = answer.code == 0;
@@ -97,8 +104,10 @@ pub extern "C" fn vz_find(
 pub extern "C" fn vz_book(deal: &mut [u8], segment: &[u8], offset: &mut u64, place: &mut u64) -> u32
     ensures { λ r. ⌜ r ≡ bookAnswer (now (deal .entry)) (now (segment .entry)) .code ⌝ }
     ensures { λ r. ⌜ now (deal .exit) ≡ bookedDeal (now (deal .entry)) (now (segment .entry)) ⌝ }
-    ensures { λ r. ⌜ now (offset .exit) ≡ lentOutputOr 15 r (bookAnswer (now (deal .entry)) (now (segment .entry)) .offset) (now (offset .entry)) ⌝ }
-    ensures { λ r. ⌜ now (place .exit) ≡ lentOutputOr 15 r (bookAnswer (now (deal .entry)) (now (segment .entry)) .place) (now (place .entry)) ⌝ }
+    ensures { λ r. ⌜ now (offset .exit)
+        ≡ lentOutputOr 15 r (bookAnswer (now (deal .entry)) (now (segment .entry)) .offset) (now (offset .entry)) ⌝ }
+    ensures { λ r. ⌜ now (place .exit)
+        ≡ lentOutputOr 15 r (bookAnswer (now (deal .entry)) (now (segment .entry)) .place) (now (place .entry)) ⌝ }
 {
     let answer = booking::book(deal, segment);
     let written = written_with(answer.code, 15);

@@ -28,7 +28,8 @@ pub extern "C" fn vz_index_numbers(size: u64, entries: &mut u64, start: &mut u64
 #[no_mangle]
 pub extern "C" fn vz_make_entry(commitment: &[u8], offset: u64, size: u64, entry: &mut [u8]) -> u32
     ensures { λ r. ⌜ r ≡ lentCode 64 (now (entry .entry)) (madeEntry (now (commitment .entry)) offset size .code) ⌝ }
-    ensures { λ r. ⌜ now (entry .exit) ≡ lentOutput r (madeEntry (now (commitment .entry)) offset size .entry) (now (entry .entry)) ⌝ }
+    ensures { λ r. ⌜ now (entry .exit)
+        ≡ lentOutput r (madeEntry (now (commitment .entry)) offset size .entry) (now (entry .entry)) ⌝ }
 {
     if entry.len() != 64 {
         return WRONG_LENGTH;
@@ -60,9 +61,12 @@ pub extern "C" fn vz_read_entry(
     size: &mut u64,
 ) -> u32
     ensures { λ r. ⌜ r ≡ lentCode 32 (now (commitment .entry)) (readEntry (now (entry .entry)) .code) ⌝ }
-    ensures { λ r. ⌜ now (kind .exit) ≡ lentOutput r (kindNumber (readEntry (now (entry .entry)) .kind)) (now (kind .entry)) ⌝ }
-    ensures { λ r. ⌜ now (commitment .exit) ≡ lentOutput r (readEntry (now (entry .entry)) .commitment) (now (commitment .entry)) ⌝ }
-    ensures { λ r. ⌜ now (offset .exit) ≡ lentOutput r (readEntry (now (entry .entry)) .offset) (now (offset .entry)) ⌝ }
+    ensures { λ r. ⌜ now (kind .exit)
+        ≡ lentOutput r (kindNumber (readEntry (now (entry .entry)) .kind)) (now (kind .entry)) ⌝ }
+    ensures { λ r. ⌜ now (commitment .exit)
+        ≡ lentOutput r (readEntry (now (entry .entry)) .commitment) (now (commitment .entry)) ⌝ }
+    ensures { λ r. ⌜ now (offset .exit)
+        ≡ lentOutput r (readEntry (now (entry .entry)) .offset) (now (offset .entry)) ⌝ }
     ensures { λ r. ⌜ now (size .exit) ≡ lentOutput r (readEntry (now (entry .entry)) .size) (now (size .entry)) ⌝ }
 {
     if commitment.len() != 32 {

@@ -1,5 +1,5 @@
-// The library for programs in other languages: the functions of include/vizhuthamen.h, which says what each of them does. A function
-// passes what it is lent to the crate that does the work, and writes the answer to the lent outputs.
+// The library for programs in other languages: the functions of include/vizhuthamen.h, which says what each of them
+// does. A function passes what it is lent to the crate that does the work, and writes the answer to the lent outputs.
 pub mod deals; // deals.rt: inspecting a slot, the tally of an index, finding and booking a segment
 pub mod hashing; // hashing.rt: SHA-256 and commitments
 pub mod index_entries; // index_entries.rt: index numbers and entries

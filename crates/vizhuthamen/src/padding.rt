@@ -9,7 +9,8 @@ ghost use Rattle.vizhuthamen.specs.Export.{lentOutput};
 pub extern "C" fn vz_fr32_pad(raw: &[u8], segment: &mut [u8], length: &mut u64) -> u32
     ensures { λ r. ⌜ r ≡ padAnswer (now (raw .entry)) (now (segment .entry)) .code ⌝ }
     ensures { λ r. ⌜ now (segment .exit) ≡ padOutput (now (raw .entry)) (now (segment .entry)) ⌝ }
-    ensures { λ r. ⌜ now (length .exit) ≡ lentOutput r (padAnswer (now (raw .entry)) (now (segment .entry)) .length) (now (length .entry)) ⌝ }
+    ensures { λ r. ⌜ now (length .exit)
+        ≡ lentOutput r (padAnswer (now (raw .entry)) (now (segment .entry)) .length) (now (length .entry)) ⌝ }
 {
     let answer = fr32::pad(raw, segment);
     write_u64(answer.code == 0, answer.length as u64, length);
@@ -26,7 +27,9 @@ pub extern "C" fn vz_fr32_unpad(
 ) -> u32
     ensures { λ r. ⌜ r ≡ unpadAnswer «raw_length» (now (segment .entry)) (now (raw .entry)) .code ⌝ }
     ensures { λ r. ⌜ now (raw .exit) ≡ unpadOutput «raw_length» (now (segment .entry)) (now (raw .entry)) ⌝ }
-    ensures { λ r. ⌜ now (length .exit) ≡ lentOutput r (unpadAnswer «raw_length» (now (segment .entry)) (now (raw .entry)) .length) (now (length .entry)) ⌝ }
+    ensures { λ r. ⌜ now (length .exit)
+        ≡ lentOutput r (unpadAnswer «raw_length» (now (segment .entry)) (now (raw .entry)) .length)
+        (now (length .entry)) ⌝ }
 {
     let answer = fr32::unpad(raw_length, segment, raw);
     write_u64(answer.code == 0, answer.length as u64, length);

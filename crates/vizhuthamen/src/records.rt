@@ -13,7 +13,9 @@ ghost use Rattle.vizhuthamen.specs.Export.{lentOutput, fieldCode, fieldT
 pub extern "C" fn vz_build(deal: &[u8], place: u64, record: &mut [u8], length: &mut u64) -> u32
     ensures { λ r. ⌜ r ≡ buildAnswer (lentDeal (now (deal .entry))) place (now («record» .entry)) .code ⌝ }
     ensures { λ r. ⌜ now («record» .exit) ≡ buildOutput (lentDeal (now (deal .entry))) place (now («record» .entry)) ⌝ }
-    ensures { λ r. ⌜ now (length .exit) ≡ lentOutput r (buildAnswer (lentDeal (now (deal .entry))) place (now («record» .entry)) .length) (now (length .entry)) ⌝ }
+    ensures { λ r. ⌜ now (length .exit)
+        ≡ lentOutput r (buildAnswer (lentDeal (now (deal .entry))) place (now («record» .entry)) .length)
+        (now (length .entry)) ⌝ }
 {
     let answer = build::build(deal, place, record);
     write_u64(answer.code == 0, answer.length as u64, length);
@@ -39,10 +41,14 @@ pub extern "C" fn vz_read_field(
     next: &mut u64,
 ) -> u32
     ensures { λ r. ⌜ r ≡ fieldCode (fieldAt (now («record» .entry)) place) ⌝ }
-    ensures { λ r. ⌜ now (tag .exit) ≡ lentOutput r (fieldTag (fieldAt (now («record» .entry)) place)) (now (tag .entry)) ⌝ }
-    ensures { λ r. ⌜ now (start .exit) ≡ lentOutput r (fieldStart (fieldAt (now («record» .entry)) place)) (now (start .entry)) ⌝ }
-    ensures { λ r. ⌜ now (length .exit) ≡ lentOutput r (fieldLength (fieldAt (now («record» .entry)) place)) (now (length .entry)) ⌝ }
-    ensures { λ r. ⌜ now (next .exit) ≡ lentOutput r (fieldNext (fieldAt (now («record» .entry)) place)) (now (next .entry)) ⌝ }
+    ensures { λ r. ⌜ now (tag .exit)
+        ≡ lentOutput r (fieldTag (fieldAt (now («record» .entry)) place)) (now (tag .entry)) ⌝ }
+    ensures { λ r. ⌜ now (start .exit)
+        ≡ lentOutput r (fieldStart (fieldAt (now («record» .entry)) place)) (now (start .entry)) ⌝ }
+    ensures { λ r. ⌜ now (length .exit)
+        ≡ lentOutput r (fieldLength (fieldAt (now («record» .entry)) place)) (now (length .entry)) ⌝ }
+    ensures { λ r. ⌜ now (next .exit)
+        ≡ lentOutput r (fieldNext (fieldAt (now («record» .entry)) place)) (now (next .entry)) ⌝ }
 {
     let Field::Content {
         tag: field_tag,

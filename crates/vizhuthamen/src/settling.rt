@@ -8,7 +8,7 @@ ghost use lib.ListN.{length};
 ghost use Rattle.record.specs.Check.{dealTerms};
 ghost use Rattle.lent.specs.LentDeal.{lentDeal};
 ghost use Rattle.settle.specs.Settle.{settleRecords, settleWithDeal};
-ghost use Rattle.vizhuthamen.specs.Export.{lentCode, lentOutputOr};
+ghost use Rattle.vizhuthamen.specs.Export.{lentPairCode, lentOutputOr};
 
 // Writes the two strings of an answer, and gives its code.
 fn write_settled(answer: Settled, left: &mut [u8], right: &mut [u8]) -> u32
@@ -35,9 +35,14 @@ pub extern "C" fn vz_settle_records(
     left: &mut [u8],
     right: &mut [u8],
 ) -> u32
-    ensures { λ r. ⌜ r ≡ lentCode 64 (now (left .entry)) (lentCode 64 (now (right .entry)) (settleRecords (dealTerms (now (commitment .entry)) size) (now (first .entry)) (now (second .entry)) .code)) ⌝ }
-    ensures { λ r. ⌜ now (left .exit) ≡ lentOutputOr 17 r (settleRecords (dealTerms (now (commitment .entry)) size) (now (first .entry)) (now (second .entry)) .left) (now (left .entry)) ⌝ }
-    ensures { λ r. ⌜ now (right .exit) ≡ lentOutputOr 17 r (settleRecords (dealTerms (now (commitment .entry)) size) (now (first .entry)) (now (second .entry)) .right) (now (right .entry)) ⌝ }
+    ensures { λ r. ⌜ r ≡ lentPairCode (now (left .entry)) (now (right .entry))
+        (settleRecords (dealTerms (now (commitment .entry)) size) (now (first .entry)) (now (second .entry)) .code) ⌝ }
+    ensures { λ r. ⌜ now (left .exit) ≡ lentOutputOr 17 r
+        (settleRecords (dealTerms (now (commitment .entry)) size) (now (first .entry)) (now (second .entry)) .left)
+        (now (left .entry)) ⌝ }
+    ensures { λ r. ⌜ now (right .exit) ≡ lentOutputOr 17 r
+        (settleRecords (dealTerms (now (commitment .entry)) size) (now (first .entry)) (now (second .entry)) .right)
+        (now (right .entry)) ⌝ }
 {
     if left.len() != 64 {
         return WRONG_LENGTH;
@@ -57,9 +62,12 @@ pub extern "C" fn vz_settle_with_deal(
     left: &mut [u8],
     right: &mut [u8],
 ) -> u32
-    ensures { λ r. ⌜ r ≡ lentCode 64 (now (left .entry)) (lentCode 64 (now (right .entry)) (settleWithDeal (lentDeal (now (deal .entry))) (now («record» .entry)) .code)) ⌝ }
-    ensures { λ r. ⌜ now (left .exit) ≡ lentOutputOr 17 r (settleWithDeal (lentDeal (now (deal .entry))) (now («record» .entry)) .left) (now (left .entry)) ⌝ }
-    ensures { λ r. ⌜ now (right .exit) ≡ lentOutputOr 17 r (settleWithDeal (lentDeal (now (deal .entry))) (now («record» .entry)) .right) (now (right .entry)) ⌝ }
+    ensures { λ r. ⌜ r ≡ lentPairCode (now (left .entry)) (now (right .entry))
+        (settleWithDeal (lentDeal (now (deal .entry))) (now («record» .entry)) .code) ⌝ }
+    ensures { λ r. ⌜ now (left .exit) ≡ lentOutputOr 17 r
+        (settleWithDeal (lentDeal (now (deal .entry))) (now («record» .entry)) .left) (now (left .entry)) ⌝ }
+    ensures { λ r. ⌜ now (right .exit) ≡ lentOutputOr 17 r
+        (settleWithDeal (lentDeal (now (deal .entry))) (now («record» .entry)) .right) (now (right .entry)) ⌝ }
 {
     if left.len() != 64 {
         return WRONG_LENGTH;

@@ -1,23 +1,19 @@
-// The commitment of bytes that arrive in pieces. The caller keeps the state, as 1,072 bytes.
+// The commitment of bytes that arrive in pieces. The caller keeps the state, as bytes.
 use crate::output::WRONG_LENGTH;
 use crate::output::write_32_bytes;
 use crate::output::write_u64;
+use stream::STATE_LENGTH;
 use stream::Stream;
 ghost use mathlib.Core.Path.{_≡_};
-ghost use lib.ListN.{length};
-ghost use lib.Dec.{eqb};
-ghost use Rattle.rules.specs.Choice.{choose};
-ghost use Rattle.stream.specs.Stream.{started, takePiece, lastingCode, ending};
-ghost use Rattle.stream.specs.Packed.{packed, unpacked};
-ghost use Rattle.vizhuthamen.specs.Export.{lentCode, lentOutput};
-
-const STATE_LENGTH: usize = 1072;
+ghost use Rattle.stream.specs.Packed.{packedEnd};
+ghost use Rattle.vizhuthamen.specs.Export.{lentOutput};
+ghost use Rattle.vizhuthamen.specs.StreamCalls.{newCode, newState, takenCode, takenState, endCode};
 
 // A new start.
 #[no_mangle]
 pub extern "C" fn vz_stream_new(state: &mut [u8]) -> u32
-    ensures { λ r. ⌜ r ≡ lentCode 1072 (now (state .entry)) 0 ⌝ }
-    ensures { λ r. ⌜ now (state .exit) ≡ lentOutput r (packed started) (now (state .entry)) ⌝ }
+    ensures { λ r. ⌜ r ≡ newCode (now (state .entry)) ⌝ }
+    ensures { λ _. ⌜ now (state .exit) ≡ newState (now (state .entry)) ⌝ }
 {
     if state.len() != STATE_LENGTH {
         return WRONG_LENGTH;
@@ -30,8 +26,8 @@ pub extern "C" fn vz_stream_new(state: &mut [u8]) -> u32
 // One more piece. The answer is the state's code: 0, or the one that sticks.
 #[no_mangle]
 pub extern "C" fn vz_stream_take(state: &mut [u8], piece: &[u8]) -> u32
-    ensures { λ r. ⌜ r ≡ lentCode 1072 (now (state .entry)) (lastingCode (takePiece (unpacked (now (state .entry))) (now (piece .entry)) .code)) ⌝ }
-    ensures { λ _. ⌜ now (state .exit) ≡ choose (eqb (length (now (state .entry))) 1072) (packed (takePiece (unpacked (now (state .entry))) (now (piece .entry)))) (now (state .entry)) ⌝ }
+    ensures { λ r. ⌜ r ≡ takenCode (now (state .entry)) (now (piece .entry)) ⌝ }
+    ensures { λ _. ⌜ now (state .exit) ≡ takenState (now (state .entry)) (now (piece .entry)) ⌝ }
 {
     if state.len() != STATE_LENGTH {
         return WRONG_LENGTH;
@@ -46,9 +42,9 @@ pub extern "C" fn vz_stream_take(state: &mut [u8], piece: &[u8]) -> u32
 // The commitment of all bytes taken so far, and their number.
 #[no_mangle]
 pub extern "C" fn vz_stream_end(state: &[u8], node: &mut [u8], count: &mut u64) -> u32
-    ensures { λ r. ⌜ r ≡ lentCode 1072 (now (state .entry)) (lentCode 32 (now (node .entry)) (ending (unpacked (now (state .entry))) .code)) ⌝ }
-    ensures { λ r. ⌜ now (node .exit) ≡ lentOutput r (ending (unpacked (now (state .entry))) .node) (now (node .entry)) ⌝ }
-    ensures { λ r. ⌜ now (count .exit) ≡ lentOutput r (ending (unpacked (now (state .entry))) .count) (now (count .entry)) ⌝ }
+    ensures { λ r. ⌜ r ≡ endCode (now (state .entry)) (now (node .entry)) ⌝ }
+    ensures { λ r. ⌜ now (node .exit) ≡ lentOutput r (packedEnd (now (state .entry)) .node) (now (node .entry)) ⌝ }
+    ensures { λ r. ⌜ now (count .exit) ≡ lentOutput r (packedEnd (now (state .entry)) .count) (now (count .entry)) ⌝ }
 {
     if state.len() != STATE_LENGTH {
         return WRONG_LENGTH;

@@ -23,23 +23,19 @@ loop-holds c = (omega arith, refl, refl)
 returns : tie.Need-returns Inv-loop μ-loop
 returns c =
     let l = c .before .before in
-    sym (l .loop .inv .2 ∙ stop-doubling 28 (l .loop .i) (l .loop .taken) (l .before .args .size) (omega arith) (c .if1 .taken))
+    let size = l .before .args .size in
+    sym (l .loop .inv .2 ∙ stop-doubling 28 (l .loop .i) (l .loop .taken) size (omega arith) (c .if1 .taken))
 
 mul-taken : tie.Need-mul-taken Inv-loop μ-loop
 mul-taken c = let l = c .before .before in omega (arith, l .loop .inv .1, taken-fits (l .loop .i) (l .loop .inv .0))
-
-add-i : tie.Need-add-i Inv-loop μ-loop
-add-i c = search needs
-
-loop-less : tie.Need-loop-less Inv-loop μ-loop
-loop-less c = search needs
 
 loop-again : tie.Need-loop-again Inv-loop μ-loop
 loop-again c =
     let l = c .before .before in (
       omega arith,
       omega (arith, l .loop .inv .1, pow-suc 2 (l .loop .i)) ∙ ap (λ (n : ℕ). 128 * 2 ^ n) (sym (add-one (l .loop .i))),
-      l .loop .inv .2 ∙ double-once 28 (l .loop .i) (l .loop .taken) (l .before .args .size) (omega arith) (c .if1 .left),
+      l .loop .inv .2
+          ∙ double-once 28 (l .loop .i) (l .loop .taken) (l .before .args .size) (omega arith) (c .if1 .left),
     )
 
 returns-2 : tie.Need-returns-2 Inv-loop μ-loop
@@ -50,4 +46,4 @@ returns-2 c =
 pub area-spec : {M : Type 1} → statement M
 area-spec =
     tie.close
-    (tie.spec Inv-loop μ-loop loop-holds returns mul-taken add-i loop-less loop-again returns-2)
+    (tie.spec Inv-loop μ-loop loop-holds returns mul-taken (λ c. search needs) (λ c. search needs) loop-again returns-2)

@@ -5,12 +5,6 @@ use Rattle.sizes.specs.SizesLaws.{deal-size}
 use Rattle.sizes.proofs.deal_level.Statement.{statement}
 use Rattle.sizes.proofs.deal_level.Tie as tie
 
-log2-requires : tie.Need-log2-requires
-log2-requires c κs = search needs
-
-cast-result : tie.Need-cast-result
-cast-result c = search needs
-
 sub-result : tie.Need-sub-result
 unfolding dealLevel
 sub-result c = let l = deal-size (c .before .args .d) (c .before .pre) .level-low in omega arith
@@ -20,4 +14,4 @@ unfolding dealLevel
 returns c = omega arith
 
 pub deal-level-spec : {M : Type 1} → statement M
-deal-level-spec = tie.close (tie.spec log2-requires cast-result sub-result returns)
+deal-level-spec = tie.close (tie.spec (λ c κs. search needs) (λ c. search needs) sub-result returns)

@@ -4,12 +4,10 @@ use Rattle.sizes.specs.Sizes.{dealSizeAllowed}
 use Rattle.sizes.proofs.deal_size_allowed.Statement.{statement}
 use Rattle.sizes.proofs.deal_size_allowed.Tie as tie
 
-is-power-of-two-requires : tie.Need-is-power-of-two-requires
-is-power-of-two-requires c κs = search needs
-
 returns : tie.Need-returns
 unfolding dealSizeAllowed
-returns c = simp (le-leb _ _ (c .before .before .if1 .taken), le-leb _ _ (c .before .if2 .taken)) (c .is-power-of-two .ensures)
+returns c =
+    simp (le-leb _ _ (c .before .before .if1 .taken), le-leb _ _ (c .before .if2 .taken)) (c .is-power-of-two .ensures)
 
 returns-2 : tie.Need-returns-2
 unfolding dealSizeAllowed
@@ -20,4 +18,4 @@ unfolding dealSizeAllowed
 returns-3 c = simp (lt-leb _ _ (c .if1 .left))
 
 pub deal-size-allowed-spec : {M : Type 1} → statement M
-deal-size-allowed-spec = tie.close (tie.spec is-power-of-two-requires returns returns-2 returns-3)
+deal-size-allowed-spec = tie.close (tie.spec (λ c κs. search needs) returns returns-2 returns-3)

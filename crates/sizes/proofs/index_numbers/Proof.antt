@@ -5,29 +5,28 @@ use Rattle.sizes.specs.Numbers.{indexNumbers}
 use Rattle.sizes.proofs.index_numbers.Statement.{statement}
 use Rattle.sizes.proofs.index_numbers.Tie as tie
 
-deal-size-allowed-requires : tie.Need-deal-size-allowed-requires
-deal-size-allowed-requires c κs = search needs
-
 returns : tie.Need-returns
 unfolding indexNumbers
 returns c = simp (sym (c .before .deal-size-allowed .ensures) ∙ not-true _ (c .if1 .taken))
-
-entry-count-requires : tie.Need-entry-count-requires
-entry-count-requires c κs = search needs
 
 index-start-requires : tie.Need-index-start-requires
 index-start-requires c κs = sym (c .before .before .deal-size-allowed .ensures) ∙ not-false _ (c .before .if1 .left)
 
 returns-2 : tie.Need-returns-2
 unfolding indexNumbers
-returns-2 c = simp (sym (c .before .before .before .deal-size-allowed .ensures) ∙ not-false _ (c .before .before .if1 .left), c .before .entry-count .ensures, c .index-start .ensures)
+returns-2 c =
+    simp (
+      sym (c .before .before .before .deal-size-allowed .ensures) ∙ not-false _ (c .before .before .if1 .left),
+      c .before .entry-count .ensures,
+      c .index-start .ensures,
+    )
 
 pub index-numbers-spec : {M : Type 1} → statement M
 index-numbers-spec =
     tie.close
     (tie.spec
-    deal-size-allowed-requires
+    (λ c κs. search needs)
     returns
-    entry-count-requires
+    (λ c κs. search needs)
     index-start-requires
     returns-2)

@@ -4,12 +4,11 @@ use Rattle.sizes.specs.Sizes.{lentSizeAllowed}
 use Rattle.sizes.proofs.lent_size_allowed.Statement.{statement}
 use Rattle.sizes.proofs.lent_size_allowed.Tie as tie
 
-is-power-of-two-usize-requires : tie.Need-is-power-of-two-usize-requires
-is-power-of-two-usize-requires c κs = search needs
-
 returns : tie.Need-returns
 unfolding lentSizeAllowed
-returns c = simp (le-leb _ _ (c .before .before .if1 .taken), le-leb _ _ (c .before .if2 .taken)) (c .is-power-of-two-usize .ensures)
+returns c =
+    simp (le-leb _ _ (c .before .before .if1 .taken), le-leb _ _ (c .before .if2 .taken))
+    (c .is-power-of-two-usize .ensures)
 
 returns-2 : tie.Need-returns-2
 unfolding lentSizeAllowed
@@ -20,4 +19,4 @@ unfolding lentSizeAllowed
 returns-3 c = simp (lt-leb _ _ (c .if1 .left))
 
 pub lent-size-allowed-spec : {M : Type 1} → statement M
-lent-size-allowed-spec = tie.close (tie.spec is-power-of-two-usize-requires returns returns-2 returns-3)
+lent-size-allowed-spec = tie.close (tie.spec (λ c κs. search needs) returns returns-2 returns-3)

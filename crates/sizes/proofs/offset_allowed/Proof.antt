@@ -8,17 +8,11 @@ use Rattle.sizes.proofs.OffsetTest.{ends-by}
 use Rattle.sizes.proofs.offset_allowed.Statement.{statement}
 use Rattle.sizes.proofs.offset_allowed.Tie as tie
 
-area-requires : tie.Need-area-requires
-area-requires c κs = search needs
-
 rem-if1 : tie.Need-rem-if1
 rem-if1 c =
     let s = c .before in
     let z = segment-size (s .args .d) (s .args .size) (deal-size (s .args .d) (s .pre .0)) (s .pre .1) in
     omega arith
-
-index-start-requires : tie.Need-index-start-requires
-index-start-requires c κs = search needs
 
 sub-result : tie.Need-sub-result
 sub-result c =
@@ -38,7 +32,8 @@ returns c =
     let taken = c .before .before .area .result in
     let start = c .index-start .result in
     let h : taken ≤ start = omega arith in
-    simp (← c .before .before .area .ensures, ← c .index-start .ensures, eq-eqb _ _ (c .before .if1 .taken)) (ends-by (s .args .offset) taken start h)
+    simp (← c .before .before .area .ensures, ← c .index-start .ensures, eq-eqb _ _ (c .before .if1 .taken))
+    (ends-by (s .args .offset) taken start h)
 
 returns-2 : tie.Need-returns-2
 unfolding offsetAllowed
@@ -46,4 +41,4 @@ returns-2 c = simp (← c .before .area .ensures, ne-eqb _ _ (c .if1 .left))
 
 pub offset-allowed-spec : {M : Type 1} → statement M
 offset-allowed-spec =
-    tie.close (tie.spec area-requires rem-if1 index-start-requires sub-result returns returns-2)
+    tie.close (tie.spec (λ c κs. search needs) rem-if1 (λ c κs. search needs) sub-result returns returns-2)

@@ -4,20 +4,19 @@ use Rattle.sizes.specs.Sizes.{placeAllowed}
 use Rattle.sizes.proofs.place_allowed.Statement.{statement}
 use Rattle.sizes.proofs.place_allowed.Tie as tie
 
-index-start-requires : tie.Need-index-start-requires
-index-start-requires c κs = search needs
-
 returns : tie.Need-returns
 unfolding placeAllowed
-returns c = simp (eq-eqb _ _ (c .before .before .if1 .taken), ← c .before .index-start .ensures, le-leb _ _ (c .if2 .taken))
+returns c =
+    simp (eq-eqb _ _ (c .before .before .if1 .taken), ← c .before .index-start .ensures, le-leb _ _ (c .if2 .taken))
 
 returns-2 : tie.Need-returns-2
 unfolding placeAllowed
-returns-2 c = simp (eq-eqb _ _ (c .before .before .if1 .taken), ← c .before .index-start .ensures, lt-leb _ _ (c .if2 .left))
+returns-2 c =
+    simp (eq-eqb _ _ (c .before .before .if1 .taken), ← c .before .index-start .ensures, lt-leb _ _ (c .if2 .left))
 
 returns-3 : tie.Need-returns-3
 unfolding placeAllowed
 returns-3 c = simp (ne-eqb _ _ (c .if1 .left))
 
 pub place-allowed-spec : {M : Type 1} → statement M
-place-allowed-spec = tie.close (tie.spec index-start-requires returns returns-2 returns-3)
+place-allowed-spec = tie.close (tie.spec (λ c κs. search needs) returns returns-2 returns-3)

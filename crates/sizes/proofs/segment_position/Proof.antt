@@ -5,15 +5,9 @@ use Rattle.sizes.specs.Sizes.{segmentPosition}
 use Rattle.sizes.proofs.segment_position.Statement.{statement}
 use Rattle.sizes.proofs.segment_position.Tie as tie
 
-area-requires : tie.Need-area-requires
-area-requires c κs = search needs
-
-div-result : tie.Need-div-result
-div-result c = search needs
-
 returns : tie.Need-returns
 unfolding segmentPosition
 returns c = ap (λ (n : ℕ). c .before .args .offset / n) (c .area .ensures)
 
 pub segment-position-spec : {M : Type 1} → statement M
-segment-position-spec = tie.close (tie.spec area-requires div-result returns)
+segment-position-spec = tie.close (tie.spec (λ c κs. search needs) (λ c. search needs) returns)

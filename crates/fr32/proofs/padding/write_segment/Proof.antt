@@ -13,28 +13,16 @@ use Rattle.fr32.proofs.padding.write_segment.Statement.{statement}
 use Rattle.fr32.proofs.padding.write_segment.Tie as tie
 
 abbrev Inv-loop : tie.InvT-loop
-Inv-loop raw output₀ n q₀ output q = (q ≤ n) × (output ≡ paste output₀ 0 (padded raw) q) × (length output ≡ length output₀)
+Inv-loop raw output₀ n q₀ output q =
+    (q ≤ n) × (output ≡ paste output₀ 0 (padded raw) q) × (length output ≡ length output₀)
 
 abbrev μ-loop : tie.MeasureT-loop
 μ-loop raw output₀ n q₀ output q = n - q
 
-segment-length-requires : tie.Need-segment-length-requires Inv-loop μ-loop
-segment-length-requires c κs = search needs
-
 loop-holds : tie.Need-loop-holds Inv-loop μ-loop
-loop-holds c = let a = c .before .before .before .args in (search needs, paste-zero (now (a .output)) 0 (padded (now (a .raw))), refl)
-
-segment-byte-requires : tie.Need-segment-byte-requires Inv-loop μ-loop
-segment-byte-requires c κs = search needs
-
-slice-write-output : tie.Need-slice-write-output Inv-loop μ-loop
-slice-write-output c = search needs
-
-add-q : tie.Need-add-q Inv-loop μ-loop
-add-q c = search needs
-
-loop-less : tie.Need-loop-less Inv-loop μ-loop
-loop-less c = search needs
+loop-holds c =
+    let a =
+    c .before .before .before .args in (search needs, paste-zero (now (a .output)) 0 (padded (now (a .raw))), refl)
 
 loop-again : tie.Need-loop-again Inv-loop μ-loop
 loop-again c =
@@ -43,12 +31,10 @@ loop-again c =
     let a = n .before .before .before .args in
     let known = length-padded (now (a .raw)) in (
       search needs,
-      byte-written (now (a .output)) (padded (now (a .raw))) (l .loop .output) (l .loop .q) (c .segment-byte .result) (l .loop .inv .1) (c .segment-byte .ensures) (omega arith) (omega (arith, n .segment-length .ensures)),
+      byte-written (now (a .output)) (padded (now (a .raw))) (l .loop .output) (l .loop .q) (c .segment-byte .result)
+          (l .loop .inv .1) (c .segment-byte .ensures) (omega arith) (omega (arith, n .segment-length .ensures)),
       simp length-set (omega arith),
     )
-
-same-length : tie.Need-same-length Inv-loop μ-loop
-same-length c = search needs
 
 returns : tie.Need-returns Inv-loop μ-loop
 returns c =
@@ -56,7 +42,8 @@ returns c =
     let n = l .before in
     let a = n .before .before .before .args in
     let known = length-padded (now (a .raw)) in
-    l .loop .inv .1 ∙ end-written (now (a .output)) (padded (now (a .raw))) (l .loop .q) (omega (arith, n .segment-length .ensures))
+    l .loop .inv .1
+    ∙ end-written (now (a .output)) (padded (now (a .raw))) (l .loop .q) (omega (arith, n .segment-length .ensures))
 
 pub write-segment-spec : {M : Type 1} → statement M
 write-segment-spec =
@@ -64,12 +51,12 @@ write-segment-spec =
     (tie.spec
     Inv-loop
     μ-loop
-    segment-length-requires
+    (λ c κs. search needs)
     loop-holds
-    segment-byte-requires
-    slice-write-output
-    add-q
-    loop-less
+    (λ c κs. search needs)
+    (λ c. search needs)
+    (λ c. search needs)
+    (λ c. search needs)
     loop-again
-    same-length
+    (λ c. search needs)
     returns)

@@ -6,18 +6,14 @@ use borrow.Author.Needs.{needs}
 use Rattle.fr32.proofs.unpadding.only_raw_bits.Statement.{statement}
 use Rattle.fr32.proofs.unpadding.only_raw_bits.Tie as tie
 
-no-stray-bits-requires : tie.Need-no-stray-bits-requires
-no-stray-bits-requires c κs = search needs
-
-raw-byte-requires : tie.Need-raw-byte-requires
-raw-byte-requires c κs = search needs
-
 returns : tie.Need-returns
 returns c =
     let n = c .before .before in
     let s = n .before .before in
     let segment = now (s .args .segment) in
-    after-raw (s .args .n) (s .args .n) segment (s .pre .1) (c .raw-byte .ensures) refl (bytes-of-slice segment (n .before .shared-slice-known .given)) (sym (n .no-stray-bits .ensures) ∙ c .before .if1 .taken)
+    after-raw (s .args .n) (s .args .n) segment (s .pre .1) (c .raw-byte .ensures) refl
+    (bytes-of-slice segment (n .before .shared-slice-known .given))
+    (sym (n .no-stray-bits .ensures) ∙ c .before .if1 .taken)
 
 returns-2 : tie.Need-returns-2
 returns-2 c =
@@ -27,4 +23,4 @@ returns-2 c =
 
 pub only-raw-bits-spec : {M : Type 1} → statement M
 only-raw-bits-spec =
-    tie.close (tie.spec no-stray-bits-requires raw-byte-requires returns returns-2)
+    tie.close (tie.spec (λ c κs. search needs) (λ c κs. search needs) returns returns-2)

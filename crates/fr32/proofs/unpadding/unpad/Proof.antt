@@ -4,22 +4,18 @@ use lib.ListN.{length}
 use denote.Ref.{now}
 use borrow.Author.Tests.{not-true, not-false}
 use Rattle.fr32.specs.Padding.{rawLengthAllowed, segmentLength}
-use Rattle.fr32.proofs.Answers.{largest-raw, unpad-length-refused, segment-refused, bits-refused, unpad-output-short, unpad-done}
+use Rattle.fr32.proofs.Answers.{largest-raw, unpad-length-refused, segment-refused, bits-refused}
+use Rattle.fr32.proofs.Answers.{unpad-output-short, unpad-done}
 use borrow.Author.Needs.{needs}
 use Rattle.fr32.proofs.unpadding.unpad.Statement.{statement}
 use Rattle.fr32.proofs.unpadding.unpad.Tie as tie
-
-raw-length-allowed-requires : tie.Need-raw-length-allowed-requires
-raw-length-allowed-requires c κs = search needs
-
-refused-requires : tie.Need-refused-requires
-refused-requires c κs = search needs
 
 returns : tie.Need-returns
 returns c =
     let l = c .before .before in
     let a = l .before .before .before .args in
-    unpad-length-refused (a .raw-length) (now (a .segment)) (now (a .output)) (c .refused .ensures) (sym (l .raw-length-allowed .ensures) ∙ not-true _ (c .before .if1 .taken))
+    unpad-length-refused (a .raw-length) (now (a .segment)) (now (a .output)) (c .refused .ensures)
+    (sym (l .raw-length-allowed .ensures) ∙ not-true _ (c .before .if1 .taken))
 
 -- the raw length is allowed
 allowed : (c : tie.Else1) → rawLengthAllowed (c .before .before .before .before .args .raw-length) ≡ true
@@ -28,17 +24,17 @@ allowed c = sym (c .before .raw-length-allowed .ensures) ∙ not-false _ (c .if1
 segment-length-requires : tie.Need-segment-length-requires
 segment-length-requires c κs = largest-raw (c .before .before .before .before .args .raw-length) (allowed c)
 
-refused-requires-2 : tie.Need-refused-requires-2
-refused-requires-2 c κs = search needs
-
 returns-2 : tie.Need-returns-2
 returns-2 c =
     let m = c .before .before in
     let a = m .before .before .before .before .before .args in
-    segment-refused (a .raw-length) (now (a .segment)) (now (a .output)) (allowed (m .before)) (c .refused2 .ensures) (λ e. c .before .if2 .taken (e ∙ sym (m .segment-length .ensures)))
+    segment-refused (a .raw-length) (now (a .segment)) (now (a .output)) (allowed (m .before)) (c .refused2 .ensures)
+    (λ e. c .before .if2 .taken (e ∙ sym (m .segment-length .ensures)))
 
 -- and the segment has the length that it gives
-sized : (c : tie.Else2) → length (now (c .before .before .before .before .before .before .args .segment)) ≡ segmentLength (c .before .before .before .before .before .before .args .raw-length)
+sized : (c : tie.Else2)
+    → length (now (c .before .before .before .before .before .before .args .segment))
+    ≡ segmentLength (c .before .before .before .before .before .before .args .raw-length)
 sized c = c .if2 .left ∙ c .before .segment-length .ensures
 
 only-raw-bits-requires : tie.Need-only-raw-bits-requires
@@ -46,18 +42,13 @@ only-raw-bits-requires c κs =
     let e = c .before .before in
     (largest-raw (e .before .before .before .before .args .raw-length) (allowed e), sized c)
 
-refused-requires-3 : tie.Need-refused-requires-3
-refused-requires-3 c κs = search needs
-
 returns-3 : tie.Need-returns-3
 returns-3 c =
     let o = c .before .before in
     let e = o .before .before .before in
     let a = e .before .before .before .before .args in
-    bits-refused (a .raw-length) (now (a .segment)) (now (a .output)) (allowed e) (sized (o .before)) (c .refused3 .ensures) (sym (o .only-raw-bits .ensures) ∙ not-true _ (c .before .if3 .taken))
-
-refused-requires-4 : tie.Need-refused-requires-4
-refused-requires-4 c κs = search needs
+    bits-refused (a .raw-length) (now (a .segment)) (now (a .output)) (allowed e) (sized (o .before))
+    (c .refused3 .ensures) (sym (o .only-raw-bits .ensures) ∙ not-true _ (c .before .if3 .taken))
 
 returns-4 : tie.Need-returns-4
 returns-4 c =
@@ -65,16 +56,17 @@ returns-4 c =
     let o = i .before in
     let e = o .before .before .before in
     let a = e .before .before .before .before .args in
-    unpad-output-short (a .raw-length) (now (a .segment)) (now (a .output)) (allowed e) (sized (o .before)) (c .refused4 .ensures) (sym (o .only-raw-bits .ensures) ∙ not-false _ (i .if3 .left)) (c .before .if4 .taken)
+    unpad-output-short (a .raw-length) (now (a .segment)) (now (a .output)) (allowed e) (sized (o .before))
+    (c .refused4 .ensures) (sym (o .only-raw-bits .ensures) ∙ not-false _ (i .if3 .left)) (c .before .if4 .taken)
 
 write-raw-requires : tie.Need-write-raw-requires
 write-raw-requires c κs =
     let o = c .before .before .before in
-    let e = o .before .before .before in
-    (largest-raw (e .before .before .before .before .args .raw-length) (allowed e), sized (o .before), c .before .if4 .left)
-
-same-length : tie.Need-same-length
-same-length c = search needs
+    let e = o .before .before .before in (
+      largest-raw (e .before .before .before .before .args .raw-length) (allowed e),
+      sized (o .before),
+      c .before .if4 .left,
+    )
 
 returns-5 : tie.Need-returns-5
 returns-5 c =
@@ -84,23 +76,24 @@ returns-5 c =
     let o = i .before in
     let e = o .before .before .before in
     let a = e .before .before .before .before .args in
-    unpad-done (a .raw-length) (now (a .segment)) (now (a .output)) (allowed e) (sized (o .before)) refl (sym (o .only-raw-bits .ensures) ∙ not-false _ (i .if3 .left)) (r .if4 .left) (w .write-raw .ensures)
+    unpad-done (a .raw-length) (now (a .segment)) (now (a .output)) (allowed e) (sized (o .before)) refl
+    (sym (o .only-raw-bits .ensures) ∙ not-false _ (i .if3 .left)) (r .if4 .left) (w .write-raw .ensures)
 
 pub unpad-spec : {M : Type 1} → statement M
 unpad-spec =
     tie.close
     (tie.spec
-    raw-length-allowed-requires
-    refused-requires
+    (λ c κs. search needs)
+    (λ c κs. search needs)
     returns
     segment-length-requires
-    refused-requires-2
+    (λ c κs. search needs)
     returns-2
     only-raw-bits-requires
-    refused-requires-3
+    (λ c κs. search needs)
     returns-3
-    refused-requires-4
+    (λ c κs. search needs)
     returns-4
     write-raw-requires
-    same-length
+    (λ c. search needs)
     returns-5)

@@ -14,25 +14,16 @@ use Rattle.fr32.proofs.unpadding.write_raw.Statement.{statement}
 use Rattle.fr32.proofs.unpadding.write_raw.Tie as tie
 
 abbrev Inv-loop : tie.InvT-loop
-Inv-loop n segment output₀ p₀ output p = (p ≤ n) × (output ≡ paste output₀ 0 (unpadded n segment) p) × (length output ≡ length output₀)
+Inv-loop n segment output₀ p₀ output p =
+    (p ≤ n) × (output ≡ paste output₀ 0 (unpadded n segment) p) × (length output ≡ length output₀)
 
 abbrev μ-loop : tie.MeasureT-loop
 μ-loop n segment output₀ p₀ output p = n - p
 
 loop-holds : tie.Need-loop-holds Inv-loop μ-loop
-loop-holds c = let a = c .before .before .args in (search needs, paste-zero (now (a .output)) 0 (unpadded (a .n) (now (a .segment))), refl)
-
-raw-byte-requires : tie.Need-raw-byte-requires Inv-loop μ-loop
-raw-byte-requires c κs = search needs
-
-slice-write-output : tie.Need-slice-write-output Inv-loop μ-loop
-slice-write-output c = search needs
-
-add-p : tie.Need-add-p Inv-loop μ-loop
-add-p c = search needs
-
-loop-less : tie.Need-loop-less Inv-loop μ-loop
-loop-less c = search needs
+loop-holds c =
+    let a =
+    c .before .before .args in (search needs, paste-zero (now (a .output)) 0 (unpadded (a .n) (now (a .segment))), refl)
 
 loop-again : tie.Need-loop-again Inv-loop μ-loop
 loop-again c =
@@ -42,13 +33,12 @@ loop-again c =
     let segment = now (s .args .segment) in
     let known = length-unpadded n segment in (
       search needs,
-      byte-written (now (s .args .output)) (unpadded n segment) (l .loop .output) (l .loop .p) (c .raw-byte .result) (l .loop .inv .1)
-          (raw-place n (l .loop .p) segment (s .pre .1) (c .raw-byte .ensures) (c .before .loop-test .taken)) (omega arith) (omega arith),
+      byte-written (now (s .args .output)) (unpadded n segment) (l .loop .output) (l .loop .p) (c .raw-byte .result)
+          (l .loop .inv .1)
+          (raw-place n (l .loop .p) segment (s .pre .1) (c .raw-byte .ensures) (c .before .loop-test .taken))
+          (omega arith) (omega arith),
       simp length-set (omega arith),
     )
-
-same-length : tie.Need-same-length Inv-loop μ-loop
-same-length c = search needs
 
 returns : tie.Need-returns Inv-loop μ-loop
 returns c =
@@ -64,10 +54,10 @@ write-raw-spec =
     Inv-loop
     μ-loop
     loop-holds
-    raw-byte-requires
-    slice-write-output
-    add-p
-    loop-less
+    (λ c κs. search needs)
+    (λ c. search needs)
+    (λ c. search needs)
+    (λ c. search needs)
     loop-again
-    same-length
+    (λ c. search needs)
     returns)

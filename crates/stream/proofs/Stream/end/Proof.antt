@@ -10,12 +10,14 @@ use borrow.Author.Tests.{not-true, not-false}
 use Rattle.octets.specs.Splice.{part}
 use Rattle.pow2.specs.Power.{powerBetween}
 use Rattle.stream.specs.Stream.{largest}
-use Rattle.stream.specs.StreamLaws.{ends-stray, ends-failed, ends-refused, ends-committed, tree-height, height-waits}
+use Rattle.stream.specs.StreamLaws.{ends-stray, ends-failed, ends-refused, ends-committed, tree-height}
+use Rattle.stream.specs.StreamLaws.{height-waits}
 use Rattle.stream.proofs.Stream.end.Statement.{statement}
 use Rattle.stream.proofs.Stream.end.Tie as tie
 
 -- the test on the number of bytes, where it is passed
-allowed : (c : tie.Else3) → powerBetween 32 largest (c .before .before .before .before .before .before .args .self .count) ≡ true
+allowed : (c : tie.Else3)
+    → powerBetween 32 largest (c .before .before .before .before .before .before .args .self .count) ≡ true
 allowed c = sym (c .before .is-power-between .ensures) ∙ not-false _ (c .if3 .left)
 
 returns : tie.Need-returns
@@ -27,7 +29,9 @@ returns-2 c = c .refused2 .ensures ∙ sym (ends-failed _ (c .before .if2 .taken
 returns-3 : tie.Need-returns-3
 returns-3 c =
     let p = c .before .before in
-    c .refused3 .ensures ∙ sym (ends-refused _ (p .before .if2 .left) (sym (p .is-power-between .ensures) ∙ not-true _ (c .before .if3 .taken)))
+    c .refused3 .ensures
+    ∙ sym
+    (ends-refused _ (p .before .if2 .left) (sym (p .is-power-between .ensures) ∙ not-true _ (c .before .if3 .taken)))
 
 sub-height : tie.Need-sub-height
 sub-height c = simp (c .log2 .ensures) (tree-height _ (allowed (c .before)))
@@ -44,8 +48,11 @@ returns-4 : tie.Need-returns-4
 returns-4 c =
     let e = c .before .before .before .before in
     let s = e .before .before .before .before .before .before .args .self in
-    let node = c .node-at .ensures ∙ ap (λ (n : ℕ). part (s .waiting) (32 * (n - 5)) 32) (c .before .before .before .log2 .ensures) in
-    ap (λ (v : List ℕ). record { code = 0; node = v; count = s .count }) node ∙ sym (ends-committed s (e .before .before .if2 .left) (allowed e))
+    let node =
+    c .node-at .ensures
+    ∙ ap (λ (n : ℕ). part (s .waiting) (32 * (n - 5)) 32) (c .before .before .before .log2 .ensures) in
+    ap (λ (v : List ℕ). record { code = 0; node = v; count = s .count }) node
+    ∙ sym (ends-committed s (e .before .before .if2 .left) (allowed e))
 
 pub end-spec : {M : Type 1} → statement M
 end-spec =

@@ -15,19 +15,24 @@ use Rattle.stream.proofs.Stream.take.Tie as tie
 
 abbrev Inv-loop : tie.InvT-loop
 Inv-loop self piece count₀ partial₀ waiting₀ i₀ count partial waiting i =
-    (i ≤ length piece) × (length waiting ≡ 1024) × (takePiece self piece ≡ takePiece (running count partial waiting) (drop i piece))
+    (i ≤ length piece) × (length waiting ≡ 1024)
+    × (takePiece self piece ≡ takePiece (running count partial waiting) (drop i piece))
 
 abbrev μ-loop : tie.MeasureT-loop
 μ-loop self piece count₀ partial₀ waiting₀ i₀ count partial waiting i = length piece - i
 
 returns : tie.Need-returns Inv-loop μ-loop
-returns c = let a = c .before .before .before .args in sym (piece-after-failure (a .self) (now (a .piece)) (c .if1 .taken))
+returns c =
+    let a = c .before .before .before .args in sym (piece-after-failure (a .self) (now (a .piece)) (c .if1 .taken))
 
 loop-holds : tie.Need-loop-holds Inv-loop μ-loop
 loop-holds c =
     let t = c .before .before in
-    let a = t .before .before .before .args in
-    (search needs, search needs, ap (λ (s : Stream). takePiece s (now (a .piece))) (is-running (a .self) (t .if1 .left)))
+    let a = t .before .before .before .args in (
+      search needs,
+      search needs,
+      ap (λ (s : Stream). takePiece s (now (a .piece))) (is-running (a .self) (t .if1 .left)),
+    )
 
 returns-2 : tie.Need-returns-2 Inv-loop μ-loop
 returns-2 c =
@@ -43,7 +48,8 @@ returns-3 c =
     let a = l .before .before .before .before .before .before .args in
     let put = withByte (l .loop .partial) (l .loop .count) (getD (now (a .piece)) (l .loop .i) 0) in
     let t = turn-stray (a .self) (now (a .piece)) (l .loop .count) (l .loop .partial) (l .loop .waiting) (l .loop .i) in
-    c .failed-with2 .ensures ∙ sym (t (omega arith) (l .loop .inv .2) (omega arith) put refl (f .if3 .taken) (c .before .if4 .taken))
+    c .failed-with2 .ensures
+    ∙ sym (t (omega arith) (l .loop .inv .2) (omega arith) put refl (f .if3 .taken) (c .before .if4 .taken))
 
 loop-again : tie.Need-loop-again Inv-loop μ-loop
 loop-again c =
@@ -56,7 +62,8 @@ loop-again c =
       search needs,
       search needs,
       t (omega arith) (l .loop .inv .2) (omega arith) put refl (f .if3 .taken) (omega arith)
-          ∙ ap (λ (w : List ℕ). takePiece (running (count + 1) put w) (drop (l .loop .i + 1) (now (a .piece)))) (sym (c .before .add-node .ensures)),
+          ∙ ap (λ (w : List ℕ). takePiece (running (count + 1) put w) (drop (l .loop .i + 1) (now (a .piece))))
+          (sym (c .before .add-node .ensures)),
     )
 
 loop-again-2 : tie.Need-loop-again-2 Inv-loop μ-loop
@@ -72,8 +79,12 @@ returns-4 c =
     let l = c .before in
     let t = l .before .before .before in
     let a = t .before .before .before .args in
-    ap (λ (v : ℕ). record { code = v; count = l .loop .count; partial = l .loop .partial; waiting = l .loop .waiting }) (t .if1 .left)
-    ∙ sym (l .loop .inv .2 ∙ turn-over (running (l .loop .count) (l .loop .partial) (l .loop .waiting)) (now (a .piece)) (l .loop .i) (omega arith))
+    ap (λ (v : ℕ). record { code = v; count = l .loop .count; partial = l .loop .partial; waiting = l .loop .waiting })
+    (t .if1 .left)
+    ∙ sym
+    (l .loop .inv .2
+    ∙ turn-over (running (l .loop .count) (l .loop .partial) (l .loop .waiting)) (now (a .piece)) (l .loop .i)
+    (omega arith))
 
 pub take-spec : {M : Type 1} → statement M
 take-spec =

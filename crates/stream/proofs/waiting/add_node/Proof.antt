@@ -13,7 +13,8 @@ use Rattle.stream.proofs.waiting.add_node.Tie as tie
 
 abbrev Inv-loop : tie.InvT-loop
 Inv-loop waiting k height₀ nodes₀ new₀ height nodes new =
-    (height ≤ 31) × (nodes < 2 ^ (31 - height)) × (withNode 32 0 k new₀ waiting ≡ withNode (32 - height) height nodes new waiting)
+    (height ≤ 31) × (nodes < 2 ^ (31 - height))
+    × (withNode 32 0 k new₀ waiting ≡ withNode (32 - height) height nodes new waiting)
 
 abbrev μ-loop : tie.MeasureT-loop
 μ-loop waiting k height₀ nodes₀ new₀ height nodes new = nodes
@@ -26,7 +27,8 @@ loop-again c =
     let h = l .loop .height in
     let k = l .loop .nodes in
     let up = height-left h k (l .loop .inv .0) (l .loop .inv .1) (t .loop-test .taken) in
-    let pair = c .before .join .ensures ∙ ap (λ (v : List ℕ). v ++ l .loop .new) (c .before .before .node-at .ensures) in
+    let pair =
+    c .before .join .ensures ∙ ap (λ (v : List ℕ). v ++ l .loop .new) (c .before .before .node-at .ensures) in
     let parent = c .node-hash .ensures ∙ ap nodeHash pair in (
       up .0,
       up .1,

@@ -10,27 +10,18 @@ returns c =
     let a = c .before .before .before .args in
     (wrong-length 32 (now (a .digest)) _ (c .if1 .taken), refl)
 
-sha256-requires : tie.Need-sha256-requires
-sha256-requires c κs = search needs
-
-write-32-bytes-requires : tie.Need-write-32-bytes-requires
-write-32-bytes-requires c κs = search needs
-
-cast-result : tie.Need-cast-result
-cast-result c = search needs
-
-same-length : tie.Need-same-length
-same-length c = search needs
-
 returns-2 : tie.Need-returns-2
 returns-2 c =
     let w = c .before .before .before in
     let k = w .before .before .before .before in
     let i = k .before in
     let a = i .before .before .before .args in
-    rw (← k .sha256 .ensures) (right-length 32 (now (a .digest)) (k .sha256 .result .code) (i .if1 .left), w .write-32-bytes .ensures)
+    rw (← k .sha256 .ensures) (
+      right-length 32 (now (a .digest)) (k .sha256 .result .code) (i .if1 .left),
+      w .write-32-bytes .ensures,
+    )
 
 pub vz-sha256-spec : {M : Type 1} → statement M
 vz-sha256-spec =
     tie.close
-    (tie.spec returns sha256-requires write-32-bytes-requires cast-result same-length returns-2)
+    (tie.spec returns (λ c κs. search needs) (λ c κs. search needs) (λ c. search needs) (λ c. search needs) returns-2)

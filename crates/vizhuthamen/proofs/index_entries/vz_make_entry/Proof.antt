@@ -10,33 +10,24 @@ returns c =
     let a = c .before .before .before .args in
     (wrong-length 64 (now (a .entry)) _ (c .if1 .taken), refl)
 
-make-entry-requires : tie.Need-make-entry-requires
-make-entry-requires c κs = search needs
-
-write-64-bytes-requires : tie.Need-write-64-bytes-requires
-write-64-bytes-requires c κs = search needs
-
-cast-result : tie.Need-cast-result
-cast-result c = search needs
-
-same-length : tie.Need-same-length
-same-length c = search needs
-
 returns-2 : tie.Need-returns-2
 returns-2 c =
     let w = c .before .before .before in
     let k = w .before .before .before .before in
     let i = k .before in
     let a = i .before .before .before .args in
-    rw (← k .make-entry .ensures) (right-length 64 (now (a .entry)) (k .make-entry .result .code) (i .if1 .left), w .write-64-bytes .ensures)
+    rw (← k .make-entry .ensures) (
+      right-length 64 (now (a .entry)) (k .make-entry .result .code) (i .if1 .left),
+      w .write-64-bytes .ensures,
+    )
 
 pub vz-make-entry-spec : {M : Type 1} → statement M
 vz-make-entry-spec =
     tie.close
     (tie.spec
     returns
-    make-entry-requires
-    write-64-bytes-requires
-    cast-result
-    same-length
+    (λ c κs. search needs)
+    (λ c κs. search needs)
+    (λ c. search needs)
+    (λ c. search needs)
     returns-2)

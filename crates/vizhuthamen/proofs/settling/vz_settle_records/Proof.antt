@@ -1,33 +1,32 @@
 use mathlib.Core.Path.{refl, _∙_}
+use mathlib.Core.List.{List}
+use Prim.Native.Nat.{ℕ}
 use denote.Ref.{now}
 use borrow.Author.Needs.{needs}
-use Rattle.vizhuthamen.specs.Export.{lentCode}
-use Rattle.vizhuthamen.proofs.Outputs.{wrong-length, right-length}
+use Rattle.vizhuthamen.proofs.Outputs.{first-wrong, second-wrong, both-right}
 use Rattle.vizhuthamen.proofs.settling.vz_settle_records.Statement.{statement}
 use Rattle.vizhuthamen.proofs.settling.vz_settle_records.Tie as tie
 
+-- the two outputs
+abbrev left : tie.Start → List ℕ
+left s = now (s .args .left)
+
+abbrev right : tie.Start → List ℕ
+right s = now (s .args .right)
+
+abbrev start : tie.Else1 → tie.Start
+start i = i .before .before .before .before .before .before
+
 returns : tie.Need-returns
 returns c =
-    let a = c .before .before .before .before .before .before .args in
-    (wrong-length 64 (now (a .left)) _ (c .if1 .taken), (refl, refl))
+    let s = c .before .before .before .before .before .before in
+    (first-wrong 64 64 (left s) (right s) _ (c .if1 .taken), (refl, refl))
 
 returns-2 : tie.Need-returns-2
 returns-2 c =
     let i = c .before in
-    let a = i .before .before .before .before .before .before .args in
-    (wrong-length 64 (now (a .right)) _ (c .if2 .taken) ∙ right-length 64 (now (a .left)) _ (i .if1 .left), (refl, refl))
-
-settle-records-requires : tie.Need-settle-records-requires
-settle-records-requires c κs = search needs
-
-write-settled-requires : tie.Need-write-settled-requires
-write-settled-requires c κs = search needs
-
-same-length : tie.Need-same-length
-same-length c = search needs
-
-same-length-2 : tie.Need-same-length-2
-same-length-2 c = search needs
+    let s = start i in
+    (second-wrong 64 64 (left s) (right s) _ (i .if1 .left) (c .if2 .taken), (refl, refl))
 
 returns-3 : tie.Need-returns-3
 returns-3 c =
@@ -35,10 +34,9 @@ returns-3 c =
     let k = w .before .before .before in
     let j = k .before in
     let i = j .before in
-    let a = i .before .before .before .before .before .before .args in
-    let code = k .settle-records .result .code in
-    rw (← k .settle-records .ensures)
-    (w .write-settled .ensures .0 ∙ right-length 64 (now (a .right)) code (j .if2 .left) ∙ right-length 64 (now (a .left)) (lentCode 64 (now (a .right)) code) (i .if1 .left), w .write-settled .ensures .1)
+    let s = start i in
+    let code = both-right 64 64 (left s) (right s) (k .settle-records .result .code) (i .if1 .left) (j .if2 .left) in
+    rw (← k .settle-records .ensures) (w .write-settled .ensures .0 ∙ code, w .write-settled .ensures .1)
 
 pub vz-settle-records-spec : {M : Type 1} → statement M
 vz-settle-records-spec =
@@ -46,8 +44,8 @@ vz-settle-records-spec =
     (tie.spec
     returns
     returns-2
-    settle-records-requires
-    write-settled-requires
-    same-length
-    same-length-2
+    (λ c κs. search needs)
+    (λ c κs. search needs)
+    (λ c. search needs)
+    (λ c. search needs)
     returns-3)

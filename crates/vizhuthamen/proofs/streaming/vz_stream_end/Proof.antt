@@ -1,41 +1,22 @@
-use mathlib.Core.Path.{_≡_, refl, sym, ap, _∙_}
+use mathlib.Core.Path.{_≡_, refl, ap, _∙_}
 use denote.Ref.{now}
 use borrow.Author.Needs.{needs}
-use Rattle.stream.specs.declared.Streamed.{Streamed}
 use Rattle.stream.specs.Stream.{ending}
-use Rattle.stream.specs.Packed.{unpacked}
-use Rattle.vizhuthamen.proofs.Outputs.{wrong-length, right-length}
+use Rattle.stream.specs.Packed.{packedLength, unpacked}
+use Rattle.vizhuthamen.proofs.Outputs.{first-wrong, second-wrong, both-right}
 use Rattle.vizhuthamen.proofs.streaming.vz_stream_end.Statement.{statement}
 use Rattle.vizhuthamen.proofs.streaming.vz_stream_end.Tie as tie
 
 returns : tie.Need-returns
 returns c =
     let a = c .before .before .before .args in
-    (wrong-length 1072 (now (a .state)) _ (c .if1 .taken), (refl, refl))
+    (first-wrong packedLength 32 (now (a .state)) (now (a .node)) _ (c .if1 .taken), (refl, refl))
 
 returns-2 : tie.Need-returns-2
 returns-2 c =
     let i = c .before in
     let a = i .before .before .before .args in
-    (wrong-length 32 (now (a .node)) _ (c .if2 .taken) ∙ right-length 1072 (now (a .state)) _ (i .if1 .left), (refl, refl))
-
-unpack-requires : tie.Need-unpack-requires
-unpack-requires c κs = search needs
-
-end-requires : tie.Need-end-requires
-end-requires c κs = search needs
-
-write-32-bytes-requires : tie.Need-write-32-bytes-requires
-write-32-bytes-requires c κs = search needs
-
-write-u64-requires : tie.Need-write-u64-requires
-write-u64-requires c κs = search needs
-
-cast-result : tie.Need-cast-result
-cast-result c = search needs
-
-same-length : tie.Need-same-length
-same-length c = search needs
+    (second-wrong packedLength 32 (now (a .state)) (now (a .node)) _ (i .if1 .left) (c .if2 .taken), (refl, refl))
 
 returns-3 : tie.Need-returns-3
 returns-3 c =
@@ -48,7 +29,7 @@ returns-3 c =
     let a = i .before .before .before .args in
     let e : k .end .result ≡ ending (unpacked (now (a .state))) = k .end .ensures ∙ ap ending (u .unpack .ensures) in
     rw (← e) (
-      right-length 32 (now (a .node)) (k .end .result .code) (j .if2 .left) ∙ right-length 1072 (now (a .state)) _ (i .if1 .left),
+      both-right packedLength 32 (now (a .state)) (now (a .node)) (k .end .result .code) (i .if1 .left) (j .if2 .left),
       (bytes .write-32-bytes .ensures, count .write-u64 .ensures),
     )
 
@@ -58,10 +39,10 @@ vz-stream-end-spec =
     (tie.spec
     returns
     returns-2
-    unpack-requires
-    end-requires
-    write-32-bytes-requires
-    write-u64-requires
-    cast-result
-    same-length
+    (λ c κs. search needs)
+    (λ c κs. search needs)
+    (λ c κs. search needs)
+    (λ c κs. search needs)
+    (λ c. search needs)
+    (λ c. search needs)
     returns-3)

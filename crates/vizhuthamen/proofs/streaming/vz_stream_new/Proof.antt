@@ -1,29 +1,28 @@
-use mathlib.Core.Path.{refl, ap, _∙_}
+use mathlib.Core.Path.{ap, _∙_}
 use denote.Ref.{now}
 use borrow.Author.Needs.{needs}
-use Rattle.stream.specs.Packed.{packed}
-use Rattle.vizhuthamen.proofs.Outputs.{wrong-length, right-length}
+use Rattle.stream.specs.Packed.{packedLength, packed, packedStart}
+use Rattle.vizhuthamen.proofs.Outputs.{wrong-length, right-length, left-alone, written-over}
 use Rattle.vizhuthamen.proofs.streaming.vz_stream_new.Statement.{statement}
 use Rattle.vizhuthamen.proofs.streaming.vz_stream_new.Tie as tie
 
 returns : tie.Need-returns
-returns c = (wrong-length 1072 (now (c .before .before .args .state)) 0 (c .if1 .taken), refl)
-
-new-requires : tie.Need-new-requires
-new-requires c κs = search needs
-
-pack-requires : tie.Need-pack-requires
-pack-requires c κs = search needs
-
-same-length : tie.Need-same-length
-same-length c = search needs
+returns c =
+    let state = now (c .before .before .args .state) in
+    let wrong = c .if1 .taken in
+    (wrong-length packedLength state 0 wrong, left-alone packedLength state packedStart wrong)
 
 returns-2 : tie.Need-returns-2
 returns-2 c =
     let p = c .before .before in
     let n = p .before .before in
     let i = n .before in
-    (right-length 1072 (now (i .before .before .args .state)) 0 (i .if1 .left), p .pack .ensures ∙ ap packed (n .new .ensures))
+    let state = now (i .before .before .args .state) in
+    let right = i .if1 .left in (
+      right-length packedLength state 0 right,
+      p .pack .ensures ∙ ap packed (n .new .ensures) ∙ written-over packedLength state packedStart right,
+    )
 
 pub vz-stream-new-spec : {M : Type 1} → statement M
-vz-stream-new-spec = tie.close (tie.spec returns new-requires pack-requires same-length returns-2)
+vz-stream-new-spec =
+    tie.close (tie.spec returns (λ c κs. search needs) (λ c κs. search needs) (λ c. search needs) returns-2)
