@@ -5,7 +5,9 @@ Run from anywhere, after tools/levels: python3 tests/levels.py
 The levels are v1 (plain x86-64, the object of `rt staticlib`), v3, v4, and the archive that chooses by the processor. A level that
 this processor lacks is skipped, which is said. tests/replay_levels runs all the replay programs.
 """
+import json
 import os
+import shutil
 import subprocess
 import sys
 from pathlib import Path
@@ -31,7 +33,7 @@ def levels():
 
 
 def replay(name):
-    return ROOT / "rust" / "target" / "levels" / name / "release" / "replay"
+    return MADE / f"replay-{name}"
 
 
 def programs():
@@ -46,8 +48,8 @@ def smoke(name):
     """The C smoke program at a level, built and run: its output."""
     program = MADE / f"smoke-{name}"
     archive = ARCHIVES[name] / "libvizhuthamen.a"
-    subprocess.run(["gcc", "-Wall", "-Wextra", "-Werror", f"-I{ROOT / 'include'}", ROOT / "tests" / "c" / "smoke.c", archive, "-o", program],
-                   check=True)
+    source = ROOT / "tests" / "c" / "smoke.c"
+    subprocess.run(["gcc", "-Wall", "-Wextra", "-Werror", f"-I{ROOT / 'include'}", source, archive, "-o", program], check=True)
     ran = subprocess.run([program], capture_output=True, text=True)
     if ran.returncode:
         sys.exit(f"levels: the C smoke program fails at level {name}:\n{ran.stdout}")
@@ -55,9 +57,14 @@ def smoke(name):
 
 
 def build_replay(name):
-    target = ROOT / "rust" / "target" / "levels" / name
-    subprocess.run(["cargo", "build", "--release", "--offline", "--quiet", "--manifest-path", ROOT / "rust" / "Cargo.toml", "--bin", "replay",
-                    "--target-dir", target], env=os.environ | {"VIZHUTHAMEN_LIB": str(ARCHIVES[name])}, check=True)
+    """The replay program at a level; Cargo says where it puts it."""
+    kind = "--example" if (ROOT / "rust" / "examples" / "replay").is_dir() else "--bin"
+    built = subprocess.run(["cargo", "build", "--release", "--offline", "--quiet", "--manifest-path", ROOT / "rust" / "Cargo.toml",
+                            kind, "replay", "--target-dir", ROOT / "rust" / "target" / "levels" / name,
+                            "--message-format", "json-render-diagnostics"],
+                           env=os.environ | {"VIZHUTHAMEN_LIB": str(ARCHIVES[name])}, check=True, stdout=subprocess.PIPE)
+    made = [json.loads(line).get("executable") for line in built.stdout.splitlines()]
+    shutil.copy2(next(filter(None, made)), replay(name))
 
 
 def main():
