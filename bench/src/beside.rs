@@ -2,10 +2,11 @@
 use crate::aims::Aim;
 use crate::library::Library;
 use crate::peers::{with_sha_instructions, Peer, IPSEC_MB};
-use crate::record::{filled, Longest, DEAL_SIZE};
+use crate::record::{filled, Longest};
 use crate::table;
 use crate::timing::{shown, timed, Times, Work};
 use crate::{DEAL, LONG, SHORT};
+use std::fmt::Debug;
 use std::hint::black_box;
 
 /// Node hashes in a chain.
@@ -21,13 +22,10 @@ struct Column {
 
 /// Prints the table, and what the library is slower in than the fastest peer. The first library is the one that chooses its level.
 pub fn print(libraries: &[Library], peers: &[Box<dyn Peer>]) -> Vec<Aim> {
-    let names: Vec<String> = libraries
-        .iter()
-        .map(|library| format!("library, {}", library.name))
-        .chain(peers.iter().map(|peer| peer.name()))
-        .collect();
-    let columns =
-        [sha256(libraries, peers), node(libraries, peers), commitment(libraries, peers), check(libraries, peers)];
+    let all: Vec<&dyn Peer> =
+        libraries.iter().map(|library| library as &dyn Peer).chain(peers.iter().map(|peer| &**peer)).collect();
+    let names: Vec<String> = all.iter().map(|peer| peer.name()).collect();
+    let columns = [sha256(&all), node(&all), commitment(&all), check(&all)];
     table::print(&headings(&columns), &rows(&names, &columns));
     println!();
     for column in &columns {
@@ -95,88 +93,52 @@ fn aims(times: &Times, names: &[String]) -> Vec<Aim> {
     ]
 }
 
-fn sha256(libraries: &[Library], peers: &[Box<dyn Peer>]) -> Column {
+/// A column of work that is `expected` of every implementation before it is timed.
+fn column<'a, T: PartialEq + Debug>(
+    name: &'static str,
+    all: &[&'a dyn Peer],
+    (rounds, repeats): (usize, usize),
+    work: impl Fn(&dyn Peer) -> T + Copy + 'a,
+) -> Column {
+    let expected = work(all[0]);
+    for peer in all {
+        assert_eq!(work(*peer), expected, "{}: {name}", peer.name());
+    }
+    let mut works: Vec<Work> = all
+        .iter()
+        .map(|peer| {
+            let peer = *peer;
+            Work::new(move || {
+                black_box(work(peer));
+            })
+        })
+        .collect();
+    Column { name, times: timed(&mut works, rounds, repeats), per: 1 }
+}
+
+fn sha256(all: &[&dyn Peer]) -> Column {
     let message = filled(8192);
-    let expected = peers[0].sha256(&message);
-    let mut works = vec![];
-    for library in libraries {
-        assert_eq!(library.digest(&message), expected, "{}", library.name);
-        works.push(Work::new(|| {
-            black_box(library.digest(black_box(&message)));
-        }));
-    }
-    for peer in peers {
-        assert_eq!(peer.sha256(&message), expected, "{}", peer.name());
-        works.push(Work::new(|| {
-            black_box(peer.sha256(black_box(&message)));
-        }));
-    }
-    Column { name: "SHA-256 of 8 KiB", times: timed(&mut works, SHORT, 50), per: 1 }
+    column("SHA-256 of 8 KiB", all, (SHORT, 50), |peer| peer.sha256(black_box(&message)))
 }
 
-/// The library has no node hash of its own: the commitment of 64 bytes is one.
-fn library_chain(library: &Library, pair: &mut [u8; 64], count: usize) {
-    for _ in 0..count {
-        let node = library.root(pair);
-        pair[..32].copy_from_slice(&node);
-    }
-}
-
-fn node(libraries: &[Library], peers: &[Box<dyn Peer>]) -> Column {
+fn node(all: &[&dyn Peer]) -> Column {
     let start: [u8; 64] = filled(64).try_into().expect("64 bytes");
-    let mut expected = start;
-    peers[0].node_chain(&mut expected, 100);
-    let mut works = vec![];
-    for library in libraries {
-        let mut pair = start;
-        library_chain(library, &mut pair, 100);
-        assert_eq!(pair, expected, "{}", library.name);
-        works.push(Work::new(move || library_chain(library, black_box(&mut pair), CHAIN)));
-    }
-    for peer in peers {
-        let mut pair = start;
-        peer.node_chain(&mut pair, 100);
-        assert_eq!(pair, expected, "{}", peer.name());
-        works.push(Work::new(move || peer.node_chain(black_box(&mut pair), CHAIN)));
-    }
-    Column { name: "node hash", times: timed(&mut works, SHORT, 1), per: CHAIN }
+    let chain = |peer: &dyn Peer| {
+        let mut pair = black_box(start);
+        peer.node_chain(&mut pair, CHAIN);
+        pair
+    };
+    Column { per: CHAIN, ..column("node hash", all, (SHORT, 1), chain) }
 }
 
-fn commitment(libraries: &[Library], peers: &[Box<dyn Peer>]) -> Column {
+fn commitment(all: &[&dyn Peer]) -> Column {
     let run = filled(DEAL);
-    let expected = peers[0].commitment(&run);
-    let mut works = vec![];
-    for library in libraries {
-        assert_eq!(library.root(&run), expected, "{}", library.name);
-        works.push(Work::new(|| {
-            black_box(library.root(black_box(&run)));
-        }));
-    }
-    for peer in peers {
-        assert_eq!(peer.commitment(&run), expected, "{}", peer.name());
-        works.push(Work::new(|| {
-            black_box(peer.commitment(black_box(&run)));
-        }));
-    }
-    Column { name: "commitment of 16 MiB", times: timed(&mut works, LONG, 1), per: 1 }
+    column("commitment of 16 MiB", all, (LONG, 1), |peer| peer.commitment(black_box(&run)))
 }
 
-fn check(libraries: &[Library], peers: &[Box<dyn Peer>]) -> Column {
+fn check(all: &[&dyn Peer]) -> Column {
     let longest = Longest::new();
     assert_eq!(longest.record.len(), vizhuthamen::MAX_RECORD);
-    let mut works = vec![];
-    for library in libraries {
-        let check = || library.accepts(&longest.commitment, DEAL_SIZE, black_box(&longest.record));
-        assert!(check(), "{}", library.name);
-        works.push(Work::new(move || {
-            black_box(check());
-        }));
-    }
-    for peer in peers {
-        assert!(peer.check(&longest), "{}", peer.name());
-        works.push(Work::new(|| {
-            black_box(peer.check(&longest));
-        }));
-    }
-    Column { name: "check of 61 hashes", times: timed(&mut works, SHORT, 50), per: 1 }
+    assert!(all[0].check(&longest));
+    column("check of 61 hashes", all, (SHORT, 50), |peer| peer.check(black_box(&longest)))
 }

@@ -1,6 +1,9 @@
-//! The library at one level of x86-64, opened as a shared object, so that several levels are timed in one process.
+//! The library at one level of x86-64, or an earlier one, opened as a shared object: so that all are timed in one process.
+use crate::peers::{Node, Peer};
+use crate::record::{Longest, DEAL_SIZE};
 use std::ffi::{c_char, c_int, c_void, CStr, CString};
 use std::path::Path;
+use vizhuthamen::STREAM_STATE;
 
 extern "C" {
     fn dlopen(path: *const c_char, mode: c_int) -> *mut c_void;
@@ -9,6 +12,9 @@ extern "C" {
 }
 
 const RTLD_NOW: c_int = 2;
+
+/// The levels of x86-64, the lowest first.
+pub const LEVELS: [&str; 3] = ["v1", "v3", "v4"];
 
 type Code = u32;
 type In = *const u8;
@@ -21,6 +27,7 @@ macro_rules! functions {
         #[derive(Clone)]
         pub struct Library {
             pub name: String,
+            object: *mut c_void,
             $(pub $name: unsafe extern "C" fn($($argument),*) -> Code,)*
         }
 
@@ -28,13 +35,14 @@ macro_rules! functions {
         pub const FUNCTIONS: &[&str] = &[$(concat!("vz_", stringify!($name)),)*];
 
         impl Library {
-            /// Opens a shared object; ends the program where it cannot be opened or lacks a function.
+            /// Opens a shared object; ends the program where it cannot be opened. A function that it lacks ends it when called.
             pub fn open(name: &str, file: &Path) -> Library {
                 let object = opened(file);
                 // SAFETY: the object stays open, and its functions have the types of the header.
                 unsafe {
                     Library {
                         name: name.to_string(),
+                        object,
                         $($name: std::mem::transmute::<*mut c_void, unsafe extern "C" fn($($argument),*) -> Code>(
                             function(object, concat!("vz_", stringify!($name))),
                         ),)*
@@ -79,24 +87,34 @@ fn opened(file: &Path) -> *mut c_void {
 }
 
 fn function(object: *mut c_void, name: &str) -> *mut c_void {
-    let symbol = CString::new(name).expect("a name has no zero byte");
-    // SAFETY: the object is open, and the name a C string.
-    let function = unsafe { dlsym(object, symbol.as_ptr()) };
-    assert!(!function.is_null(), "{name} is not in the library");
+    let function = symbol(object, name);
+    if function.is_null() {
+        return absent as *mut c_void;
+    }
     function
 }
 
-/// The calls that the tables beside peers need, as safe functions.
-impl Library {
-    pub fn digest(&self, message: &[u8]) -> [u8; 32] {
-        let mut digest = [0; 32];
-        // SAFETY: both slices are live and apart.
-        let code = unsafe { (self.sha256)(message.as_ptr(), message.len(), digest.as_mut_ptr(), 32) };
-        assert_eq!(code, 0);
-        digest
-    }
+fn symbol(object: *mut c_void, name: &str) -> *mut c_void {
+    let name = CString::new(name).expect("a name has no zero byte");
+    // SAFETY: the object is open, and the name a C string.
+    unsafe { dlsym(object, name.as_ptr()) }
+}
 
-    pub fn root(&self, run: &[u8]) -> [u8; 32] {
+extern "C" fn absent() -> Code {
+    panic!("an earlier library lacks this function");
+}
+
+impl Library {
+    /// The level that the library chooses for a function on this processor; none in a library of one level.
+    pub fn level_of(&self, function: &str) -> Option<&'static str> {
+        let chosen = symbol(self.object, function);
+        LEVELS.into_iter().find(|level| symbol(self.object, &format!("{function}_{level}")) == chosen)
+    }
+}
+
+impl Library {
+    /// The commitment of a run.
+    pub fn root(&self, run: &[u8]) -> Node {
         let mut node = [0; 32];
         // SAFETY: both slices are live and apart.
         let code = unsafe { (self.commitment)(run.as_ptr(), run.len(), node.as_mut_ptr(), 32) };
@@ -104,15 +122,9 @@ impl Library {
         node
     }
 
-    pub fn accepts(&self, commitment: &[u8], size: u64, record: &[u8]) -> bool {
-        // SAFETY: both slices are live, and nothing is written.
-        let code = unsafe { (self.check)(commitment.as_ptr(), commitment.len(), size, record.as_ptr(), record.len()) };
-        code == 0
-    }
-
     /// The commitment of bytes that arrive in pieces of a size.
-    pub fn streamed(&self, bytes: &[u8], piece: usize) -> [u8; 32] {
-        let (mut state, mut node, mut count) = ([0u8; vizhuthamen::STREAM_STATE], [0; 32], 0);
+    pub fn streamed(&self, bytes: &[u8], piece: usize) -> Node {
+        let (mut state, mut node, mut count) = ([0u8; STREAM_STATE], [0; 32], 0);
         // SAFETY: all slices are live and apart.
         unsafe {
             (self.stream_new)(state.as_mut_ptr(), state.len());
@@ -123,5 +135,38 @@ impl Library {
             assert_eq!(code, 0);
         }
         node
+    }
+
+    pub fn accepts(&self, commitment: &[u8], size: u64, record: &[u8]) -> bool {
+        // SAFETY: both slices are live, and nothing is written.
+        let code = unsafe { (self.check)(commitment.as_ptr(), commitment.len(), size, record.as_ptr(), record.len()) };
+        code == 0
+    }
+}
+
+/// The library does what its peers do. It has no node hash of its own: the commitment of 64 bytes is one.
+impl Peer for Library {
+    fn name(&self) -> String {
+        format!("library, {}", self.name)
+    }
+
+    fn sha256(&self, message: &[u8]) -> Node {
+        let mut digest = [0; 32];
+        // SAFETY: both slices are live and apart.
+        let code = unsafe { (self.sha256)(message.as_ptr(), message.len(), digest.as_mut_ptr(), 32) };
+        assert_eq!(code, 0);
+        digest
+    }
+
+    fn node_hash(&self, pair: &[u8; 64]) -> Node {
+        self.root(pair)
+    }
+
+    fn commitment(&self, run: &[u8]) -> Node {
+        self.root(run)
+    }
+
+    fn check(&self, longest: &Longest) -> bool {
+        self.accepts(&longest.commitment, DEAL_SIZE, &longest.record)
     }
 }

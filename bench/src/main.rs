@@ -1,7 +1,8 @@
 //! Times the library beside other implementations of SHA-256, in one process, and prints tables of ratios and a verdict for each aim.
 //!
-//! bench FOLDER [--peers]: FOLDER has chosen.so, v1.so, v3.so and v4.so, the library by level as bench/run makes them. With --peers
-//! only the table beside the peers. bench --functions names the library's functions that are measured.
+//! bench FOLDER [--peers]: FOLDER has chosen.so, v1.so, v3.so and v4.so, the library by level as bench/run makes them, and before.so
+//! where an earlier library is to be compared. With --peers only the table beside the peers. bench --functions names the library's
+//! functions that are measured.
 mod aims;
 mod beside;
 mod deal;
@@ -17,6 +18,7 @@ mod timing;
 use aims::Aim;
 use library::Library;
 use peers::Peer;
+use std::arch::is_x86_feature_detected;
 use std::path::Path;
 
 const DEAL: usize = 1 << 24;
@@ -24,6 +26,8 @@ const SEGMENT: usize = 1 << 16;
 /// Timed runs of long work, and of short work.
 const LONG: usize = 9;
 const SHORT: usize = 51;
+/// The name of an earlier library.
+const BEFORE: &str = "before";
 
 fn main() {
     let words: Vec<String> = std::env::args().skip(1).collect();
@@ -46,11 +50,15 @@ fn beside_peers(libraries: &[Library], peers: &[Box<dyn Peer>]) -> Vec<Aim> {
 fn everything(libraries: &[Library]) {
     let peers = peers::peers();
     let mut aims = beside_peers(libraries, &peers);
-    section("Every routine by level", "The time on the lowest level, then the ratio of each level's time to it.");
-    aims.extend(routines::print(libraries));
+    section(
+        "Every routine by level",
+        "The time on the lowest level, the level chosen here, the ratio of each level's time.",
+    );
+    let now: Vec<Library> = libraries.iter().filter(|library| library.name != BEFORE).cloned().collect();
+    aims.extend(routines::print(&now));
     section("Growth", "Commitments: nanoseconds a node hash, by the size of the run.");
-    growth::print(libraries, &peers);
-    section("Streams", "The commitment of 4 MiB that arrive in pieces, beside that of the whole.");
+    aims.extend(growth::print(libraries, &peers));
+    section("Streams", "The commitment of 4 MiB that arrive in pieces, nanoseconds a byte.");
     aims.extend(stream::print(libraries));
     section(
         "A deal of 16 MiB",
@@ -65,12 +73,12 @@ fn section(name: &str, said: &str) {
     println!("\n### {name}\n\n{said}\n");
 }
 
-/// The library that chooses its level, then each level that this processor has, the lowest first.
+/// The library that chooses its level, each level that this processor has, the lowest first, and the earlier library if there is one.
 fn libraries(folder: &Path) -> Vec<Library> {
-    let has_v3 = std::arch::is_x86_feature_detected!("avx2") && std::arch::is_x86_feature_detected!("bmi2");
-    let has_v4 =
-        has_v3 && std::arch::is_x86_feature_detected!("avx512bw") && std::arch::is_x86_feature_detected!("avx512vl");
-    let levels = [("chosen", true), ("v1", true), ("v3", has_v3), ("v4", has_v4)];
+    let has_v3 = is_x86_feature_detected!("avx2") && is_x86_feature_detected!("bmi2");
+    let has_v4 = has_v3 && is_x86_feature_detected!("avx512bw") && is_x86_feature_detected!("avx512vl");
+    let before = folder.join(format!("{BEFORE}.so")).is_file();
     let open = |(name, _): (&str, bool)| Library::open(name, &folder.join(format!("{name}.so")));
-    levels.into_iter().filter(|(_, has)| *has).map(open).collect()
+    let names = [("chosen", true), ("v1", true), ("v3", has_v3), ("v4", has_v4), (BEFORE, before)];
+    names.into_iter().filter(|(_, has)| *has).map(open).collect()
 }

@@ -2,6 +2,7 @@
 use super::inputs::{Inputs, Kept};
 use super::Case;
 use crate::library::Library;
+use crate::peers::Peer;
 use crate::record::{Longest, DEAL_SIZE};
 use crate::timing::Work;
 use std::hint::black_box;
@@ -25,7 +26,7 @@ fn call<'a>(
     call: impl Fn(&Library) -> u32 + Copy + 'a,
 ) -> Case<'a> {
     case(function, input, repeats, move |library| {
-        Work::new(move || assert_eq!(black_box(call(library)), code, "{function}, {input}"))
+        Work::new(move || assert_eq!(black_box(call(library)), code, "{function}{input}"))
     })
 }
 
@@ -35,8 +36,8 @@ pub fn all(inputs: &Inputs) -> Vec<Case<'_>> {
     cases.extend(paddings(&inputs.bytes));
     cases.extend(entries(&inputs.small));
     cases.extend(checks(&inputs.longest, &inputs.small));
-    cases.extend(over_deal(&inputs.small, "deal of 512 bytes", 50));
-    cases.extend(over_deal(&inputs.large, "deal of 1 MiB", 1));
+    cases.extend(over_deal(&inputs.small, ", deal of 512 bytes", 50));
+    cases.extend(over_deal(&inputs.large, ", deal of 1 MiB", 1));
     cases
 }
 
@@ -44,7 +45,7 @@ fn hashes(bytes: &[u8]) -> Vec<Case<'_>> {
     let sha256 = |input, size: usize| {
         case("vz_sha256", input, (1 << 16) / size, move |library| {
             Work::new(move || {
-                black_box(library.digest(black_box(&bytes[..size])));
+                black_box(Peer::sha256(library, black_box(&bytes[..size])));
             })
         })
     };
@@ -56,14 +57,14 @@ fn hashes(bytes: &[u8]) -> Vec<Case<'_>> {
         })
     };
     vec![
-        sha256("64 bytes", 64),
-        sha256("8 KiB", 8192),
-        commitment("64 bytes", 64),
-        commitment("128 bytes", 128),
-        commitment("256 bytes", 256),
-        commitment("512 bytes", 512),
-        commitment("1 KiB", 1024),
-        commitment("64 KiB", 1 << 16),
+        sha256(", 64 bytes", 64),
+        sha256(", 8 KiB", 8192),
+        commitment(", 64 bytes", 64),
+        commitment(", 128 bytes", 128),
+        commitment(", 256 bytes", 256),
+        commitment(", 512 bytes", 512),
+        commitment(", 1 KiB", 1024),
+        commitment(", 64 KiB", 1 << 16),
     ]
 }
 
@@ -85,11 +86,11 @@ fn streams(bytes: &[u8]) -> Vec<Case<'_>> {
             // SAFETY: the state is a local.
             unsafe { (library.stream_new)(black_box(&mut state).as_mut_ptr(), STREAM_STATE) }
         }),
-        take("piece of 32 bytes", 32),
-        take("piece of 256 bytes", 256),
-        take("piece of 4 KiB", 4096),
-        take("piece of 64 KiB", 1 << 16),
-        call("vz_stream_end", "no byte (2)", 10_000, 2, |library| {
+        take(", piece of 32 bytes", 32),
+        take(", piece of 256 bytes", 256),
+        take(", piece of 4 KiB", 4096),
+        take(", piece of 64 KiB", 1 << 16),
+        call("vz_stream_end", ", no byte (2)", 10_000, 2, |library| {
             let (state, mut node, mut count) = ([0; STREAM_STATE], [0; 32], 0);
             // SAFETY: all are locals of their own.
             unsafe { (library.stream_end)(black_box(&state).as_ptr(), STREAM_STATE, node.as_mut_ptr(), 32, &mut count) }
@@ -119,10 +120,10 @@ fn paddings(bytes: &[u8]) -> Vec<Case<'_>> {
         })
     };
     vec![
-        pad("127 bytes", 200, 127),
-        pad("8,128 bytes", 5, 8128),
-        unpad("127 bytes", 200, 127),
-        unpad("8,128 bytes", 5, 8128),
+        pad(", 127 bytes", 200, 127),
+        pad(", 8,128 bytes", 5, 8128),
+        unpad(", 127 bytes", 200, 127),
+        unpad(", 8,128 bytes", 5, 8128),
     ]
 }
 
@@ -138,7 +139,7 @@ fn entries(kept: &Kept) -> Vec<Case<'_>> {
             // SAFETY: the slices are live and apart.
             unsafe { (library.make_entry)(kept.entry.as_ptr(), 32, 0, 128, black_box(&mut entry).as_mut_ptr(), 64) }
         }),
-        call("vz_read_entry", "valid", 200, 0, |library| {
+        call("vz_read_entry", ", valid", 200, 0, |library| {
             let (mut kind, mut node, mut offset, mut size) = (0, [0; 32], 0, 0);
             let entry = black_box(&kept.entry).as_ptr();
             // SAFETY: the slices are live and apart.
@@ -151,20 +152,20 @@ fn checks<'a>(longest: &'a Longest, kept: &'a Kept) -> Vec<Case<'a>> {
     let commitment = vizhuthamen::commitment(&kept.deal).expect("a deal");
     let record = &longest.record;
     vec![
-        call("vz_check", "61 hashes", 5, 0, move |library| {
+        call("vz_check", ", 61 hashes", 5, 0, move |library| {
             u32::from(!library.accepts(&longest.commitment, DEAL_SIZE, black_box(record)))
         }),
-        call("vz_check", "shortest record", 50, 0, move |library| {
+        call("vz_check", ", shortest record", 50, 0, move |library| {
             u32::from(!library.accepts(commitment.as_ref(), 512, black_box(&kept.record)))
         }),
-        call("vz_settle_records", "61 hashes", 5, 0, move |library| {
+        call("vz_settle_records", ", 61 hashes", 5, 0, move |library| {
             let (mut left, mut right) = ([0; 64], [0; 64]);
             let (root, first, length) = (longest.commitment.as_ptr(), black_box(record).as_ptr(), record.len());
             let (left, right) = (left.as_mut_ptr(), right.as_mut_ptr());
             // SAFETY: the slices are live, and the two that are written apart.
             unsafe { (library.settle_records)(root, 32, DEAL_SIZE, first, length, first, length, left, 64, right, 64) }
         }),
-        call("vz_read_field", "the first", 10_000, 0, move |library| {
+        call("vz_read_field", ", the first", 10_000, 0, move |library| {
             let (mut tag, mut start, mut length, mut next) = (0, 0, 0, 0);
             // SAFETY: the record is live, and all that is written are locals.
             unsafe {
