@@ -1,4 +1,4 @@
-//! Medians of timed runs.
+//! Timed runs of pieces of work that take turns.
 
 /// Time as <time.h> has it.
 #[repr(C)]
@@ -21,34 +21,47 @@ fn now() -> f64 {
     time.seconds as f64 + time.nanoseconds as f64 * 1e-9
 }
 
-/// A piece of work with its name in the table.
-pub struct Work<'a> {
-    pub name: String,
-    run: Box<dyn FnMut() + 'a>,
-}
+/// A piece of work.
+pub struct Work<'a>(Box<dyn FnMut() + 'a>);
 
 impl<'a> Work<'a> {
-    pub fn new(name: impl ToString, run: impl FnMut() + 'a) -> Work<'a> {
-        Work { name: name.to_string(), run: Box::new(run) }
+    pub fn new(run: impl FnMut() + 'a) -> Work<'a> {
+        Work(Box::new(run))
     }
 }
 
-/// The median time of each piece of work in seconds, for one of `repeats` repetitions. The pieces take turns, so that a change of
-/// the machine's speed meets them all; one round before the timed ones warms caches and buffers.
-pub fn medians(works: &mut [Work], rounds: usize, repeats: usize) -> Vec<f64> {
+/// The seconds that each piece of work took, round by round.
+pub struct Times(Vec<Vec<f64>>);
+
+impl Times {
+    /// The median over the rounds.
+    pub fn of(&self, work: usize) -> f64 {
+        median(self.0[work].clone())
+    }
+
+    /// How many times as long one piece of work takes as another: the median over the rounds of the ratio within a round, since
+    /// the machine's speed changes between rounds.
+    pub fn ratio(&self, work: usize, other: usize) -> f64 {
+        median(self.0[work].iter().zip(&self.0[other]).map(|(time, other)| time / other).collect())
+    }
+}
+
+/// Times each piece of work in rounds, `repeats` times a round. The pieces take turns; one round before the timed ones warms
+/// caches and buffers.
+pub fn timed(works: &mut [Work], rounds: usize, repeats: usize) -> Times {
     let mut times = vec![vec![]; works.len()];
     for round in 0..=rounds {
         for (work, times) in works.iter_mut().zip(&mut times) {
             let began = now();
             for _ in 0..repeats {
-                (work.run)();
+                (work.0)();
             }
             if round > 0 {
                 times.push((now() - began) / repeats as f64);
             }
         }
     }
-    times.into_iter().map(median).collect()
+    Times(times)
 }
 
 fn median(mut times: Vec<f64>) -> f64 {

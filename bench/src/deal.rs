@@ -1,0 +1,180 @@
+//! The routines over a deal of 16 MiB beside one pass over it: reading every byte, and hashing its tree. Worst cases with them.
+use crate::aims::Aim;
+use crate::record::filled;
+use crate::table;
+use crate::timing::{shown, timed, Work};
+use crate::{DEAL, LONG, SEGMENT};
+use std::hint::black_box;
+use vizhuthamen::{Booking, Node, Settled};
+
+/// Names and pieces of work; the first two are the passes.
+type Works<'a> = Vec<(&'static str, Work<'a>)>;
+
+const BUILD: &str = "build: the record of the last of 64 entries";
+const BUILD_HALF: &str = "build: the record of a segment of half the deal";
+const SETTLE: &str = "settle: that record with the deal";
+const FIND_SIZE: &str = "worst find: 128 entries over one half (16)";
+const FIND_SIZES: &str = "worst find: 128 sizes over one half (16)";
+const FIND_AREAS: &str = "worst find: 128 areas, the largest first (16)";
+
+/// Prints the times and how many passes each is. The aims are in passes that hash.
+pub fn print() -> Vec<Aim> {
+    let (deal, last) = booked_deal();
+    let half = deal_with_half();
+    let named = Node([1; 32]);
+    let areas = deals_of_worst_finds(&named);
+    let mut works = passes(&deal);
+    works.extend(lookups(&deal, last));
+    works.extend(records(&deal, last, &half));
+    works.extend([FIND_SIZE, FIND_SIZES, FIND_AREAS].into_iter().zip(&areas).map(|(name, deal)| {
+        let find = move || assert_eq!(vizhuthamen::find(black_box(deal), named.as_ref()).unwrap_err().code(), 16);
+        (name, Work::new(find))
+    }));
+    works.extend([booking(&deal, true), booking(&deal, false)]);
+    print_passes(works)
+}
+
+fn print_passes(works: Works) -> Vec<Aim> {
+    let (names, mut works): (Vec<&str>, Vec<Work>) = works.into_iter().unzip();
+    let times = timed(&mut works, LONG, 1);
+    let rows: Vec<Vec<String>> = names
+        .iter()
+        .enumerate()
+        .map(|(i, name)| {
+            let passes = [format!("{:.2}", times.ratio(i, 0)), format!("{:.3}", times.ratio(i, 1))];
+            [name.to_string(), shown(times.of(i))].into_iter().chain(passes).collect()
+        })
+        .collect();
+    table::print(&table::headings(&["work", "library", "reading passes", "hashing passes"]), &rows);
+    let hashing = |wanted: &[&str]| {
+        let ratios = names.iter().enumerate().filter(|(_, name)| wanted.contains(name)).map(|(i, _)| times.ratio(i, 1));
+        ratios.max_by(f64::total_cmp)
+    };
+    vec![
+        Aim::at_most("build, passes of hashing over the deal", 1.15, hashing(&[BUILD, BUILD_HALF])),
+        Aim::at_most("settle with the deal, passes of hashing", 1.15, hashing(&[SETTLE])),
+        Aim::at_most("worst find, passes of hashing", 8.0, hashing(&[FIND_SIZE, FIND_SIZES, FIND_AREAS])),
+    ]
+}
+
+/// A deal of 16 MiB that keeps 64 segments of 64 KiB, and its last entry place.
+fn booked_deal() -> (Vec<u8>, u64) {
+    let mut deal = vec![0; DEAL];
+    let mut last = 0;
+    for i in 0..64 {
+        let mut segment = filled(SEGMENT);
+        segment[0] = i;
+        last = booked(&mut deal, &segment);
+    }
+    (deal, last)
+}
+
+/// A deal that keeps one segment, of half its size.
+fn deal_with_half() -> (Vec<u8>, u64) {
+    let mut deal = vec![0; DEAL];
+    let place = booked(&mut deal, &filled(DEAL / 2));
+    (deal, place)
+}
+
+fn booked(deal: &mut [u8], segment: &[u8]) -> u64 {
+    match vizhuthamen::book(deal, segment) {
+        Ok(Booking::Booked(position)) => position.place,
+        other => panic!("booking: {other:?}"),
+    }
+}
+
+/// Deals whose 128 entries name one commitment that no area has: over one half with one size, over one half with 128 sizes, and
+/// over the 128 largest areas that a deal has.
+fn deals_of_worst_finds(named: &Node) -> [Vec<u8>; 3] {
+    let half = DEAL as u64 / 2;
+    let one_size = (0..).map(|_| (0, half));
+    let sizes = (0..).map(|i| (0, half - i));
+    // Half the deal, three quarters, seven eighths and so on: the last area of a size has the index in it.
+    let areas =
+        (1..).flat_map(|level| (0..(1 << level) - 1).map(move |i| (i * (DEAL as u64 >> level), DEAL as u64 >> level)));
+    [indexed(named, one_size), indexed(named, sizes), indexed(named, areas)]
+}
+
+/// A deal whose entries name the commitment, each with an offset and a size; all stand.
+fn indexed(named: &Node, numbers: impl Iterator<Item = (u64, u64)>) -> Vec<u8> {
+    let mut deal = filled(DEAL);
+    let index = vizhuthamen::index_numbers(DEAL as u64).expect("a size of a deal");
+    let places = (0..index.entries).map(|i| index.start + 64 * i);
+    for (place, (offset, size)) in places.zip(numbers) {
+        let entry = vizhuthamen::make_entry(named.as_ref(), offset, size).expect("a node");
+        deal[place as usize..][..64].copy_from_slice(&entry);
+    }
+    for place in [index.start, DEAL as u64 - 64] {
+        assert!(matches!(vizhuthamen::inspect(&deal, place), Ok(vizhuthamen::Slot::Standing(_))), "{place}");
+    }
+    deal
+}
+
+fn passes(deal: &[u8]) -> Works<'_> {
+    let read = move || {
+        black_box(deal).chunks_exact(8).fold(0, |sum: u64, word| sum ^ u64::from_le_bytes(word.try_into().unwrap()))
+    };
+    let reading = Work::new(move || {
+        black_box(read());
+    });
+    let hashing = Work::new(|| {
+        black_box(vizhuthamen::commitment(deal).unwrap());
+    });
+    vec![("one pass: every byte read", reading), ("one pass: commitment of the deal", hashing)]
+}
+
+fn lookups(deal: &[u8], last: u64) -> Works<'_> {
+    let commitment = &deal[last as usize..last as usize + 32];
+    let found = Work::new(move || {
+        black_box(vizhuthamen::find(deal, commitment).unwrap());
+    });
+    let missing = Work::new(|| {
+        black_box(vizhuthamen::find(deal, &[0; 32]).unwrap_err());
+    });
+    vec![("find: the segment of the last of 64 entries", found), ("find: a commitment that no entry has (16)", missing)]
+}
+
+fn records<'a>(deal: &'a [u8], last: u64, (half, place): &'a (Vec<u8>, u64)) -> Works<'a> {
+    let build = move || vizhuthamen::build(black_box(deal), last).unwrap();
+    let record = build();
+    let build_half = move || vizhuthamen::build(black_box(half), *place).unwrap();
+    let settle = move || vizhuthamen::settle_with_deal(deal, black_box(&record)).unwrap();
+    assert!(matches!(settle(), Settled::Same));
+    vec![
+        (
+            BUILD,
+            Work::new(move || {
+                black_box(build());
+            }),
+        ),
+        (
+            BUILD_HALF,
+            Work::new(move || {
+                black_box(build_half());
+            }),
+        ),
+        (
+            SETTLE,
+            Work::new(move || {
+                black_box(settle());
+            }),
+        ),
+    ]
+}
+
+/// Booking one more segment and taking it out again; or booking one that is kept.
+fn booking<'a>(deal: &[u8], fresh: bool) -> (&'static str, Work<'a>) {
+    let mut deal = deal.to_vec();
+    let mut segment = filled(SEGMENT);
+    segment[0] = if fresh { 200 } else { 63 };
+    let name = if fresh { "book: a 65th segment of 64 KiB" } else { "book: the 64th segment again (15)" };
+    let book = move || match vizhuthamen::book(black_box(&mut deal), &segment) {
+        Ok(Booking::Booked(position)) if fresh => {
+            deal[position.offset as usize..][..SEGMENT].fill(0);
+            deal[position.place as usize..][..64].fill(0);
+        }
+        Ok(Booking::AlreadyKept(_)) if !fresh => {}
+        other => panic!("booking: {other:?}"),
+    };
+    (name, Work::new(book))
+}

@@ -1,0 +1,231 @@
+//! Each function of the library on short inputs, and on longer ones where its time grows with them.
+use super::inputs::{Inputs, Kept};
+use super::Case;
+use crate::library::Library;
+use crate::peers::Peer;
+use crate::record::{Longest, DEAL_SIZE};
+use crate::timing::Work;
+use std::hint::black_box;
+use vizhuthamen::{MAX_RECORD, STREAM_STATE};
+
+fn case<'a>(
+    function: &'static str,
+    input: &'static str,
+    repeats: usize,
+    work: impl Fn(&'a Library) -> Work<'a> + 'a,
+) -> Case<'a> {
+    Case { function, input, repeats, work: Box::new(work) }
+}
+
+/// A case that is one call; the call must be answered with a code.
+fn call<'a>(
+    function: &'static str,
+    input: &'static str,
+    repeats: usize,
+    code: u32,
+    call: impl Fn(&Library) -> u32 + Copy + 'a,
+) -> Case<'a> {
+    case(function, input, repeats, move |library| {
+        Work::new(move || assert_eq!(black_box(call(library)), code, "{function}{input}"))
+    })
+}
+
+pub fn all(inputs: &Inputs) -> Vec<Case<'_>> {
+    let mut cases = hashes(&inputs.bytes);
+    cases.extend(streams(&inputs.bytes));
+    cases.extend(paddings(&inputs.bytes));
+    cases.extend(entries(&inputs.small));
+    cases.extend(checks(&inputs.longest, &inputs.small));
+    cases.extend(over_deal(&inputs.small, ", deal of 512 bytes", 50));
+    cases.extend(over_deal(&inputs.large, ", deal of 1 MiB", 1));
+    cases
+}
+
+fn hashes(bytes: &[u8]) -> Vec<Case<'_>> {
+    let sha256 = |input, size: usize| {
+        case("vz_sha256", input, (1 << 16) / size, move |library| {
+            Work::new(move || {
+                black_box(Peer::sha256(library, black_box(&bytes[..size])));
+            })
+        })
+    };
+    let commitment = |input, size: usize| {
+        case("vz_commitment", input, (1 << 16) / size, move |library| {
+            Work::new(move || {
+                black_box(library.root(black_box(&bytes[..size])));
+            })
+        })
+    };
+    vec![
+        sha256(", 64 bytes", 64),
+        sha256(", 8 KiB", 8192),
+        commitment(", 64 bytes", 64),
+        commitment(", 128 bytes", 128),
+        commitment(", 256 bytes", 256),
+        commitment(", 512 bytes", 512),
+        commitment(", 1 KiB", 1024),
+        commitment(", 64 KiB", 1 << 16),
+    ]
+}
+
+/// Pieces into a state that goes on from piece to piece, and the end of a stream.
+fn streams(bytes: &[u8]) -> Vec<Case<'_>> {
+    let take = |input, size: usize| {
+        case("vz_stream_take", input, (1 << 16) / size, move |library| {
+            let (mut state, piece) = ([0; STREAM_STATE], &bytes[..size]);
+            Work::new(move || {
+                // SAFETY: both slices are live and apart.
+                let code = unsafe { (library.stream_take)(state.as_mut_ptr(), STREAM_STATE, piece.as_ptr(), size) };
+                assert_eq!(black_box(code), 0);
+            })
+        })
+    };
+    vec![
+        call("vz_stream_new", "", 10_000, 0, |library| {
+            let mut state = [0; STREAM_STATE];
+            // SAFETY: the state is a local.
+            unsafe { (library.stream_new)(black_box(&mut state).as_mut_ptr(), STREAM_STATE) }
+        }),
+        take(", piece of 32 bytes", 32),
+        take(", piece of 256 bytes", 256),
+        take(", piece of 4 KiB", 4096),
+        take(", piece of 64 KiB", 1 << 16),
+        call("vz_stream_end", ", no byte (2)", 10_000, 2, |library| {
+            let (state, mut node, mut count) = ([0; STREAM_STATE], [0; 32], 0);
+            // SAFETY: all are locals of their own.
+            unsafe { (library.stream_end)(black_box(&state).as_ptr(), STREAM_STATE, node.as_mut_ptr(), 32, &mut count) }
+        }),
+    ]
+}
+
+fn paddings(bytes: &[u8]) -> Vec<Case<'_>> {
+    let pad = |input, repeats, raw: usize| {
+        call("vz_fr32_pad", input, repeats, 0, move |library| {
+            let (mut segment, mut length) = ([0; 8192], 0);
+            // SAFETY: the slices are live and apart.
+            unsafe { (library.fr32_pad)(bytes.as_ptr(), raw, segment.as_mut_ptr(), segment.len(), &mut length) }
+        })
+    };
+    let unpad = |input, repeats, raw: usize| {
+        let segment = vizhuthamen::pad(&bytes[..raw]).expect("a raw length");
+        case("vz_fr32_unpad", input, repeats, move |library| {
+            let (segment, mut back, mut length) = (segment.clone(), [0; 8192], 0);
+            Work::new(move || {
+                let (lent, out) = (black_box(&segment), back.as_mut_ptr());
+                // SAFETY: the slices are live and apart.
+                let code =
+                    unsafe { (library.fr32_unpad)(raw as u64, lent.as_ptr(), lent.len(), out, 8192, &mut length) };
+                assert_eq!(code, 0);
+            })
+        })
+    };
+    vec![
+        pad(", 127 bytes", 200, 127),
+        pad(", 8,128 bytes", 5, 8128),
+        unpad(", 127 bytes", 200, 127),
+        unpad(", 8,128 bytes", 5, 8128),
+    ]
+}
+
+fn entries(kept: &Kept) -> Vec<Case<'_>> {
+    vec![
+        call("vz_index_numbers", "", 10_000, 0, |library| {
+            let (mut entries, mut start) = (0, 0);
+            // SAFETY: all that is written are locals.
+            unsafe { (library.index_numbers)(black_box(1 << 30), &mut entries, &mut start) }
+        }),
+        call("vz_make_entry", "", 200, 0, |library| {
+            let mut entry = [0; 64];
+            // SAFETY: the slices are live and apart.
+            unsafe { (library.make_entry)(kept.entry.as_ptr(), 32, 0, 128, black_box(&mut entry).as_mut_ptr(), 64) }
+        }),
+        call("vz_read_entry", ", valid", 200, 0, |library| {
+            let (mut kind, mut node, mut offset, mut size) = (0, [0; 32], 0, 0);
+            let entry = black_box(&kept.entry).as_ptr();
+            // SAFETY: the slices are live and apart.
+            unsafe { (library.read_entry)(entry, 64, &mut kind, node.as_mut_ptr(), 32, &mut offset, &mut size) }
+        }),
+    ]
+}
+
+fn checks<'a>(longest: &'a Longest, kept: &'a Kept) -> Vec<Case<'a>> {
+    let commitment = vizhuthamen::commitment(&kept.deal).expect("a deal");
+    let record = &longest.record;
+    vec![
+        call("vz_check", ", 61 hashes", 5, 0, move |library| {
+            u32::from(!library.accepts(&longest.commitment, DEAL_SIZE, black_box(record)))
+        }),
+        call("vz_check", ", shortest record", 50, 0, move |library| {
+            u32::from(!library.accepts(commitment.as_ref(), 512, black_box(&kept.record)))
+        }),
+        call("vz_settle_records", ", 61 hashes", 5, 0, move |library| {
+            let (mut left, mut right) = ([0; 64], [0; 64]);
+            let (root, first, length) = (longest.commitment.as_ptr(), black_box(record).as_ptr(), record.len());
+            let (left, right) = (left.as_mut_ptr(), right.as_mut_ptr());
+            // SAFETY: the slices are live, and the two that are written apart.
+            unsafe { (library.settle_records)(root, 32, DEAL_SIZE, first, length, first, length, left, 64, right, 64) }
+        }),
+        call("vz_read_field", ", the first", 10_000, 0, move |library| {
+            let (mut tag, mut start, mut length, mut next) = (0, 0, 0, 0);
+            // SAFETY: the record is live, and all that is written are locals.
+            unsafe {
+                (library.read_field)(record.as_ptr(), record.len(), 0, &mut tag, &mut start, &mut length, &mut next)
+            }
+        }),
+    ]
+}
+
+fn over_deal<'a>(kept: &'a Kept, input: &'static str, repeats: usize) -> Vec<Case<'a>> {
+    let (deal, length, place) = (&kept.deal, kept.deal.len(), kept.place);
+    let mut cases = vec![
+        call("vz_inspect", input, repeats, 0, move |library| {
+            let (mut state, mut node, mut offset, mut size) = (0, [0; 32], 0, 0);
+            let (deal, node) = (black_box(deal).as_ptr(), node.as_mut_ptr());
+            // SAFETY: the slices are live and apart.
+            unsafe { (library.inspect)(deal, length, place, &mut state, node, 32, &mut offset, &mut size) }
+        }),
+        call("vz_tally", input, repeats, 0, move |library| {
+            let (mut blank, mut damaged, mut valid) = (0, 0, 0);
+            // SAFETY: the deal is live, and all that is written are locals.
+            unsafe { (library.tally)(black_box(deal).as_ptr(), length, &mut blank, &mut damaged, &mut valid) }
+        }),
+        call("vz_find", input, repeats, 0, move |library| {
+            let (mut offset, mut size, mut place) = (0, 0, 0);
+            let (deal, named) = (black_box(deal).as_ptr(), kept.entry.as_ptr());
+            // SAFETY: the slices are live, and all that is written are locals.
+            unsafe { (library.find)(deal, length, named, 32, &mut offset, &mut size, &mut place) }
+        }),
+    ];
+    cases.extend(records_of_deal(kept, input, repeats));
+    cases
+}
+
+/// Booking what is kept already, which leaves the deal as it is; building and settling.
+fn records_of_deal<'a>(kept: &'a Kept, input: &'static str, repeats: usize) -> Vec<Case<'a>> {
+    let (deal, length) = (&kept.deal, kept.deal.len());
+    vec![
+        case("vz_book", input, repeats, move |library| {
+            let (mut deal, segment) = (deal.clone(), &kept.segment);
+            let (mut offset, mut place) = (0, 0);
+            Work::new(move || {
+                let (deal, lent) = (black_box(&mut deal).as_mut_ptr(), segment.as_ptr());
+                // SAFETY: the slices are live and apart.
+                let code = unsafe { (library.book)(deal, length, lent, segment.len(), &mut offset, &mut place) };
+                assert_eq!(code, 15);
+            })
+        }),
+        call("vz_build", input, repeats, 0, move |library| {
+            let (mut record, mut written) = ([0; MAX_RECORD], 0);
+            let (deal, record) = (black_box(deal).as_ptr(), record.as_mut_ptr());
+            // SAFETY: the slices are live and apart.
+            unsafe { (library.build)(deal, length, kept.place, record, MAX_RECORD, &mut written) }
+        }),
+        call("vz_settle_with_deal", input, repeats, 0, move |library| {
+            let (mut left, mut right) = ([0; 64], [0; 64]);
+            let (deal, record) = (black_box(deal).as_ptr(), &kept.record);
+            let (left, right) = (left.as_mut_ptr(), right.as_mut_ptr());
+            // SAFETY: the slices are live and apart.
+            unsafe { (library.settle_with_deal)(deal, length, record.as_ptr(), record.len(), left, 64, right, 64) }
+        }),
+    ]
+}
