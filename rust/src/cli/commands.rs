@@ -168,13 +168,12 @@ fn book(deal: &Stream, segment: &Stream) -> Result<Answer, Failure> {
 
 /// Adds where a booked segment is, and its size and commitment as its entry in the deal says them.
 fn positioned(answer: Answer, position: Position, deal: &[u8]) -> Answer {
-    let answer = answer
-        .with_value("offset", Json::Number(position.offset))
-        .with_value("place", Json::Number(position.place));
+    let answer =
+        answer.with_value("offset", Json::Number(position.offset)).with_value("place", Json::Number(position.place));
     match vizhuthamen::inspect(deal, position.place) {
-        Ok(Slot::Kept(entry)) => answer
-            .with_value("size", Json::Number(entry.size))
-            .with_value("commitment", text(entry.commitment)),
+        Ok(Slot::Kept(entry)) => {
+            answer.with_value("size", Json::Number(entry.size)).with_value("commitment", text(entry.commitment))
+        }
         _ => answer,
     }
 }
