@@ -278,6 +278,14 @@ class Sidecar(Deals):
         self.answer("book", "deal", "segment")
         self.assertEqual(self.get("deal.vz"), b"vizhuthamen deal 1\nlater word\nsize 1024\n")
 
+    def test_nothing_is_known_of_a_pipe(self):
+        self.deal_of(1024, (128,))
+        expected = self.answer("list", "deal")
+        for command in ("list", "fsck", "commit", "stream"):
+            ran = subprocess.run(["bash", "-c", f'"$0" {command} <(cat deal)', self.program], cwd=self.folder, capture_output=True)
+            self.assertEqual(ran.returncode, 0, ran.stderr)
+            self.assertTrue(command != "list" or ran.stdout.decode() == expected)
+
     def test_new_beside_what_is_known_of_another_deal(self):
         self.put("deal.vz", b"vizhuthamen deal 1\nsize 1024\n")
         self.failed(DATA, "new", "deal", 512)

@@ -1,7 +1,7 @@
 //! Reading files, and writing outputs so that a failure or a kill leaves the old ones whole.
 use super::args::Stream;
 use super::failure::{self, Failure};
-use super::store::aside::{Aside, Fill};
+use super::store::aside::{remove_dead, Aside, Fill};
 use super::store::change::{self, Part};
 use super::store::names::{shown, Home};
 use super::store::{self, Held, Keep};
@@ -78,15 +78,13 @@ pub fn read_deal(stream: &Stream) -> Result<Content, Failure> {
     Ok(content)
 }
 
-/// Compares the length of a deal with what is known of it, where it is a file.
+/// Compares the length of a deal with what is known of it, where it is a file. Nothing is known of a pipe or of a file without a name.
 pub fn compare(stream: &Stream, length: u64) -> Result<(), Failure> {
-    match stream {
-        Stream::Standard => Ok(()),
-        Stream::File(path) => {
-            let real = fs::canonicalize(path).map_err(|error| cannot("read", &shown(path), error))?;
-            store::agrees(&real, length).map(drop)
-        }
-    }
+    let real = match stream {
+        Stream::File(path) if path.is_file() => fs::canonicalize(path).ok(),
+        _ => None,
+    };
+    real.map_or(Ok(()), |real| store::agrees(&real, length).map(drop))
 }
 
 /// Reads at most 2^24 + 1 bytes: no routine takes more, and the one byte too many is seen by its size check.
@@ -178,11 +176,13 @@ fn replace(path: &Path, bytes: &[u8]) -> Result<(), Failure> {
     let failed = |error| cannot("write", &shown(path), error);
     let real = fs::canonicalize(path).map_err(failed)?;
     let old = OpenOptions::new().write(true).open(&real).map_err(failed)?;
+    let home = Home::of(&real);
+    // A second name that a dead process has left is none of the user's.
+    remove_dead(&home.part(0)).map_err(|error| failure::io(format!("cannot write {}: {error}", shown(path))))?;
     if old.metadata().map_err(failed)?.nlink() > 1 {
         let why = "it has several names (hard links), which would no longer be one file";
         return Err(failure::io(format!("cannot replace {}: {why}", shown(path))));
     }
-    let home = Home::of(&real);
     let keep = Keep { old: &old, new_owner: true };
     let part = Part { target: real, bytes, keep: Some(keep) };
     change::put(&home, &[part], || Ok(())).map_err(|trouble| store::troubled(trouble, &shown(path)))

@@ -105,12 +105,18 @@ impl<'a> Aside<'a> {
                 Err(_) => self.write_again(held)?,
             }
         }
-        match system::repeat(|| fs::hard_link(&self.name, target)) {
-            Ok(()) => Ok(true),
+        match system::rename_to_free(&self.name, target) {
+            Ok(()) => {
+                self.leave();
+                Ok(true)
+            }
             Err(error) if error.kind() == ErrorKind::AlreadyExists => Ok(false),
-            // A file system without hard links.
-            Err(_) if is_free(target) => self.rename(target).map(|()| true),
-            Err(error) => Err(error.to_string()),
+            // A file system that cannot do so. The first name goes when this is dropped.
+            Err(_) => match system::repeat(|| fs::hard_link(&self.name, target)) {
+                Ok(()) => Ok(true),
+                Err(error) if error.kind() == ErrorKind::AlreadyExists => Ok(false),
+                Err(error) => Err(error.to_string()),
+            },
         }
     }
 
@@ -119,8 +125,8 @@ impl<'a> Aside<'a> {
         self.named = false;
     }
 
-    /// The file itself, locked.
-    pub fn into_file(self) -> io::Result<File> {
+    /// The file once more: its lock is held until both are dropped.
+    pub fn again(&self) -> io::Result<File> {
         self.file.try_clone()
     }
 }
@@ -161,7 +167,8 @@ fn folder_failed(name: &Path, error: &io::Error) -> String {
     }
 }
 
-fn is_free(path: &Path) -> bool {
+/// Whether nothing has this name.
+pub fn is_free(path: &Path) -> bool {
     fs::symlink_metadata(path).is_err_and(|error| error.kind() == ErrorKind::NotFound)
 }
 
@@ -206,6 +213,15 @@ fn free(name: &Path) -> Result<(), String> {
         thread::sleep(Duration::from_millis(5));
     }
     Ok(())
+}
+
+/// Removes a name that a dead process has left to a file that the caller holds locked.
+pub fn remove_second_name(name: &Path, file: &File) -> Result<(), String> {
+    match leads_to(name, file).and_then(|second| if second { system::repeat(|| fs::remove_file(name)) } else { Ok(()) })
+    {
+        Ok(()) => Ok(()),
+        Err(error) => Err(format!("{} is in the way and cannot be removed: {error}", shown(name))),
+    }
 }
 
 /// Removes a file that a dead process has left: one that nobody holds locked. Says whether the name is free now.

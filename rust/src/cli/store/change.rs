@@ -135,8 +135,13 @@ pub fn end(home: &Home) -> Result<bool, String> {
 }
 
 /// Removes what dead processes have left beside a deal. The caller holds its lock, and has ended what a journal says.
-pub fn clear(home: &Home) -> Result<(), String> {
-    (0..=MOST_PARTS).try_for_each(|number| aside::remove_dead(&home.part(number)).map(drop))
+pub fn clear(home: &Home, deal: &File) -> Result<(), String> {
+    let left = (0..=MOST_PARTS).map(|number| home.part(number)).filter(|name| !aside::is_free(name));
+    for name in left {
+        aside::remove_second_name(&name, deal)?;
+        aside::remove_dead(&name)?;
+    }
+    Ok(())
 }
 
 /// Flushes a folder to the disk, so that names last. A file system that cannot do so is left to itself.

@@ -37,6 +37,8 @@ impl DealFile {
     /// caller may write, and have the size that is known of it.
     pub fn open(given: &Path, access: Access) -> Result<DealFile, Failure> {
         let deal = DealFile::lock(given, access, Share::Nobody)?;
+        let cannot = |error| failure::io(format!("cannot clean up beside {}: {error}", shown(given)));
+        change::clear(&deal.home, &deal.file).map_err(cannot)?;
         if deal.file.metadata().is_ok_and(|metadata| metadata.nlink() > 1) {
             return Err(failure::io(format!(
                 "cannot replace {}: it has several names (hard links), which would no longer be one file; \
@@ -44,8 +46,6 @@ impl DealFile {
                 shown(given)
             )));
         }
-        let cannot = |error| failure::io(format!("cannot clean up beside {}: {error}", shown(given)));
-        change::clear(&deal.home).map_err(cannot)?;
         let known = sidecar::agrees(&deal.path, deal.content.length())?;
         Ok(DealFile { known, ..deal })
     }
@@ -152,31 +152,28 @@ pub fn create(given: &Path, size: u64) -> Result<Option<String>, Failure> {
     let known = sidecar::agrees(given, size)?;
     let held = Held::start();
     let mut aside = Aside::write(&home, 0, Fill::Zeros(size), None, &held).map_err(cannot)?;
+    // The lock of the new deal, from before it has its name to the end.
+    let locked = aside.again().map_err(|error| cannot(error.to_string()))?;
     if !aside.make(given, &held).map_err(cannot)? {
         return Err(failure::io(format!("cannot make {name}: the file exists")));
     }
-    // The deal has its name, and its lock is held.
-    let _locked = aside.into_file();
-    let flushed = change::flush(&home.folder);
-    flushed.map_err(|error| troubled(Trouble::Made(format!("its folder could not be flushed: {error}")), &name))?;
-    drop(held);
-    Ok(beside_new(&home, size, known).err().map(|why| {
+    drop(aside);
+    change::flush(&home.folder)
+        .map_err(|error| troubled(Trouble::Made(format!("its folder could not be flushed: {error}")), &name))?;
+    Ok(beside_new(&home, size, known, &locked, &held).err().map(|why| {
         format!("{} could not be written: {why}; a cut of {name} will not be noticed", shown(home.sidecar()))
     }))
 }
 
 /// Removes what was left beside an older deal of the same name, and puts what is known of the new one there.
-fn beside_new(home: &Home, size: u64, known: bool) -> Result<(), String> {
+fn beside_new(home: &Home, size: u64, known: bool, deal: &File, held: &Held) -> Result<(), String> {
     match fs::remove_file(home.journal()) {
         Err(error) if error.kind() != std::io::ErrorKind::NotFound => return Err(error.to_string()),
-        _ => change::clear(home)?,
+        _ => change::clear(home, deal)?,
     }
-    if known {
-        return Ok(());
+    if !known {
+        let text = sidecar::text(size);
+        Aside::write(home, 0, Fill::Bytes(text.as_bytes()), None, held)?.make(&home.sidecar(), held)?;
     }
-    let text = sidecar::text(size);
-    let part = Part { target: home.sidecar(), bytes: text.as_bytes(), keep: None };
-    change::put(home, &[part], || Ok(())).map_err(|trouble| match trouble {
-        Trouble::Nothing(why) | Trouble::Made(why) => why,
-    })
+    change::flush(&home.folder).map_err(|error| error.to_string())
 }

@@ -1,5 +1,5 @@
 //! Functions of the system that std does not have, declared by hand as the C library (Linux, 64 bits) has them, each behind a safe one.
-use std::ffi::{c_char, c_int, c_void, CStr, CString};
+use std::ffi::{c_char, c_int, c_uint, c_void, CStr, CString};
 use std::fs::{File, OpenOptions};
 use std::io;
 use std::os::fd::AsRawFd;
@@ -18,6 +18,7 @@ pub const EOPNOTSUPP: i32 = 95;
 
 const AT_FDCWD: c_int = -100;
 const AT_SYMLINK_FOLLOW: c_int = 0x400;
+const RENAME_NOREPLACE: c_uint = 1;
 const F_GETFD: c_int = 1;
 const SIG_BLOCK: c_int = 0;
 const SIG_SETMASK: c_int = 2;
@@ -45,6 +46,7 @@ struct Action {
 
 extern "C" {
     fn linkat(from: c_int, old: *const c_char, to: c_int, new: *const c_char, flags: c_int) -> c_int;
+    fn renameat2(from: c_int, old: *const c_char, to: c_int, new: *const c_char, flags: c_uint) -> c_int;
     fn flistxattr(fd: c_int, list: *mut c_char, size: usize) -> isize;
     fn fgetxattr(fd: c_int, name: *const c_char, value: *mut c_void, size: usize) -> isize;
     fn fsetxattr(fd: c_int, name: *const c_char, value: *const c_void, size: usize, flags: c_int) -> c_int;
@@ -86,6 +88,13 @@ pub fn give_name(file: &File, path: &Path) -> io::Result<()> {
     let new = c_path(path)?;
     // SAFETY: both are live strings that end with a zero byte.
     repeat(|| done(unsafe { linkat(AT_FDCWD, old.as_ptr(), AT_FDCWD, new.as_ptr(), AT_SYMLINK_FOLLOW) }))
+}
+
+/// Renames a file to a name that is not taken.
+pub fn rename_to_free(old: &Path, new: &Path) -> io::Result<()> {
+    let (old, new) = (c_path(old)?, c_path(new)?);
+    // SAFETY: both are live strings that end with a zero byte.
+    repeat(|| done(unsafe { renameat2(AT_FDCWD, old.as_ptr(), AT_FDCWD, new.as_ptr(), RENAME_NOREPLACE) }))
 }
 
 /// Asks for a length first, then for as many bytes.
