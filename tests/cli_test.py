@@ -469,7 +469,7 @@ class Usage(Calls):
             self.put("deal", deal)
 
     def test_random_bytes_as_files(self):
-        for _ in range(200):
+        for i in range(200):
             data = bytearray(self.rng.choice((self.rng.randbytes(self.rng.randrange(300)), self.booked()[0])))
             for _ in range(self.rng.randrange(4) if data else 0):
                 data[self.rng.randrange(len(data))] = self.rng.randrange(256)
@@ -477,7 +477,7 @@ class Usage(Calls):
             raw_length = str(len(data) * 127 // 128)
             for words in (("show", "file"), ("list", "file"), ("tally", "file"), ("commit", "file"), ("stream", "file"),
                           ("settle-deal", "file", "file"), ("pad", "file"), ("unpad", raw_length, "file"), ("fsck", "file"),
-                          ("salvage", "file", "out"), ("repair", "file")):
+                          *((("salvage", "file", "out"), ("repair", "file")) if i % 8 == 0 else ())):
                 ran = subprocess.run([self.program, *words], capture_output=True, cwd=self.folder)
                 self.assertIn(ran.returncode, (*range(25), DATA), words)
                 self.assertNotIn(b"panicked", ran.stderr, words)

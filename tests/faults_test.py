@@ -28,11 +28,10 @@ from concurrent.futures import ProcessPoolExecutor
 from pathlib import Path
 
 from cases import node
-from model import Model, area
+from model import Model, area, pad, segment_length
 
 ROOT = Path(__file__).resolve().parent.parent
 BINARY = Path(os.environ.get("VIZHUTHAMEN", ROOT / "rust" / "target" / "release" / "vizhuthamen"))
-SHIM = ROOT / "target" / "faults.so"
 MODEL = Model()
 DATA, IO, BUSY = 65, 74, 75
 ERRORS = (errno.ENOSPC, errno.EIO, errno.EINTR, errno.EXDEV, errno.EACCES)
@@ -55,9 +54,9 @@ def check(condition, *what):
         raise Wrong(" ".join(map(str, what)))
 
 
-def compile_shim():
-    SHIM.parent.mkdir(exist_ok=True)
-    subprocess.run(["gcc", "-Wall", "-Wextra", "-Werror", "-O1", "-shared", "-fPIC", "-o", SHIM, ROOT / "tests/c/faults.c", "-ldl"], check=True)
+def compile_shim(shim):
+    source = ROOT / "tests" / "c" / "faults.c"
+    subprocess.run(["gcc", "-Wall", "-Wextra", "-Werror", "-O1", "-shared", "-fPIC", "-o", shim, source, "-ldl"], check=True)
 
 
 def names_of(file, kind):
@@ -65,18 +64,18 @@ def names_of(file, kind):
     return {line.split()[-1].split("@")[0] for line in out.splitlines()}
 
 
-def check_names():
+def check_names(shim):
     """Every function that the program asks of the C library is one that can go wrong here, or is known to need no fault."""
     asked = {n for n in names_of(BINARY, "--undefined-only") if not n.startswith(("_Unwind", "pthread_"))}
-    unknown = asked - names_of(SHIM, "--defined-only") - PLAIN
+    unknown = asked - names_of(shim, "--defined-only") - PLAIN
     check(not unknown, "functions that are not looked at:", *sorted(unknown))
 
 
 class Place:
     """A folder, and calls of the program in it."""
 
-    def __init__(self, folder):
-        self.folder = folder
+    def __init__(self, folder, shim):
+        self.folder, self.shim = folder, shim
 
     def path(self, name):
         return self.folder / name
@@ -97,7 +96,7 @@ class Place:
     def start(self, words, fault=None, plain=False, **options):
         environment = {"PATH": os.environ.get("PATH", "")}
         if fault or plain:
-            environment["LD_PRELOAD"] = str(SHIM)
+            environment["LD_PRELOAD"] = str(self.shim)
             environment["FAULT_PLAIN"] = str(int(plain))
         environment.update(fault or {})
         return subprocess.Popen([BINARY, *map(str, words)], cwd=self.folder, env=environment, stdin=subprocess.DEVNULL,
@@ -115,6 +114,19 @@ class Place:
         log.unlink(missing_ok=True)
         self.run(words, fault={"FAULT_LOG": str(log)}, plain=plain)
         return log.read_text().split()
+
+
+def check_flushed(names):
+    """A file is flushed to the disk after its last write and before it gets its name, and the folder is flushed after that."""
+    naming = ("linkat", "rename", "renameat2")
+    written = flushed = named = 0
+    for at, name in enumerate(names, 1):
+        if name in naming:
+            check(flushed > written, "named before it was flushed:", *names[:at])
+            named = at
+        flushed = at if name == "fsync" else flushed
+        written = at if name in ("write", "ftruncate64") and at < len(names) else written
+    check(flushed > named, "the folder was not flushed:", *names)
 
 
 def fault(at, what):
@@ -213,6 +225,15 @@ class Faults:
                 self.counts["signals"] += 1
                 self.after(scene, plain)
 
+    def ignored(self, scene, plain):
+        """A signal that the process ignores stops nothing."""
+        ignoring = {"preexec_fn": lambda: signal.signal(signal.SIGHUP, signal.SIG_IGN)}
+        for at in range(1, len(self.place.calls_of(scene, plain)) + 1):
+            self.place.put(scene.before)
+            status, *_ = self.place.run(scene.words, fault=fault(at, f"kill {int(signal.SIGHUP)}"), plain=plain, **ignoring)
+            check(status == 0 and self.place.state() == scene.after, scene.name, at, "stopped by an ignored signal:", status)
+            self.counts["signals"] += 1
+
     def errors(self, scene, plain, numbers):
         """Each call fails: with exit status 0 all is done, with another one all or nothing is, and it says which."""
         names = self.place.calls_of(scene, plain)
@@ -275,6 +296,28 @@ class Faults:
             state = self.place.state()
             accounted(state["deal"], {told(mine): scene.before["segment"], told(out): other})
             check(sorted(state) == ["deal", "deal.vz", "other", "segment"], scene.name, at, "left:", *sorted(state))
+            self.counts["pauses"] += 1
+
+
+    def paused_outputs(self, scene, plain, raw):
+        """Stopped before each call, with a name in the way that a dead process has left, while another process writes the same output."""
+        other = pad(raw, bytes(segment_length(len(raw))))[2]
+        for at in range(1, len(self.place.calls_of(scene, plain)) + 8):
+            self.place.put({**scene.before, "raw": raw, ".record.vz-new.0": b"dead"})
+            first = self.place.start(scene.words, fault=fault(at, f"kill {int(signal.SIGSTOP)}"), plain=plain)
+            os.waitid(os.P_PID, first.pid, os.WSTOPPED | os.WEXITED | os.WNOWAIT)
+            second = self.place.start(("pad", "raw", "-o", "record"), plain=plain)
+            try:
+                second.wait(timeout=0.2)
+            except subprocess.TimeoutExpired:
+                pass  # it waits for the first
+            first.send_signal(signal.SIGCONT)
+            for call in (first, second):
+                _, err = call.communicate(timeout=60)
+                check(call.returncode == 0, scene.name, at, call.returncode, err)
+            state = self.place.state()
+            check(state["record"] in (scene.after["record"], other), scene.name, at, "torn: record")
+            check(sorted(state) == sorted([*scene.after, "raw"]), scene.name, at, "left:", *sorted(state))
             self.counts["pauses"] += 1
 
 
@@ -424,7 +467,7 @@ def work(job):
     kind, name, plain, options = job
     rng = random.Random(f"{options.seed}/{kind}/{name}/{plain}")
     with tempfile.TemporaryDirectory(prefix="vizhuthamen-faults-", dir=options.folder) as folder:
-        place = Place(Path(folder) / "place")
+        place = Place(Path(folder) / "place", options.shim)
         place.folder.mkdir()
         try:
             return (race if kind == "race" else disturb)(place, rng, name, plain, options)
@@ -438,6 +481,7 @@ def disturb(place, rng, name, plain, options):
     place.put(scene.before)
     names = place.calls(scene.words, plain)
     check(place.state() == scene.after, scene.name, "undisturbed:", *sorted(place.state()))
+    check_flushed(names)
     place.calls_of = lambda scene, plain: names
     counts = Counter()
     faults = Faults(place, counts)
@@ -447,6 +491,10 @@ def disturb(place, rng, name, plain, options):
     faults.errors(scene, plain, ERRORS if every else (errno.ENOSPC, errno.EIO))
     if scene.name in ("book, nothing known", "repair"):
         faults.recoveries(scene, plain, options.large)
+    if scene.name == "book" and plain:
+        faults.ignored(scene, plain)
+    if scene.name == "output, replaced":
+        faults.paused_outputs(scene, plain, rng.randbytes(1000))
     if scene.name.startswith("book"):
         faults.pauses(scene, plain, b"".join(node(rng) for _ in range(4)))
     mode = ("", ", no unnamed files", ", no unnamed files, no rename to a free name")[plain]
@@ -475,12 +523,29 @@ def jobs(options):
         yield "race", "races", plain, options
 
 
+def run(options):
+    """All jobs, as many at a time as there are processors."""
+    counts = Counter()
+    with ProcessPoolExecutor(os.cpu_count()) as pool:
+        try:
+            for found, line in pool.map(work, jobs(options)):
+                counts += found
+                print(f"faults: {line}", flush=True)
+        except Wrong:
+            pool.shutdown(cancel_futures=True)
+            raise
+    return counts
+
+
 def arguments():
     parser = argparse.ArgumentParser(description="Kills, signals, errors and races at the command line.")
     parser.add_argument("--large", action="store_true", help="every signal and every error for every command, larger races, more kills")
     parser.add_argument("--seed", default=os.urandom(4).hex(), help="seed of the random moments (default: a fresh one, which is printed)")
-    parser.add_argument("--folder", help="where the files are made (default: the system's temporary folder)")
-    return parser.parse_args()
+    parser.add_argument("--folder", help="where the files are made (default: /dev/shm, or else the system's temporary folder)")
+    options = parser.parse_args()
+    if not options.folder and os.access("/dev/shm", os.W_OK):
+        options.folder = "/dev/shm"
+    return options
 
 
 def main():
@@ -488,17 +553,17 @@ def main():
     if not BINARY.is_file():
         sys.exit(f"faults: {BINARY} is not there; run: cargo build --release --offline --manifest-path rust/Cargo.toml")
     print(f"faults: seed {options.seed}", flush=True)
+    # A call started in the background, or by nohup, may ignore signals, and what it starts then does too.
+    for number in SIGNALS:
+        signal.signal(number, signal.default_int_handler if number == signal.SIGINT else signal.SIG_DFL)
     began = time.monotonic()
-    compile_shim()
-    check_names()
-    counts = Counter()
-    with ProcessPoolExecutor(os.cpu_count()) as pool:
+    with tempfile.TemporaryDirectory(prefix="vizhuthamen-faults-") as folder:
+        options.shim = Path(folder) / "faults.so"
+        compile_shim(options.shim)
         try:
-            for found, line in pool.map(work, jobs(options)):
-                counts += found
-                print(f"faults: {line}", flush=True)
+            check_names(options.shim)
+            counts = run(options)
         except Wrong as wrong:
-            pool.shutdown(cancel_futures=True)
             sys.exit(f"faults: seed {options.seed}: {wrong}")
     told_counts = ", ".join(f"{count} {what}" for what, count in counts.items())
     print(f"faults: {told_counts}; 0 lost, 0 torn, 0 left; {time.monotonic() - began:.0f} s")

@@ -78,13 +78,17 @@ pub fn read_deal(stream: &Stream) -> Result<Content, Failure> {
     Ok(content)
 }
 
-/// Compares the length of a deal with what is known of it, where it is a file. Nothing is known of a pipe or of a file without a name.
+/// Compares the length of a deal that is read with what is known of it, where it is a file. Nothing is known of a pipe or of a file
+/// without a name, nor where it may not be read.
 pub fn compare(stream: &Stream, length: u64) -> Result<(), Failure> {
     let real = match stream {
         Stream::File(path) if path.is_file() => fs::canonicalize(path).ok(),
         _ => None,
     };
-    real.map_or(Ok(()), |real| store::agrees(&real, length).map(drop))
+    match real.map(|real| store::agrees(&real, length)) {
+        Some(Err(failure)) if failure.status == failure::DATA => Err(failure),
+        _ => Ok(()),
+    }
 }
 
 /// Reads at most 2^24 + 1 bytes: no routine takes more, and the one byte too many is seen by its size check.

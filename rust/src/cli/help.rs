@@ -193,8 +193,8 @@ deal, or from the segment in hand: --segment or --raw names its file, --commitme
 the slot where several are damaged, or where it is not damaged but blank. With the segment in hand the bytes of an
 entry that stands and is not kept are written anew too.
 
-The deal as it was is copied to DEAL.before-repair (or DEAL.before-repair.N) first; deal and copy are in place
-together or not at all. Exit status 0: fsck finds nothing wrong any more. 65: something is left.",
+The deal as it was is kept as DEAL.before-repair (or DEAL.before-repair.N); the repaired deal and this copy are
+put in place together or not at all. Exit status 0: fsck finds nothing wrong any more. 65: something is left.",
     },
     Topic {
         name: "salvage",
@@ -264,10 +264,13 @@ fn operands(topic: &Topic) -> String {
     format!("{} {}", topic.name, topic.operands.join(" "))
 }
 
-/// The command with its operands and options.
+/// The command with its operands and options, by name where they are few.
 pub fn call(topic: &Topic) -> String {
-    let chosen = OPTIONS.iter().filter(|choice| topic.options.contains(&choice.name));
-    let options: String =
-        chosen.map(|choice| format!(" [{}]", format!("--{} {}", choice.name, choice.value).trim_end())).collect();
+    let chosen: Vec<&Choice> = OPTIONS.iter().filter(|choice| topic.options.contains(&choice.name)).collect();
+    let named = |choice: &&Choice| format!(" [{}]", format!("--{} {}", choice.name, choice.value).trim_end());
+    let options = match chosen.len() {
+        0..=3 => chosen.iter().map(named).collect(),
+        _ => " [OPTIONS]".to_string(),
+    };
     operands(topic) + &options
 }

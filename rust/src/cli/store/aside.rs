@@ -45,7 +45,7 @@ impl<'a> Aside<'a> {
         let name = home.part(part);
         let aside = match system::unnamed(&home.folder, mode(keep)) {
             Ok(file) => Aside { file, name, named: false, fill, keep },
-            Err(_) => Aside { file: claim(&name, mode(keep))?, name, named: true, fill, keep },
+            Err(_) => Aside { file: claim(&name, mode(keep), held)?, name, named: true, fill, keep },
         };
         aside.fill(held)?;
         Ok(aside)
@@ -75,7 +75,7 @@ impl<'a> Aside<'a> {
         while !self.named {
             match system::give_name(&self.file, &self.name) {
                 Ok(()) => self.named = true,
-                Err(error) if error.kind() == ErrorKind::AlreadyExists => free(&self.name)?,
+                Err(error) if error.kind() == ErrorKind::AlreadyExists => free(&self.name, held)?,
                 Err(_) => self.write_again(held)?,
             }
         }
@@ -84,7 +84,7 @@ impl<'a> Aside<'a> {
 
     /// Writes the file once more, with the name of its part from the start.
     fn write_again(&mut self, held: &Held) -> Result<(), String> {
-        self.file = claim(&self.name, mode(self.keep))?;
+        self.file = claim(&self.name, mode(self.keep), held)?;
         self.named = true;
         self.fill(held)
     }
@@ -111,9 +111,12 @@ impl<'a> Aside<'a> {
                 Ok(true)
             }
             Err(error) if error.kind() == ErrorKind::AlreadyExists => Ok(false),
-            // A file system that cannot do so. The first name goes when this is dropped.
+            // A file system that cannot do so.
             Err(_) => match system::repeat(|| fs::hard_link(&self.name, target)) {
-                Ok(()) => Ok(true),
+                Ok(()) => {
+                    self.remove_name();
+                    Ok(true)
+                }
                 Err(error) if error.kind() == ErrorKind::AlreadyExists => Ok(false),
                 Err(error) => Err(error.to_string()),
             },
@@ -125,17 +128,23 @@ impl<'a> Aside<'a> {
         self.named = false;
     }
 
-    /// The file once more: its lock is held until both are dropped.
-    pub fn again(&self) -> io::Result<File> {
-        self.file.try_clone()
+    /// The file itself, which is locked as long as this is there.
+    pub fn file(&self) -> &File {
+        &self.file
+    }
+
+    /// Takes the name away. Where that fails, the next holder of the deal's lock does.
+    fn remove_name(&mut self) {
+        if self.named {
+            let _ = system::repeat(|| fs::remove_file(&self.name));
+            self.named = false;
+        }
     }
 }
 
 impl Drop for Aside<'_> {
     fn drop(&mut self) {
-        if self.named {
-            let _ = system::repeat(|| fs::remove_file(&self.name));
-        }
+        self.remove_name();
     }
 }
 
@@ -173,7 +182,7 @@ pub fn is_free(path: &Path) -> bool {
 }
 
 /// Makes a file with this name and locks it. A name that a dead process has left is taken over.
-fn claim(name: &Path, mode: u32) -> Result<File, String> {
+fn claim(name: &Path, mode: u32, held: &Held) -> Result<File, String> {
     loop {
         match OpenOptions::new().read(true).write(true).create_new(true).mode(mode).open(name) {
             Ok(file) => {
@@ -188,7 +197,7 @@ fn claim(name: &Path, mode: u32) -> Result<File, String> {
                     }
                 }
             }
-            Err(error) if error.kind() == ErrorKind::AlreadyExists => free(name)?,
+            Err(error) if error.kind() == ErrorKind::AlreadyExists => free(name, held)?,
             Err(error) => return Err(folder_failed(name, &error)),
         }
     }
@@ -204,9 +213,10 @@ pub fn leads_to(name: &Path, file: &File) -> io::Result<bool> {
 }
 
 /// Frees a name: at once where the process that made it is dead, otherwise when it has ended.
-fn free(name: &Path) -> Result<(), String> {
+fn free(name: &Path, held: &Held) -> Result<(), String> {
     let began = Instant::now();
     while !remove_dead(name)? {
+        held.go_on().map_err(|error| error.to_string())?;
         if began.elapsed() > PATIENCE {
             return Err(format!("{} is in use by another process", shown(name)));
         }

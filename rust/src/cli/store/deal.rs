@@ -57,35 +57,42 @@ impl DealFile {
 
     /// Locks the file that the name leads to, ends a change that a dead process has left, and reads.
     fn lock(given: &Path, access: Access, share: Share) -> Result<DealFile, Failure> {
-        let name = shown(given);
         loop {
-            let path = fs::canonicalize(given).map_err(|error| files::cannot("read", &name, error))?;
-            let metadata = fs::metadata(&path).map_err(|error| files::cannot("read", &name, error))?;
-            if !metadata.is_file() {
-                return Err(failure::io(format!("cannot lock {name}: it is not a regular file")));
+            if let Some(deal) = DealFile::try_lock(given, access, share)? {
+                return Ok(deal);
             }
-            let home = Home::of(&path);
-            // A change that is to be ended is ended by a writer.
-            let writes = share == Share::Nobody || home.journal().exists();
-            let opened = OpenOptions::new().read(true).write(writes).open(&path);
-            let action = if writes { "open for reading and writing" } else { "read" };
-            let file = opened.map_err(|error| files::cannot(action, &name, error))?;
-            lock::take(&file, if writes { Share::Nobody } else { share }, access.wait, given)?;
-            let current = leads_to(&path, &file).map_err(|error| files::cannot("read", &name, error))?;
-            if !current || !writes && home.journal().exists() {
-                continue;
-            }
-            let ended = writes && change::end(&home).map_err(|error| failure::io(format!("{name}: {error}")))?;
-            if ended || writes && share == Share::Readers {
-                continue;
-            }
-            let content = files::read_open(&file, name)?;
-            return Ok(DealFile { content, file, path, home, access, known: false });
         }
     }
 
-    /// The length and the time of the last change, by which a change of other hands is noticed.
-    fn seen(&self) -> Result<(), String> {
+    /// One turn of that. Nothing where the deal was replaced or a change of it was ended in the meantime.
+    fn try_lock(given: &Path, access: Access, share: Share) -> Result<Option<DealFile>, Failure> {
+        let name = shown(given);
+        let path = fs::canonicalize(given).map_err(|error| files::cannot("read", &name, error))?;
+        let metadata = fs::metadata(&path).map_err(|error| files::cannot("read", &name, error))?;
+        if !metadata.is_file() {
+            return Err(failure::io(format!("cannot lock {name}: it is not a regular file")));
+        }
+        let home = Home::of(&path);
+        // A change that is to be ended is ended by a writer, and then a reader begins anew.
+        let writes = share == Share::Nobody || home.journal().exists();
+        let opened = OpenOptions::new().read(true).write(writes).open(&path);
+        let action = if writes { "open for reading and writing" } else { "read" };
+        let file = opened.map_err(|error| files::cannot(action, &name, error))?;
+        lock::take(&file, if writes { Share::Nobody } else { share }, access.wait, given)?;
+        let current = leads_to(&path, &file).map_err(|error| files::cannot("read", &name, error))?;
+        if !current || !writes && home.journal().exists() {
+            return Ok(None);
+        }
+        let ended = writes && change::end(&home).map_err(|error| failure::io(format!("{name}: {error}")))?;
+        if ended || writes && share == Share::Readers {
+            return Ok(None);
+        }
+        let content = files::read_open(&file, name)?;
+        Ok(Some(DealFile { content, file, path, home, access, known: false }))
+    }
+
+    /// An error where the deal is not the file that was read any more, or not as it was read: other hands were at it.
+    fn unchanged(&self) -> Result<(), String> {
         let metadata = self.file.metadata().map_err(|error| error.to_string())?;
         let read = self.content.metadata.as_ref().ok_or("its attributes were not read")?;
         let time = |metadata: &fs::Metadata| (metadata.len(), metadata.mtime(), metadata.mtime_nsec());
@@ -108,7 +115,7 @@ impl DealFile {
             parts.push(Part { target: self.home.sidecar(), bytes: text.as_bytes(), keep: Some(keep) });
         }
         parts.extend(others);
-        change::put(&self.home, &parts, || self.seen()).map_err(|trouble| troubled(trouble, &self.content.name))
+        change::put(&self.home, &parts, || self.unchanged()).map_err(|trouble| troubled(trouble, &self.content.name))
     }
 
     /// The part that makes a copy of the deal as it was read, beside it: its target is a name that nothing has. None where there is
@@ -152,15 +159,13 @@ pub fn create(given: &Path, size: u64) -> Result<Option<String>, Failure> {
     let known = sidecar::agrees(given, size)?;
     let held = Held::start();
     let mut aside = Aside::write(&home, 0, Fill::Zeros(size), None, &held).map_err(cannot)?;
-    // The lock of the new deal, from before it has its name to the end.
-    let locked = aside.again().map_err(|error| cannot(error.to_string()))?;
     if !aside.make(given, &held).map_err(cannot)? {
         return Err(failure::io(format!("cannot make {name}: the file exists")));
     }
-    drop(aside);
+    // The new deal was locked before it had its name, and is until the end.
     change::flush(&home.folder)
         .map_err(|error| troubled(Trouble::Made(format!("its folder could not be flushed: {error}")), &name))?;
-    Ok(beside_new(&home, size, known, &locked, &held).err().map(|why| {
+    Ok(beside_new(&home, size, known, aside.file(), &held).err().map(|why| {
         format!("{} could not be written: {why}; a cut of {name} will not be noticed", shown(home.sidecar()))
     }))
 }
