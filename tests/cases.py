@@ -8,18 +8,14 @@ import hashlib
 from model import (MAX_RAW, Model, area, filled, index_numbers, le, pad, power, segment_bit, segment_length, sha256,
                    unpad)
 
-SHA256, COMMITMENT, NUMBERS, MAKE, READ, FIND, BOOK, BUILD, CHECK, SETTLE, SETTLE_DEAL, FIELDS = range(1, 13)
-TALLY = 19
+# The operations by number, as crates/vectors and rust/examples/replay/operation.rs have them. CHECK_INPUT is of the program check_record,
+# and COMPARE of the code that settling shares (two paths from one position): no routines of their own.
+(SHA256, COMMITMENT, NUMBERS, MAKE, READ, FIND, BOOK, BUILD, CHECK, SETTLE, SETTLE_DEAL, FIELDS, CHECK_INPUT, INSPECT, COMPARE, STREAM, PAD,
+ UNPAD, TALLY) = range(1, 20)
 
 NAMES = {SHA256: "sha256", COMMITMENT: "commitment", NUMBERS: "index_numbers", MAKE: "make_entry", READ: "read_entry", FIND: "find",
          BOOK: "book", BUILD: "build", CHECK: "check", SETTLE: "settle_records", SETTLE_DEAL: "settle_with_deal", FIELDS: "read_field",
          TALLY: "tally"}
-
-CHECK_INPUT = 13  # of the program check_record; no routine of its own
-COMPARE = 15  # of the code that settling shares: two paths from one position
-INSPECT = 14  # of the C interface: what stands at an entry place
-STREAM = 16  # bytes that arrive in pieces
-PAD, UNPAD = 17, 18  # raw archives to segments and back
 
 MODEL = Model()
 

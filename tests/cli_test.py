@@ -22,9 +22,9 @@ from model import MAX_RAW, Model, filled, pad, segment_length, unpad
 ROOT = Path(__file__).resolve().parent.parent
 BINARY = Path(os.environ.get("VIZHUTHAMEN", ROOT / "rust" / "target" / "release" / "vizhuthamen"))
 COMMANDS = ("new", "commit", "stream", "pad", "unpad", "book", "list", "tally", "find", "build", "check", "settle", "settle-deal",
-            "show")
+            "show", "fsck", "repair", "salvage")
 MODEL = Model()
-USAGE, IO = 64, 74
+USAGE, DATA, IO, BUSY = 64, 65, 74, 75
 
 
 def nobody():
@@ -121,7 +121,7 @@ class MainJob(Calls):
         self.listed(ca, cb)
         self.found(ca, a)
         self.settled(kept)
-        self.assertEqual(self.files(), ["a", "b", "deal", "found", "record", "record2"])
+        self.assertEqual(self.files(), ["a", "b", "deal", "deal.vz", "found", "record", "record2"])
 
     def test_a_segment_whose_size_is_no_power_of_two(self):
         segment = self.put("segment", self.segment(128) + b"xy")
@@ -190,7 +190,7 @@ class MainJob(Calls):
         self.assertEqual(rows[1:], [["damaged", "-", "-", "-"], ["valid", "64", "128", "00" * 32], ["blank", "-", "-", "-"]])
         self.assertEqual(self.answer("tally", "deal"), "blank 1\ndamaged 1\nvalid 2\n")
         self.put("segment", self.segment())
-        self.assertIn("place 832\n", self.answer("book", "deal", "segment"))
+        self.assertIn("place 832\n", self.answer("book", "deal", "segment", "--force"))
         self.assertEqual(self.answer("tally", "deal"), "blank 1\ndamaged 0\nvalid 3\n")
 
 
@@ -417,7 +417,7 @@ class Usage(Calls):
             text = self.answer(command, "--help")
             self.assertTrue(text.startswith(f"Usage: vizhuthamen {command} "), text)
             self.assertEqual(text, self.answer("help", command))
-        self.assertIn("not locked", self.answer("book", "--help"))
+        self.assertIn("DEAL is locked", self.answer("book", "--help"))
         self.assertRegex(self.answer("--version"), r"\Avizhuthamen \d+\.\d+\.\d+\n\Z")
 
     def test_wrong_usage(self):
@@ -458,27 +458,31 @@ class Usage(Calls):
         self.put("record", MODEL.build(deal, places[0])[1])
         self.put("empty", b"")
         words = [*COMMANDS, "deal", "record", "empty", "missing", ".", "-", "--json", "--output", "made", "--", "0", "512", "1024",
+                 "--force", "--no-wait", "--new-owner", "--segment", "--raw", "--commitment", "--place",
                  str(places[0]), "00" * 32, "ff", "", "\udcff", "--help", MODEL.commitment(deal)[1].hex()]
         for _ in range(400):
             call = [self.rng.choice(COMMANDS), *self.rng.choices(words, k=self.rng.randrange(5))]
             self.put("noise", self.rng.randbytes(self.rng.randrange(400)))
             ran = subprocess.run([self.program, *call], input=self.rng.randbytes(300), capture_output=True, cwd=self.folder)
-            self.assertIn(ran.returncode, (*range(25), USAGE, IO), call)
+            self.assertIn(ran.returncode, (*range(25), USAGE, DATA, IO), call)
             self.assertNotIn(b"panicked", ran.stderr, call)
             self.put("deal", deal)
 
     def test_random_bytes_as_files(self):
-        for _ in range(200):
+        for i in range(200):
             data = bytearray(self.rng.choice((self.rng.randbytes(self.rng.randrange(300)), self.booked()[0])))
             for _ in range(self.rng.randrange(4) if data else 0):
                 data[self.rng.randrange(len(data))] = self.rng.randrange(256)
             self.put("file", bytes(data))
             raw_length = str(len(data) * 127 // 128)
             for words in (("show", "file"), ("list", "file"), ("tally", "file"), ("commit", "file"), ("stream", "file"),
-                          ("settle-deal", "file", "file"), ("pad", "file"), ("unpad", raw_length, "file")):
+                          ("settle-deal", "file", "file"), ("pad", "file"), ("unpad", raw_length, "file"), ("fsck", "file"),
+                          *((("salvage", "file", "out"), ("repair", "file")) if i % 8 == 0 else ())):
                 ran = subprocess.run([self.program, *words], capture_output=True, cwd=self.folder)
-                self.assertIn(ran.returncode, range(25), words)
+                self.assertIn(ran.returncode, (*range(25), DATA), words)
                 self.assertNotIn(b"panicked", ran.stderr, words)
+            for name in ("out", "file.vz", *(p.name for p in self.folder.glob("file.before-repair*"))):
+                shutil.rmtree(self.path(name)) if self.path(name).is_dir() else self.path(name).unlink(missing_ok=True)
 
 
 class Failures(Calls):
@@ -552,7 +556,7 @@ class Failures(Calls):
         self.folder.chmod(0o777)
         self.assertEqual(self.get("deal"), deal)
         self.assertEqual(self.files(), ["deal", "segment"])
-        self.answer("book", "deal", "segment", **nobody())
+        self.answer("book", "deal", "segment", "--new-owner", **nobody())
 
     def test_permissions_and_links_are_kept(self):
         self.booked()
@@ -598,7 +602,8 @@ class Failures(Calls):
         os.close(read)
         ran = subprocess.run([self.program, "list", "deal"], cwd=self.folder, stdout=write, stderr=subprocess.PIPE)
         os.close(write)
-        self.assertEqual((ran.returncode, ran.stderr), (0, b""))
+        self.assertEqual(ran.returncode, IO)
+        self.assertIn(b"Broken pipe", ran.stderr)
 
     def test_progress_is_for_terminals_alone(self):
         self.put("file", bytes(1 << 23))

@@ -209,7 +209,8 @@ def arguments():
     parser.add_argument("--seed", help="seed of the calls (default: a fresh one, which is printed)")
     parser.add_argument("--large", action="store_true", help="add deals of 2^20 and 2^24 bytes and lengths at the upper bounds")
     parser.add_argument("--memcheck", action="store_true", help="run the library under valgrind's memcheck")
-    parser.add_argument("--replay", default=ROOT / "rust" / "target" / "release" / "replay", type=Path, help="the replay program")
+    parser.add_argument("--replay", default=ROOT / "rust" / "target" / "release" / "examples" / "replay", type=Path,
+                        help="the replay program")
     options = parser.parse_args()
     options.seed = options.seed or os.urandom(4).hex()
     if options.count is None:
@@ -220,7 +221,8 @@ def arguments():
 def main():
     options = arguments()
     if not options.replay.is_file():
-        sys.exit(f"differential: {options.replay} is not there; run: cargo build --release --offline --manifest-path rust/Cargo.toml")
+        sys.exit(f"differential: {options.replay} is not there; "
+                 "run: cargo build --release --examples --offline --manifest-path rust/Cargo.toml")
     valgrind = ["valgrind", "--quiet", "--leak-check=full", "--error-exitcode=99"] if options.memcheck else []
     comparison = Comparison([*valgrind, str(options.replay)])
     print(f"differential: seed {options.seed}", flush=True)

@@ -6,8 +6,11 @@ mod failure;
 mod files;
 mod help;
 mod json;
+mod mend;
 mod output;
 mod progress;
+mod store;
+mod survey;
 mod table;
 
 use answer::Answer;
@@ -16,7 +19,7 @@ use failure::Failure;
 use std::ffi::OsString;
 use std::process::ExitCode;
 
-/// Runs one call. The exit status is the answer's code, 64 for wrong usage, 74 where reading or writing failed.
+/// Runs one call. The exit status is the answer's code, or one of `failure` where there is no answer.
 pub fn run(words: Vec<OsString>) -> ExitCode {
     match run_words(words) {
         Ok(status) => ExitCode::from(status),
@@ -28,25 +31,41 @@ pub fn run(words: Vec<OsString>) -> ExitCode {
 }
 
 fn run_words(words: Vec<OsString>) -> Result<u8, Failure> {
-    match args::parse(words)? {
+    let request = args::parse(words)?;
+    // Before anything is changed.
+    output::open()?;
+    match request {
         Request::Text(text) => {
             output::write(text.as_bytes())?;
             Ok(0)
         }
-        Request::Run { command, json } => report(commands::run(command)?, json),
+        Request::Run { command, json } => {
+            let raw = args::raw_output(&command);
+            report(commands::run(command)?, json, raw)
+        }
     }
 }
 
-/// Writes an answer, as text or as one JSON object, and gives the exit status.
-fn report(answer: Answer, json: bool) -> Result<u8, Failure> {
+/// Writes an answer, as text or as one JSON object, and gives the exit status. Where standard output is for bytes, a refusal goes to
+/// standard error.
+fn report(answer: Answer, json: bool, raw: bool) -> Result<u8, Failure> {
     let status = answer.status();
     for note in &answer.notes {
         output::message(note);
     }
-    match (&answer.bytes, json) {
-        (Some(bytes), false) => output::write(bytes)?,
-        (_, false) => output::write(answer.to_text().as_bytes())?,
-        (_, true) => output::write(answer.to_json().as_bytes())?,
+    let written = match (&answer.bytes, json) {
+        (Some(bytes), false) => output::write(bytes),
+        (None, false) if raw => {
+            output::message(answer.to_text().trim_end());
+            Ok(())
+        }
+        (_, false) => output::write(answer.to_text().as_bytes()),
+        (_, true) => output::write(answer.to_json().as_bytes()),
+    };
+    match written {
+        Err(failure) if answer.wrote => {
+            Err(Failure { message: format!("{}; what was asked is done", failure.message), ..failure })
+        }
+        written => written.map(|()| status),
     }
-    Ok(status)
 }

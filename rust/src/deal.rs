@@ -21,24 +21,33 @@ pub enum Slot {
 /// How many slots of an index are of each kind; together they are the number of entries.
 #[derive(Clone, Copy, Debug, PartialEq, Eq)]
 pub struct Tally {
+    /// Slots whose 64 bytes are all zero.
     pub blank: u64,
+    /// Slots that are not blank, with a wrong checksum.
     pub damaged: u64,
+    /// Slots with a right checksum, whether their entry stands or not.
     pub valid: u64,
 }
 
 /// A segment that was found: where it is, and its bytes, a part of the deal, without the zeros after them.
 #[derive(Clone, Copy, Debug, PartialEq, Eq)]
 pub struct Found<'d> {
+    /// The byte of the deal at which the segment starts.
     pub offset: u64,
+    /// The segment's length in bytes, as its entry states it.
     pub size: u64,
+    /// The byte of the deal at which its entry starts.
     pub place: u64,
+    /// The segment's bytes.
     pub segment: &'d [u8],
 }
 
 /// Where a segment and its index entry are.
 #[derive(Clone, Copy, Debug, PartialEq, Eq)]
 pub struct Position {
+    /// The byte of the deal at which the segment starts.
     pub offset: u64,
+    /// The byte of the deal at which its entry starts.
     pub place: u64,
 }
 

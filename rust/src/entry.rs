@@ -6,15 +6,20 @@ use crate::node::Node;
 /// The number of index entries of a deal, and the byte at which its index area starts.
 #[derive(Clone, Copy, Debug, PartialEq, Eq)]
 pub struct IndexNumbers {
+    /// The number of entries, which is that of the slots.
     pub entries: u64,
+    /// The byte of the deal at which the first slot starts.
     pub start: u64,
 }
 
 /// What an index entry says.
 #[derive(Clone, Copy, Debug, PartialEq, Eq)]
 pub struct Entry {
+    /// The commitment of the segment's area.
     pub commitment: Node,
+    /// The byte of the deal at which the segment starts.
     pub offset: u64,
+    /// The segment's length in bytes, without the zeros after it.
     pub size: u64,
 }
 

@@ -3,18 +3,25 @@
 //! A caller lends a pointer and a length; no pointer is null, and memory that is written overlaps no other argument.
 
 extern "C" {
+    /// SHA-256 of a message of 0 to 2^24 bytes. `digest`: 32 bytes. Codes: 12, 2.
     pub fn vz_sha256(message: *const u8, message_len: usize, digest: *mut u8, digest_len: usize) -> u32;
 
+    /// The commitment of a run, a power of two from 32 to 2^24 bytes. `node`: 32 bytes. Codes: 12, 2, 11.
     pub fn vz_commitment(run: *const u8, run_len: usize, node: *mut u8, node_len: usize) -> u32;
 
+    /// A new start of a stream. `state`: [`STREAM_STATE`](crate::STREAM_STATE) bytes. Codes: 12.
     pub fn vz_stream_new(state: *mut u8, state_len: usize) -> u32;
 
+    /// Takes one more piece of a stream. Codes: 12, 11, 2; the last two stick until a new start.
     pub fn vz_stream_take(state: *mut u8, state_len: usize, piece: *const u8, piece_len: usize) -> u32;
 
+    /// The commitment of a stream's bytes, and their number. `node`: 32 bytes. Codes: 12, 11, 2.
     pub fn vz_stream_end(state: *const u8, state_len: usize, node: *mut u8, node_len: usize, count: *mut u64) -> u32;
 
+    /// Writes the segment of raw bytes into the first bytes of `segment`. Codes: 2, 12.
     pub fn vz_fr32_pad(raw: *const u8, raw_len: usize, segment: *mut u8, segment_len: usize, length: *mut u64) -> u32;
 
+    /// Writes the raw bytes of a segment into the first bytes of `raw`. Codes: 2, 24, 11, 12.
     pub fn vz_fr32_unpad(
         raw_length: u64,
         segment: *const u8,
@@ -24,8 +31,10 @@ extern "C" {
         length: *mut u64,
     ) -> u32;
 
+    /// The number of entries and the index start for a deal size. Codes: 2.
     pub fn vz_index_numbers(size: u64, entries: *mut u64, start: *mut u64) -> u32;
 
+    /// The index entry for a commitment and two numbers. `entry`: 64 bytes. Codes: 12, 1, 8.
     pub fn vz_make_entry(
         commitment: *const u8,
         commitment_len: usize,
@@ -35,6 +44,7 @@ extern "C" {
         entry_len: usize,
     ) -> u32;
 
+    /// The kind and the fields of the 64 bytes of an entry. `commitment`: 32 bytes. Codes: 12, 2.
     pub fn vz_read_entry(
         entry: *const u8,
         entry_len: usize,
@@ -45,6 +55,7 @@ extern "C" {
         size: *mut u64,
     ) -> u32;
 
+    /// What stands at an entry place of a deal. `commitment`: 32 bytes. Codes: 12, 2, 11, 6.
     pub fn vz_inspect(
         deal: *const u8,
         deal_len: usize,
@@ -56,8 +67,10 @@ extern "C" {
         size: *mut u64,
     ) -> u32;
 
+    /// How many slots of a deal's index are blank, damaged and valid. Codes: 2, 11.
     pub fn vz_tally(deal: *const u8, deal_len: usize, blank: *mut u64, damaged: *mut u64, valid: *mut u64) -> u32;
 
+    /// The lowest slot that holds a kept entry with this commitment. Codes: 1, 2, 11, 16.
     pub fn vz_find(
         deal: *const u8,
         deal_len: usize,
@@ -68,6 +81,7 @@ extern "C" {
         place: *mut u64,
     ) -> u32;
 
+    /// Books a segment into a deal. Numbers are written with 0 and 15. Codes: 2, 4, 11, 15, 13, 14.
     pub fn vz_book(
         deal: *mut u8,
         deal_len: usize,
@@ -77,6 +91,7 @@ extern "C" {
         place: *mut u64,
     ) -> u32;
 
+    /// Builds the record of the entry at a place into the first bytes of `record`. Codes: 2, 11, 6, 16, 12.
     pub fn vz_build(
         deal: *const u8,
         deal_len: usize,
@@ -86,6 +101,7 @@ extern "C" {
         length: *mut u64,
     ) -> u32;
 
+    /// Checks a record against a deal's commitment and size. Codes, in this order: 1 to 8, 19, 9, 10.
     pub fn vz_check(
         commitment: *const u8,
         commitment_len: usize,
@@ -94,6 +110,8 @@ extern "C" {
         record_len: usize,
     ) -> u32;
 
+    /// Settles two records for one deal. `left`, `right`: 64 bytes each, written with 0 and 17. Codes: 12, the first one's
+    /// check, the second one's, 18, 17.
     pub fn vz_settle_records(
         commitment: *const u8,
         commitment_len: usize,
@@ -108,6 +126,7 @@ extern "C" {
         right_len: usize,
     ) -> u32;
 
+    /// Settles a record with a deal in hand. `left`, `right`: as above. Codes: 12, 2, 11, those of the check, 17.
     pub fn vz_settle_with_deal(
         deal: *const u8,
         deal_len: usize,
@@ -119,6 +138,7 @@ extern "C" {
         right_len: usize,
     ) -> u32;
 
+    /// The field at a place of a record. Codes: 3 where no field lies there.
     pub fn vz_read_field(
         record: *const u8,
         record_len: usize,

@@ -15,6 +15,7 @@
 //! vizhuthamen::check(commitment.as_ref(), 512, &record)?;
 //! # Ok::<(), vizhuthamen::Refusal>(())
 //! ```
+#![deny(missing_docs)]
 #![warn(missing_debug_implementations)]
 
 mod codes;

@@ -11,16 +11,25 @@ pub const MAX_RECORD: usize = 1962;
 pub enum Settled {
     /// Code 0: no string differs.
     Same,
-    /// Code 17: two different 64-byte strings with one node hash, the first record's (or the record's) first.
-    Collision { left: [u8; 64], right: [u8; 64] },
+    /// Code 17: two different 64-byte strings with one node hash.
+    Collision {
+        /// The string of the first record, or of the record.
+        left: [u8; 64],
+        /// The string of the second record, or of the deal.
+        right: [u8; 64],
+    },
 }
 
 /// A field of a record: its tag, where its content starts, the content, and the next field's place.
 #[derive(Clone, Copy, Debug, PartialEq, Eq)]
 pub struct Field<'r> {
+    /// The tag, of any value.
     pub tag: u8,
+    /// The byte of the record at which the content starts.
     pub start: u64,
+    /// The content.
     pub content: &'r [u8],
+    /// The byte of the record at which the next field would start.
     pub next: u64,
 }
 

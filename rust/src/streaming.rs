@@ -17,7 +17,9 @@ pub struct Streaming([u8; STREAM_STATE]);
 /// The commitment of all bytes of a stream, and their number.
 #[derive(Clone, Copy, Debug, PartialEq, Eq)]
 pub struct Streamed {
+    /// The commitment of the bytes.
     pub commitment: Node,
+    /// The number of bytes.
     pub count: u64,
 }
 

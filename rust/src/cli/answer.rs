@@ -1,4 +1,5 @@
 //! The answer of a command: a code, what it says, and values as text and as JSON.
+use super::failure;
 use super::json::Json;
 use vizhuthamen::Refusal;
 
@@ -13,16 +14,24 @@ pub struct Answer {
     pub bytes: Option<Vec<u8>>,
     /// Lines for standard error beside the answer.
     pub notes: Vec<String>,
+    /// Whether a file was written.
+    pub wrote: bool,
 }
 
 impl Answer {
     /// Code 0 with its meaning for this command.
     pub fn done(meaning: &'static str) -> Answer {
-        Answer { code: 0, meaning, text: String::new(), members: vec![], bytes: None, notes: vec![] }
+        Answer { code: 0, meaning, text: String::new(), members: vec![], bytes: None, notes: vec![], wrote: false }
     }
 
+    /// A refusal of the library.
     pub fn refused(refusal: Refusal) -> Answer {
         Answer { code: refusal.code(), ..Answer::done(refusal.meaning()) }
+    }
+
+    /// A deal is damaged: the exit status in the place of a code.
+    pub fn damaged(meaning: &'static str) -> Answer {
+        Answer { code: u32::from(failure::DATA), ..Answer::done(meaning) }
     }
 
     /// A value with its own line of text, `name value`.
@@ -43,11 +52,19 @@ impl Answer {
         self
     }
 
+    /// A file was written.
+    pub fn writing(mut self) -> Answer {
+        self.wrote = true;
+        self
+    }
+
+    /// Bytes for standard output in the place of the text.
     pub fn with_bytes(mut self, bytes: Vec<u8>) -> Answer {
         self.bytes = Some(bytes);
         self
     }
 
+    /// A line for standard error beside the answer.
     pub fn with_note(mut self, note: String) -> Answer {
         self.notes.push(note);
         self
@@ -58,6 +75,7 @@ impl Answer {
         u8::try_from(self.code).unwrap_or(u8::MAX)
     }
 
+    /// The answer as lines of text.
     pub fn to_text(&self) -> String {
         if self.code == 0 && !self.text.is_empty() {
             return self.text.clone();

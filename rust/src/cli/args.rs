@@ -1,6 +1,8 @@
 //! The words of a call.
 use super::failure::{usage, Failure};
 use super::help::{self, Topic};
+use super::store::names::shown;
+use super::store::Access;
 use std::ffi::{OsStr, OsString};
 use std::os::unix::ffi::OsStrExt;
 use std::path::PathBuf;
@@ -13,6 +15,15 @@ pub enum Stream {
     File(PathBuf),
 }
 
+/// A segment in hand, from which a deal is repaired.
+#[derive(Debug, PartialEq, Eq)]
+pub enum InHand {
+    Segment(Stream),
+    Raw(Stream),
+    Commitment(Vec<u8>),
+}
+
+/// A command with what it is given.
 #[derive(Debug, PartialEq, Eq)]
 pub enum Command {
     New { deal: Stream, size: u64 },
@@ -20,7 +31,7 @@ pub enum Command {
     CommitStream { file: Stream },
     Pad { raw: Stream, output: Option<Stream> },
     Unpad { raw_length: u64, segment: Stream, output: Option<Stream> },
-    Book { deal: Stream, segment: Stream },
+    Book { deal: Stream, segment: Stream, force: bool, access: Access },
     List { deal: Stream },
     Tally { deal: Stream },
     Find { deal: Stream, commitment: Vec<u8>, output: Option<Stream> },
@@ -29,6 +40,9 @@ pub enum Command {
     Settle { commitment: Vec<u8>, size: u64, first: Stream, second: Stream },
     SettleDeal { deal: Stream, record: Stream },
     Show { record: Stream },
+    Fsck { deal: Stream, wait: bool },
+    Repair { deal: Stream, in_hand: Option<InHand>, place: Option<u64>, access: Access },
+    Salvage { deal: Stream, folder: PathBuf, wait: bool },
 }
 
 /// What a call asks for: a text to print, or a command.
@@ -42,10 +56,55 @@ pub enum Request {
 #[derive(Default)]
 struct Words {
     operands: Vec<OsString>,
-    output: Option<OsString>,
+    options: Options,
     json: bool,
     help: bool,
     version: bool,
+}
+
+/// The options of a call that only some commands take, with their values.
+#[derive(Default)]
+struct Options(Vec<(&'static str, OsString)>);
+
+impl Options {
+    fn has(&self, name: &str) -> bool {
+        self.0.iter().any(|option| option.0 == name)
+    }
+
+    fn value(&self, name: &str) -> Option<&OsStr> {
+        self.0.iter().find(|option| option.0 == name).map(|option| option.1.as_os_str())
+    }
+
+    fn add(&mut self, name: &'static str, value: OsString) -> Result<(), Failure> {
+        if self.has(name) {
+            return Err(usage(format!("--{name} is given twice")));
+        }
+        self.0.push((name, value));
+        Ok(())
+    }
+
+    fn output(&self) -> Result<Option<Stream>, Failure> {
+        self.value("output").map(stream).transpose()
+    }
+
+    fn wait(&self) -> bool {
+        !self.has("no-wait")
+    }
+
+    fn access(&self) -> Access {
+        Access { wait: self.wait(), new_owner: self.has("new-owner") }
+    }
+
+    fn in_hand(&self) -> Result<Option<InHand>, Failure> {
+        let segment = self.value("segment").map(|file| stream(file).map(InHand::Segment));
+        let raw = self.value("raw").map(|file| stream(file).map(InHand::Raw));
+        let commitment = self.value("commitment").map(|node| bytes(node).map(InHand::Commitment));
+        let mut given = [segment, raw, commitment].into_iter().flatten();
+        match (given.next(), given.next()) {
+            (first, None) => first.transpose(),
+            _ => Err(usage("only one of --segment, --raw and --commitment can be given")),
+        }
+    }
 }
 
 /// What the words ask for, or why they are no call.
@@ -65,7 +124,7 @@ pub fn parse(words: Vec<OsString>) -> Result<Request, Failure> {
     if words.help {
         return Ok(Request::Text(help::of(topic)));
     }
-    let command = command(topic, operands.as_slice(), words.output)?;
+    let command = command(topic, operands.as_slice(), &words.options)?;
     if words.json && raw_output(&command) {
         return Err(usage("--json and --output - both write to standard output"));
     }
@@ -80,7 +139,7 @@ fn help_on(name: Option<&OsString>) -> Result<Request, Failure> {
 }
 
 fn topic_named(name: &OsStr) -> Result<&'static Topic, Failure> {
-    name.to_str().and_then(help::topic).ok_or_else(|| usage(format!("no such command: {}", name.to_string_lossy())))
+    name.to_str().and_then(help::topic).ok_or_else(|| usage(format!("no such command: {}", shown(name))))
 }
 
 /// Takes options apart from operands.
@@ -93,40 +152,44 @@ fn sort(words: Vec<OsString>) -> Result<Words, Failure> {
             b"--json" => sorted.json = true,
             b"-h" | b"--help" => sorted.help = true,
             b"-V" | b"--version" => sorted.version = true,
-            b"-o" | b"--output" => {
-                let file = words.next().ok_or_else(|| usage("--output needs a file name"))?;
-                set_output(&mut sorted, file)?;
-            }
-            option if option.starts_with(b"--output=") => {
-                let file = OsStr::from_bytes(&option[b"--output=".len()..]).to_os_string();
-                set_output(&mut sorted, file)?;
-            }
-            option if option.len() > 1 && option[0] == b'-' => {
-                return Err(usage(format!("no such option: {}", word.to_string_lossy())));
-            }
+            b"-o" => add_option(&mut sorted, b"output", &word, &mut words)?,
+            [b'-', b'-', option @ ..] => add_option(&mut sorted, option, &word, &mut words)?,
+            [b'-', _, ..] => return Err(usage(format!("no such option: {}", shown(&word)))),
             _ => sorted.operands.push(word),
         }
     }
     Ok(sorted)
 }
 
-fn set_output(words: &mut Words, file: OsString) -> Result<(), Failure> {
-    match words.output.replace(file) {
-        None => Ok(()),
-        Some(_) => Err(usage("--output is given twice")),
-    }
+/// Adds an option, `NAME` or `NAME=VALUE`; a value that is not there is the next word.
+fn add_option(
+    sorted: &mut Words,
+    option: &[u8],
+    word: &OsStr,
+    rest: &mut impl Iterator<Item = OsString>,
+) -> Result<(), Failure> {
+    let mut halves = option.splitn(2, |byte| *byte == b'=');
+    let (name, value) = (halves.next().unwrap_or_default(), halves.next());
+    let known = help::OPTIONS.iter().find(|known| known.name.as_bytes() == name);
+    let known = known.ok_or_else(|| usage(format!("no such option: {}", shown(word))))?;
+    let value = match (known.value, value) {
+        ("", None) => OsString::new(),
+        ("", Some(_)) => return Err(usage(format!("--{} takes no value", known.name))),
+        (_, Some(value)) => OsStr::from_bytes(value).to_os_string(),
+        (what, None) => rest.next().ok_or_else(|| usage(format!("--{} needs {what}", known.name)))?,
+    };
+    sorted.options.add(known.name, value)
 }
 
-/// The command of a topic with these operands.
-fn command(topic: &Topic, operands: &[OsString], output: Option<OsString>) -> Result<Command, Failure> {
-    if output.is_some() && !topic.takes_output {
-        return Err(usage(format!("{} takes no --output", topic.name)));
+/// The command of a topic with these operands and options.
+fn command(topic: &Topic, operands: &[OsString], options: &Options) -> Result<Command, Failure> {
+    if let Some((name, _)) = options.0.iter().find(|option| !topic.options.contains(&option.0)) {
+        return Err(usage(format!("{} takes no --{name}", topic.name)));
     }
     if operands.len() != topic.operands.len() {
         return Err(usage(format!("wrong number of words; the call is: vizhuthamen {}", help::call(topic))));
     }
-    let output = output.map(|file| stream(&file)).transpose()?;
-    let command = operands_of(topic.name, operands, output)?;
+    let command = operands_of(topic.name, operands, options)?;
     match standard_inputs(&command) {
         0 | 1 => Ok(command),
         _ => Err(usage("standard input can be read only once")),
@@ -134,7 +197,8 @@ fn command(topic: &Topic, operands: &[OsString], output: Option<OsString>) -> Re
 }
 
 /// Reads the operands, whose number is right.
-fn operands_of(name: &str, words: &[OsString], output: Option<Stream>) -> Result<Command, Failure> {
+fn operands_of(name: &str, words: &[OsString], options: &Options) -> Result<Command, Failure> {
+    let output = options.output()?;
     Ok(match (name, words) {
         ("new", [deal, size]) => Command::New { deal: stream(deal)?, size: number(size)? },
         ("commit", [file]) => Command::Commit { file: stream(file)? },
@@ -143,7 +207,10 @@ fn operands_of(name: &str, words: &[OsString], output: Option<Stream>) -> Result
         ("unpad", [raw_length, segment]) => {
             Command::Unpad { raw_length: number(raw_length)?, segment: stream(segment)?, output }
         }
-        ("book", [deal, segment]) => Command::Book { deal: stream(deal)?, segment: stream(segment)? },
+        ("book", [deal, segment]) => {
+            let (deal, segment) = (stream(deal)?, stream(segment)?);
+            Command::Book { deal, segment, force: options.has("force"), access: options.access() }
+        }
         ("list", [deal]) => Command::List { deal: stream(deal)? },
         ("tally", [deal]) => Command::Tally { deal: stream(deal)? },
         ("find", [deal, node]) => Command::Find { deal: stream(deal)?, commitment: bytes(node)?, output },
@@ -159,6 +226,16 @@ fn operands_of(name: &str, words: &[OsString], output: Option<Stream>) -> Result
         },
         ("settle-deal", [deal, record]) => Command::SettleDeal { deal: stream(deal)?, record: stream(record)? },
         ("show", [record]) => Command::Show { record: stream(record)? },
+        ("fsck", [deal]) => Command::Fsck { deal: stream(deal)?, wait: options.wait() },
+        ("repair", [deal]) => Command::Repair {
+            deal: stream(deal)?,
+            in_hand: options.in_hand()?,
+            place: options.value("place").map(number).transpose()?,
+            access: options.access(),
+        },
+        ("salvage", [deal, folder]) => {
+            Command::Salvage { deal: stream(deal)?, folder: PathBuf::from(folder), wait: options.wait() }
+        }
         _ => return Err(usage(format!("no such command: {name}"))),
     })
 }
@@ -170,18 +247,21 @@ fn standard_inputs(command: &Command) -> usize {
         Command::Commit { file } | Command::CommitStream { file } => &[file],
         Command::Pad { raw, .. } => &[raw],
         Command::Unpad { segment, .. } => &[segment],
-        Command::Book { deal, segment } => &[deal, segment],
+        Command::Book { deal, segment, .. } => &[deal, segment],
         Command::List { deal } | Command::Tally { deal } => &[deal],
         Command::Find { deal, .. } | Command::Build { deal, .. } => &[deal],
         Command::Check { record, .. } | Command::Show { record } => &[record],
         Command::Settle { first, second, .. } => &[first, second],
         Command::SettleDeal { deal, record } => &[deal, record],
+        Command::Fsck { deal, .. } | Command::Salvage { deal, .. } => &[deal],
+        Command::Repair { deal, in_hand: Some(InHand::Segment(file) | InHand::Raw(file)), .. } => &[deal, file],
+        Command::Repair { deal, .. } => &[deal],
     };
     read.iter().filter(|stream| ***stream == Stream::Standard).count()
 }
 
 /// Whether the command writes bytes to standard output in the place of its answer.
-fn raw_output(command: &Command) -> bool {
+pub fn raw_output(command: &Command) -> bool {
     let output = match command {
         Command::Find { output, .. } | Command::Build { output, .. } => output,
         Command::Pad { output, .. } | Command::Unpad { output, .. } => output,
@@ -203,14 +283,12 @@ fn number(word: &OsStr) -> Result<u64, Failure> {
     let digits = word.to_str().filter(|text| !text.is_empty() && text.bytes().all(|b| b.is_ascii_digit()));
     digits
         .and_then(|text| text.parse().ok())
-        .ok_or_else(|| usage(format!("not a decimal number below 2^64: {}", word.to_string_lossy())))
+        .ok_or_else(|| usage(format!("not a decimal number below 2^64: {}", shown(word))))
 }
 
 /// The bytes of a commitment in hex, however many there are: the library judges their number.
 fn bytes(word: &OsStr) -> Result<Vec<u8>, Failure> {
-    word.to_str()
-        .and_then(hex::decode)
-        .ok_or_else(|| usage(format!("not a commitment in hex: {}", word.to_string_lossy())))
+    word.to_str().and_then(hex::decode).ok_or_else(|| usage(format!("not a commitment in hex: {}", shown(word))))
 }
 
 #[cfg(test)]
@@ -227,8 +305,14 @@ mod tests {
 
     #[test]
     fn commands() {
-        let book = Command::Book { deal: file("d"), segment: Stream::Standard };
-        assert_eq!(parsed("book d -"), Ok(Request::Run { command: book, json: false }));
+        let access = Access { wait: true, new_owner: false };
+        let book = |force, access| Command::Book { deal: file("d"), segment: Stream::Standard, force, access };
+        assert_eq!(parsed("book d -"), Ok(Request::Run { command: book(false, access), json: false }));
+        let other = book(true, Access { wait: false, new_owner: true });
+        assert_eq!(parsed("book --force d --no-wait - --new-owner"), Ok(Request::Run { command: other, json: false }));
+        let in_hand = Some(InHand::Raw(file("r")));
+        let repair = Command::Repair { deal: file("d"), in_hand, place: Some(256), access };
+        assert_eq!(parsed("repair d --raw=r --place 256"), Ok(Request::Run { command: repair, json: false }));
         for (word, file) in [("f", file("f")), ("-", Stream::Standard)] {
             let stream = Command::CommitStream { file };
             assert_eq!(parsed(&format!("stream {word}")), Ok(Request::Run { command: stream, json: false }));
@@ -300,6 +384,17 @@ mod tests {
             "help nothing",
             "nothing --help",
             "build d 256 --output=",
+            "book d s --force=yes",
+            "book d s --force --force",
+            "list d --force",
+            "repair d --raw r --segment s",
+            "repair d --place x",
+            "repair d --commitment xyz",
+            "repair - --raw -",
+            "salvage d",
+            "fsck",
+            "book d s --no-wai",
+            "book d s -f",
         ];
         for line in lines {
             assert!(matches!(parsed(line), Err(Failure { status: 64, .. })), "{line}");

@@ -1,16 +1,24 @@
 //! The commands: each reads its files, asks the library, and gives an answer.
+mod fsck;
+mod repair;
+mod salvage;
+
 use super::answer::Answer;
 use super::args::{Command, Stream};
-use super::failure::Failure;
+use super::failure::{self, Failure};
 use super::files::{self, Content};
 use super::json::Json;
 use super::progress::Progress;
+use super::store::names::shown;
+use super::store::{self, Access, DealFile};
+use super::survey::{self, Slot, State};
 use super::table::{table, Column};
+use std::path::Path;
 use vizhuthamen::{
-    hex, Booking, Entry, Field, Node, Position, ReadEntry, Refusal, Settled, Slot, Streaming, MAX_DEAL, MAX_RAW,
-    MAX_STREAM,
+    hex, Booking, Entry, Field, Node, Position, ReadEntry, Refusal, Settled, Streaming, MAX_DEAL, MAX_RAW, MAX_STREAM,
 };
 
+/// Runs a command.
 pub fn run(command: Command) -> Result<Answer, Failure> {
     match command {
         Command::New { deal, size } => new(&deal, size),
@@ -18,7 +26,7 @@ pub fn run(command: Command) -> Result<Answer, Failure> {
         Command::CommitStream { file } => commit_stream(&file),
         Command::Pad { raw, output } => pad(&raw, output),
         Command::Unpad { raw_length, segment, output } => unpad(raw_length, &segment, output),
-        Command::Book { deal, segment } => book(&deal, &segment),
+        Command::Book { deal, segment, force, access } => book(&deal, &segment, force, access),
         Command::List { deal } => list(&deal),
         Command::Tally { deal } => tally(&deal),
         Command::Find { deal, commitment, output } => find(&deal, &commitment, output),
@@ -27,6 +35,9 @@ pub fn run(command: Command) -> Result<Answer, Failure> {
         Command::Settle { commitment, size, first, second } => settle(&commitment, size, &first, &second),
         Command::SettleDeal { deal, record } => settle_deal(&deal, &record),
         Command::Show { record } => show(&record),
+        Command::Fsck { deal, wait } => fsck::fsck(&deal, wait),
+        Command::Repair { deal, in_hand, place, access } => repair::repair(&deal, in_hand.as_ref(), place, access),
+        Command::Salvage { deal, folder, wait } => salvage::salvage(&deal, &folder, wait),
     }
 }
 
@@ -42,7 +53,18 @@ fn refused(refusal: Refusal, deal: &Content) -> Answer {
             let note = format!("{}; a deal has a power of two from 512 to {MAX_DEAL} bytes", deal.described());
             answer.with_note(note)
         }
+        Refusal::STRAY_BITS => {
+            answer.with_note(format!("what is wrong, and where, is shown by: vizhuthamen fsck {}", deal.name))
+        }
         _ => answer,
+    }
+}
+
+/// The path of a deal that is locked.
+fn path_of(deal: &Stream) -> Result<&Path, Failure> {
+    match deal {
+        Stream::File(path) => Ok(path),
+        Stream::Standard => Err(failure::usage("the deal must be a file")),
     }
 }
 
@@ -54,15 +76,16 @@ fn new(deal: &Stream, size: u64) -> Result<Answer, Failure> {
             return Ok(Answer::refused(Refusal::SIZE).with_note(note));
         }
     };
-    files::create_zeros(deal, size)?;
-    Ok(Answer::done("done")
+    let note = store::create(path_of(deal)?, size)?;
+    let answer = note.into_iter().fold(Answer::done("done").writing(), Answer::with_note);
+    Ok(answer
         .with_value("size", Json::Number(size))
         .with_value("entries", Json::Number(numbers.entries))
         .with_value("start", Json::Number(numbers.start)))
 }
 
 fn commit(file: &Stream) -> Result<Answer, Failure> {
-    let run = files::read(file)?;
+    let run = files::read_deal(file)?;
     let _progress = Progress::start("hashing", run.bytes.len());
     Ok(match vizhuthamen::commitment(&run.bytes) {
         Ok(node) => committed(node, run.bytes.len() as u64),
@@ -95,6 +118,9 @@ fn commit_stream(file: &Stream) -> Result<Answer, Failure> {
         progress.arrived(pieces.count);
     }
     drop(progress);
+    if taken.is_ok() {
+        files::compare(file, pieces.count)?;
+    }
     Ok(match taken.and_then(|()| stream.end()) {
         Ok(answer) => committed(answer.commitment, answer.count),
         Err(Refusal::SIZE) => {
@@ -144,112 +170,169 @@ fn unpad_refused(refusal: Refusal, raw_length: u64, segment: &Content) -> Answer
     Answer::refused(refusal).with_note(note)
 }
 
-fn book(deal: &Stream, segment: &Stream) -> Result<Answer, Failure> {
-    let mut old = files::read_replaceable(deal)?;
+fn book(deal: &Stream, segment: &Stream, force: bool, access: Access) -> Result<Answer, Failure> {
+    let path = path_of(deal)?;
+    // The segment first: it may come from a pipe, and nobody is kept waiting for that.
     let segment = files::read(segment)?;
+    let mut old = DealFile::open(path, access)?;
     let progress = Progress::start("booking", old.content.bytes.len());
+    let before = old.content.bytes.clone();
     let booking = vizhuthamen::book(&mut old.content.bytes, &segment.bytes);
     let (answer, position) = match booking {
-        Ok(Booking::Booked(position)) => (Answer::done("done"), position),
+        Ok(Booking::Booked(position)) => (Answer::done("done").writing(), position),
         Ok(Booking::AlreadyKept(position)) => (Answer::refused(Refusal::ALREADY_KEPT), position),
         Err(Refusal::SEGMENT_SIZE) => {
-            let half = old.content.bytes.len() / 2;
+            let half = before.len() / 2;
             let note = format!("{}; a segment here has 1 to {half} bytes", segment.described());
             return Ok(Answer::refused(Refusal::SEGMENT_SIZE).with_note(note));
+        }
+        // Which of the two has the stray bits is not said by the code.
+        Err(Refusal::STRAY_BITS) if survey::stray(&before).is_empty() => {
+            let note = format!("{} has stray bits: a segment is padded first (vizhuthamen pad)", segment.name);
+            return Ok(Answer::refused(Refusal::STRAY_BITS).with_note(note));
         }
         Err(refusal) => return Ok(refused(refusal, &old.content)),
     };
     if matches!(booking, Ok(Booking::Booked(_))) {
-        old.replace(&old.content.bytes)?;
+        if !force {
+            overwrites(&before, &old.content.bytes, position, &shown(path))?;
+        }
+        old.replace(&old.content.bytes, vec![])?;
     }
     drop(progress);
     Ok(positioned(answer, position, &old.content.bytes))
 }
 
+/// Refuses a booking that takes a slot that is not blank, or bytes that may be those of a damaged slot's segment.
+fn overwrites(before: &[u8], after: &[u8], position: Position, name: &str) -> Result<(), Failure> {
+    let numbers = vizhuthamen::index_numbers(before.len() as u64).map_err(failure::data)?;
+    let kind = |place| vizhuthamen::read_entry(survey::slot_bytes(before, place)).map_err(failure::data);
+    let advice = format!("see: vizhuthamen fsck {name}, vizhuthamen repair {name}; --force books all the same");
+    let slot = (position.place - numbers.start) / survey::ENTRY as u64;
+    let held = match kind(position.place)? {
+        ReadEntry::Blank => None,
+        ReadEntry::Damaged => Some("is damaged"),
+        ReadEntry::Valid(_) => Some("holds an entry that does not stand"),
+    };
+    if let Some(held) = held {
+        let place = position.place;
+        let message = format!(
+            "slot {slot} (place {place}) {held}, and the booking would overwrite it; nothing is changed; {advice}"
+        );
+        return Err(failure::data(message));
+    }
+    let ReadEntry::Valid(booked) =
+        vizhuthamen::read_entry(survey::slot_bytes(after, position.place)).map_err(failure::data)?
+    else {
+        return Ok(());
+    };
+    let (start, length) = (booked.offset as usize, survey::area(booked.size) as usize);
+    if before[start..start + length].iter().all(|byte| *byte == 0) {
+        return Ok(());
+    }
+    for other in 0..numbers.entries {
+        let place = numbers.start + survey::ENTRY as u64 * other;
+        if kind(place)? == ReadEntry::Damaged {
+            return Err(failure::data(format!(
+                "slot {other} (place {place}) is damaged, and the booking would overwrite bytes at offset {start} that may be its \
+                 segment's; nothing is changed; {advice}"
+            )));
+        }
+    }
+    Ok(())
+}
+
 /// Adds where a booked segment is, and its size and commitment as its entry in the deal says them.
 fn positioned(answer: Answer, position: Position, deal: &[u8]) -> Answer {
-    let answer = answer
-        .with_value("offset", Json::Number(position.offset))
-        .with_value("place", Json::Number(position.place));
-    match vizhuthamen::inspect(deal, position.place) {
-        Ok(Slot::Kept(entry)) => answer
-            .with_value("size", Json::Number(entry.size))
-            .with_value("commitment", text(entry.commitment)),
+    let answer =
+        answer.with_value("offset", Json::Number(position.offset)).with_value("place", Json::Number(position.place));
+    match vizhuthamen::read_entry(survey::slot_bytes(deal, position.place)) {
+        Ok(ReadEntry::Valid(entry)) => {
+            answer.with_value("size", Json::Number(entry.size)).with_value("commitment", text(entry.commitment))
+        }
         _ => answer,
     }
 }
 
 fn list(deal: &Stream) -> Result<Answer, Failure> {
-    let deal = files::read(deal)?;
-    let size = deal.bytes.len() as u64;
-    let Ok(numbers) = vizhuthamen::index_numbers(size) else {
-        return Ok(refused(Refusal::SIZE, &deal));
-    };
+    let deal = files::read_deal(deal)?;
+    // The library judges size and stray bits.
+    if let Err(refusal) = vizhuthamen::tally(&deal.bytes) {
+        return Ok(refused(refusal, &deal));
+    }
     let progress = Progress::start("reading slots", deal.bytes.len());
-    let (mut rows, mut slots) = (vec![], vec![]);
-    for i in 0..numbers.entries {
-        progress.step(i, numbers.entries);
-        let place = numbers.start + 64 * i;
-        match state(&deal.bytes, place) {
-            Ok((state, entry)) => add_slot(i, place, state, entry, &mut rows, &mut slots),
-            Err(refusal) => return Ok(refused(refusal, &deal)),
-        }
-    }
+    let survey = match survey::survey(&deal.bytes) {
+        Ok(survey) => survey,
+        Err(refusal) => return Ok(refused(refusal, &deal)),
+    };
     drop(progress);
-    let columns = [
-        Column("slot", true),
-        Column("place", true),
-        Column("state", false),
-        Column("offset", true),
-        Column("size", true),
-        Column("commitment", false),
-    ];
-    let members =
-        vec![("size", Json::Number(size)), ("start", Json::Number(numbers.start)), ("slots", Json::List(slots))];
-    Ok(Answer::done("done").with_text(table(&columns, &rows), members))
+    let rows: Vec<_> = survey.slots.iter().map(|slot| slot_row(slot, state(slot))).collect();
+    let slots = survey.slots.iter().map(|slot| Json::Object(slot_members(slot, state(slot)))).collect();
+    let size = Json::Number(deal.bytes.len() as u64);
+    let members = vec![("size", size), ("start", Json::Number(survey.numbers.start)), ("slots", Json::List(slots))];
+    Ok(Answer::done("done").with_text(table(&SLOT_COLUMNS, &rows), members))
 }
 
-/// What the slot at a place holds, in a word, and its entry where that is valid. A free slot is told by the kind of its bytes.
-fn state(deal: &[u8], place: u64) -> Result<(&'static str, Option<Entry>), Refusal> {
-    Ok(match vizhuthamen::inspect(deal, place)? {
-        Slot::Kept(entry) => ("kept", Some(entry)),
-        Slot::Standing(entry) => ("standing", Some(entry)),
-        Slot::Free => match vizhuthamen::read_entry(&deal[place as usize..][..64])? {
-            ReadEntry::Blank => ("blank", None),
-            ReadEntry::Damaged => ("damaged", None),
-            ReadEntry::Valid(entry) => ("valid", Some(entry)),
-        },
-    })
-}
-
-/// Adds a slot to the table and to the list for JSON.
-fn add_slot(
-    slot: u64,
-    place: u64,
-    state: &str,
-    entry: Option<Entry>,
-    rows: &mut Vec<Vec<String>>,
-    slots: &mut Vec<Json>,
-) {
-    let cell = |value: fn(&Entry) -> String| entry.as_ref().map_or("-".to_string(), value);
-    rows.push(vec![
-        slot.to_string(),
-        place.to_string(),
-        state.to_string(),
-        cell(|entry| entry.offset.to_string()),
-        cell(|entry| entry.size.to_string()),
-        cell(|entry| entry.commitment.to_string()),
-    ]);
-    let mut members = vec![("slot", Json::Number(slot)), ("place", Json::Number(place)), ("state", text(state))];
-    if let Some(Entry { commitment, offset, size }) = entry {
-        members.extend([("offset", Json::Number(offset)), ("size", Json::Number(size))]);
-        members.push(("commitment", text(commitment)));
+/// What a slot holds, in a word.
+fn state(slot: &Slot) -> &'static str {
+    match slot.state {
+        State::Blank => "blank",
+        State::Damaged => "damaged",
+        State::Valid(_) => "valid",
+        State::Standing { kept: false, .. } => "standing",
+        State::Standing { kept: true, .. } => "kept",
     }
-    slots.push(Json::Object(members));
+}
+
+/// The columns of a table of slots.
+const SLOT_COLUMNS: [Column; 6] = [
+    Column("slot", true),
+    Column("place", true),
+    Column("state", false),
+    Column("offset", true),
+    Column("size", true),
+    Column("commitment", false),
+];
+
+/// A slot as a row of a table.
+fn slot_row(slot: &Slot, state: &str) -> Vec<String> {
+    let entry = slot.entry();
+    let cell = |value: Option<String>| value.unwrap_or_else(|| "-".to_string());
+    vec![
+        slot.number.to_string(),
+        slot.place.to_string(),
+        state.to_string(),
+        cell(entry.map(|entry| entry.offset.to_string())),
+        cell(entry.map(|entry| entry.size.to_string())),
+        cell(entry.map(|entry| entry.commitment.to_string())),
+    ]
+}
+
+/// A slot for JSON.
+fn slot_members(slot: &Slot, state: &str) -> Vec<(&'static str, Json)> {
+    let mut members =
+        vec![("slot", Json::Number(slot.number)), ("place", Json::Number(slot.place)), ("state", text(state))];
+    if let Some(entry) = slot.entry() {
+        members.extend([("offset", Json::Number(entry.offset)), ("size", Json::Number(entry.size))]);
+        members.push(("commitment", text(entry.commitment)));
+    }
+    members
+}
+
+/// What was done to a slot, with its entry, for JSON.
+fn slot_entry(what: Json, slot: u64, place: u64, entry: &Entry) -> Vec<(&'static str, Json)> {
+    vec![
+        ("what", what),
+        ("slot", Json::Number(slot)),
+        ("place", Json::Number(place)),
+        ("offset", Json::Number(entry.offset)),
+        ("size", Json::Number(entry.size)),
+        ("commitment", text(entry.commitment)),
+    ]
 }
 
 fn tally(deal: &Stream) -> Result<Answer, Failure> {
-    let deal = files::read(deal)?;
+    let deal = files::read_deal(deal)?;
     Ok(match vizhuthamen::tally(&deal.bytes) {
         Ok(tally) => Answer::done("done")
             .with_value("blank", Json::Number(tally.blank))
@@ -260,7 +343,7 @@ fn tally(deal: &Stream) -> Result<Answer, Failure> {
 }
 
 fn find(deal: &Stream, commitment: &[u8], output: Option<Stream>) -> Result<Answer, Failure> {
-    let deal = files::read(deal)?;
+    let deal = files::read_deal(deal)?;
     let progress = Progress::start("searching", deal.bytes.len());
     let found = match vizhuthamen::find(&deal.bytes, commitment) {
         Ok(found) => found,
@@ -275,7 +358,7 @@ fn find(deal: &Stream, commitment: &[u8], output: Option<Stream>) -> Result<Answ
 }
 
 fn build(deal: &Stream, place: u64, output: Option<Stream>) -> Result<Answer, Failure> {
-    let deal = files::read(deal)?;
+    let deal = files::read_deal(deal)?;
     let progress = Progress::start("building", deal.bytes.len());
     let record = match vizhuthamen::build(&deal.bytes, place) {
         Ok(record) => record,
@@ -303,7 +386,7 @@ fn put(answer: Answer, output: Option<Stream>, bytes: &[u8], read: &Content) -> 
     match output {
         None => Ok(answer),
         Some(Stream::Standard) => Ok(answer.with_bytes(bytes.to_vec())),
-        Some(Stream::File(path)) => files::write(&path, bytes, read).map(|()| answer),
+        Some(Stream::File(path)) => files::write(&path, bytes, read).map(|()| answer.writing()),
     }
 }
 
@@ -322,7 +405,7 @@ fn settle(commitment: &[u8], size: u64, first: &Stream, second: &Stream) -> Resu
 }
 
 fn settle_deal(deal: &Stream, record: &Stream) -> Result<Answer, Failure> {
-    let (deal, record) = (files::read(deal)?, files::read(record)?);
+    let (deal, record) = (files::read_deal(deal)?, files::read(record)?);
     let _progress = Progress::start("settling", deal.bytes.len());
     match vizhuthamen::settle_with_deal(&deal.bytes, &record.bytes) {
         Err(refusal) => Ok(refused(refusal, &deal)),

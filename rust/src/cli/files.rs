@@ -1,12 +1,15 @@
-//! Reading files, and writing them so that a failure or a kill leaves the old ones whole.
+//! Reading files, and writing outputs so that a failure or a kill leaves the old ones whole.
 use super::args::Stream;
 use super::failure::{self, Failure};
-use super::output;
+use super::store::aside::{remove_dead, Aside, Fill};
+use super::store::change::{self, Part};
+use super::store::names::{shown, Home};
+use super::store::{self, Held, Keep};
 use std::fs::{self, File, Metadata, OpenOptions};
 use std::io::{self, ErrorKind, Read, Write};
 use std::os::fd::AsFd;
-use std::os::unix::fs::{fchown, MetadataExt, OpenOptionsExt};
-use std::path::{Path, PathBuf};
+use std::os::unix::fs::MetadataExt;
+use std::path::Path;
 use vizhuthamen::{MAX_DEAL, MAX_STREAM};
 
 /// The largest piece in which a stream is read, in bytes.
@@ -14,12 +17,21 @@ const PIECE: usize = 1 << 20;
 
 /// What was read: the bytes (of a longer file the first 2^24 + 1), the name for messages, and which file it is.
 pub struct Content {
+    /// The bytes.
     pub bytes: Vec<u8>,
+    /// The name for messages.
     pub name: String,
-    metadata: Option<Metadata>,
+    /// Which file it is, and what it was like before it was read.
+    pub metadata: Option<Metadata>,
 }
 
 impl Content {
+    /// The length of the file, or of what was read where it is no regular one.
+    pub fn length(&self) -> u64 {
+        let read = self.bytes.len() as u64;
+        self.metadata.as_ref().filter(|metadata| metadata.is_file()).map_or(read, |metadata| metadata.len().max(read))
+    }
+
     /// The name and the size, for messages about sizes.
     pub fn described(&self) -> String {
         sized(&self.name, self.bytes.len() as u64, MAX_DEAL as u64)
@@ -34,12 +46,9 @@ fn sized(name: &str, size: u64, limit: u64) -> String {
     }
 }
 
-fn cannot(action: &str, name: &str, error: io::Error) -> Failure {
+/// Reading or writing a file failed.
+pub fn cannot(action: &str, name: &str, error: io::Error) -> Failure {
     failure::io(format!("cannot {action} {name}: {error}"))
-}
-
-fn shown(path: &Path) -> String {
-    path.display().to_string()
 }
 
 /// Reads standard input or a file.
@@ -51,9 +60,34 @@ pub fn read(stream: &Stream) -> Result<Content, Failure> {
         }
         Stream::File(path) => {
             let file = File::open(path).map_err(|error| cannot("read", &shown(path), error))?;
-            let metadata = file.metadata().ok();
-            read_from(file, shown(path), metadata)
+            read_open(&file, shown(path))
         }
+    }
+}
+
+/// Reads an open file.
+pub fn read_open(file: &File, name: String) -> Result<Content, Failure> {
+    let metadata = file.metadata().ok();
+    read_from(file, name, metadata)
+}
+
+/// Reads a deal, which must have the size that is known of it.
+pub fn read_deal(stream: &Stream) -> Result<Content, Failure> {
+    let content = read(stream)?;
+    compare(stream, content.length())?;
+    Ok(content)
+}
+
+/// Compares the length of a deal that is read with what is known of it, where it is a file. Nothing is known of a pipe or of a file
+/// without a name, nor where it may not be read.
+pub fn compare(stream: &Stream, length: u64) -> Result<(), Failure> {
+    let real = match stream {
+        Stream::File(path) if path.is_file() => fs::canonicalize(path).ok(),
+        _ => None,
+    };
+    match real.map(|real| store::agrees(&real, length)) {
+        Some(Err(failure)) if failure.status == failure::DATA => Err(failure),
+        _ => Ok(()),
     }
 }
 
@@ -106,64 +140,21 @@ impl Pieces {
     }
 }
 
-/// A deal that is to be replaced: its content, and the file that its name leads to.
-pub struct Replaceable {
-    pub content: Content,
-    path: PathBuf,
-    metadata: Metadata,
-}
-
-/// Reads a file that is to be replaced. It must be a regular file that the caller may write.
-pub fn read_replaceable(stream: &Stream) -> Result<Replaceable, Failure> {
-    let Stream::File(given) = stream else {
-        return Err(failure::usage("the deal that is booked into must be a file"));
-    };
-    let name = shown(given);
-    let path = fs::canonicalize(given).map_err(|error| cannot("read", &name, error))?;
-    let metadata = fs::metadata(&path).map_err(|error| cannot("read", &name, error))?;
-    if !metadata.is_file() {
-        return Err(failure::io(format!("cannot replace {name}: it is not a regular file")));
-    }
-    let opened = OpenOptions::new().read(true).write(true).open(&path);
-    let file = opened.map_err(|error| cannot("open for reading and writing", &name, error))?;
-    let content = read_from(file, name, Some(metadata.clone()))?;
-    Ok(Replaceable { content, path, metadata })
-}
-
-impl Replaceable {
-    /// Puts a new file with these bytes in the place of the old one.
-    pub fn replace(&self, bytes: &[u8]) -> Result<(), Failure> {
-        replace(&self.path, bytes, Some(&self.metadata)).map_err(|error| cannot("write", &self.content.name, error))
-    }
-}
-
-/// Makes a file of zero bytes. A file that is there stays.
-pub fn create_zeros(stream: &Stream, size: u64) -> Result<(), Failure> {
-    let Stream::File(path) = stream else {
-        return Err(failure::usage("the new deal must be a file"));
-    };
-    let made = OpenOptions::new().write(true).create_new(true).open(path);
-    let file = made.map_err(|error| cannot("make", &shown(path), error))?;
-    file.set_len(size).and_then(|()| file.sync_all()).map_err(|error| {
-        let _ = fs::remove_file(path);
-        cannot("make", &shown(path), error)
-    })
-}
-
-/// Writes an output file. It must not be the file that the command has read.
+/// Writes an output file. It must not be a file that the command has read.
 pub fn write(path: &Path, bytes: &[u8], read: &Content) -> Result<(), Failure> {
     let failed = |error| cannot("write", &shown(path), error);
     match fs::metadata(path) {
         Ok(old) if same_file(&old, read) => {
             Err(failure::usage(format!("--output would replace {}, which was read", shown(path))))
         }
-        Ok(old) if old.is_file() => {
-            OpenOptions::new().write(true).open(path).map_err(failed)?;
-            fs::canonicalize(path).and_then(|real| replace(&real, bytes, Some(&old))).map_err(failed)
-        }
+        Ok(old) if old.is_file() => replace(path, bytes),
         // A device, a pipe: written as it is. A directory: refused by the system.
         Ok(_) => OpenOptions::new().write(true).open(path).and_then(|mut file| file.write_all(bytes)).map_err(failed),
-        Err(error) if error.kind() == ErrorKind::NotFound => replace(path, bytes, None).map_err(failed),
+        Err(error) if error.kind() == ErrorKind::NotFound => match make(path, bytes)? {
+            true => Ok(()),
+            // Another process has made it in the meantime.
+            false => replace(path, bytes),
+        },
         Err(error) => Err(failed(error)),
     }
 }
@@ -172,74 +163,43 @@ fn same_file(file: &Metadata, read: &Content) -> bool {
     read.metadata.as_ref().is_some_and(|other| (file.dev(), file.ino()) == (other.dev(), other.ino()))
 }
 
-/// A file beside the one that it will replace. It is removed again unless it has been renamed.
-struct Aside {
-    path: PathBuf,
-    file: File,
-    renamed: bool,
+/// Makes a file in one step. Says false where the name is taken.
+pub fn make(path: &Path, bytes: &[u8]) -> Result<bool, Failure> {
+    let failed = |error: String| failure::io(format!("cannot write {}: {error}", shown(path)));
+    let (home, held) = (Home::of(path), Held::start());
+    let mut aside = Aside::write(&home, 0, Fill::Bytes(bytes), None, &held).map_err(failed)?;
+    let made = aside.make(path, &held).map_err(failed)?;
+    if made {
+        change::flush(&home.folder).map_err(|error| failed(format!("its folder could not be flushed: {error}")))?;
+    }
+    Ok(made)
 }
 
-impl Aside {
-    fn create(folder: &Path, mode: u32) -> io::Result<Aside> {
-        let mut number = 0;
-        loop {
-            let path = folder.join(format!(".vizhuthamen.{}.{number}", std::process::id()));
-            match OpenOptions::new().write(true).create_new(true).mode(mode).open(&path) {
-                Ok(file) => return Ok(Aside { path, file, renamed: false }),
-                Err(error) if error.kind() == ErrorKind::AlreadyExists && number < 1000 => number += 1,
-                Err(error) => return Err(error),
-            }
-        }
+/// Puts a file with these bytes in the place of one that is there, in one step.
+fn replace(path: &Path, bytes: &[u8]) -> Result<(), Failure> {
+    let failed = |error| cannot("write", &shown(path), error);
+    let real = fs::canonicalize(path).map_err(failed)?;
+    let old = OpenOptions::new().write(true).open(&real).map_err(failed)?;
+    let home = Home::of(&real);
+    // A second name that a dead process has left is none of the user's.
+    remove_dead(&home.part(0)).map_err(|error| failure::io(format!("cannot write {}: {error}", shown(path))))?;
+    if old.metadata().map_err(failed)?.nlink() > 1 {
+        let why = "it has several names (hard links), which would no longer be one file";
+        return Err(failure::io(format!("cannot replace {}: {why}", shown(path))));
     }
-
-    /// Gives the file owner and permissions of another. An owner that may not be given away is left.
-    fn keep(&self, old: &Metadata) -> io::Result<()> {
-        let new = self.file.metadata()?;
-        if (new.uid(), new.gid()) != (old.uid(), old.gid()) {
-            let _ = fchown(&self.file, Some(old.uid()), Some(old.gid()));
-        }
-        self.file.set_permissions(old.permissions())
-    }
-
-    fn rename(mut self, path: &Path) -> io::Result<()> {
-        fs::rename(&self.path, path)?;
-        self.renamed = true;
-        Ok(())
-    }
-}
-
-impl Drop for Aside {
-    fn drop(&mut self) {
-        if !self.renamed {
-            let _ = fs::remove_file(&self.path);
-        }
-    }
-}
-
-/// Puts a file with these bytes at a path in one step: it is written aside, flushed to the disk and renamed.
-fn replace(path: &Path, bytes: &[u8], old: Option<&Metadata>) -> io::Result<()> {
-    let folder = match path.parent() {
-        Some(parent) if parent != Path::new("") => parent,
-        _ => Path::new("."),
-    };
-    let mut aside = Aside::create(folder, if old.is_some() { 0o600 } else { 0o666 })?;
-    aside.file.write_all(bytes)?;
-    if let Some(old) = old {
-        aside.keep(old)?;
-    }
-    aside.file.sync_all()?;
-    aside.rename(path)?;
-    if let Err(error) = File::open(folder).and_then(|folder| folder.sync_all()) {
-        let told = format!("{} is written, but its folder could not be flushed to the disk: {error}", shown(path));
-        output::message(&told);
-    }
-    Ok(())
+    let keep = Keep { old: &old, new_owner: true };
+    let part = Part { target: real, bytes, keep: Some(keep) };
+    change::put(&home, &[part], || Ok(())).map_err(|trouble| store::troubled(trouble, &shown(path)))
 }
 
 #[cfg(test)]
 mod tests {
     use super::*;
+    use crate::cli::store::{Access, DealFile};
     use std::os::unix::fs::PermissionsExt;
+    use std::path::PathBuf;
+
+    const ACCESS: Access = Access { wait: true, new_owner: false };
 
     /// An empty folder of its own for one test.
     fn folder(name: &str) -> PathBuf {
@@ -263,13 +223,13 @@ mod tests {
         fs::write(&path, b"old").unwrap();
         fs::set_permissions(&path, fs::Permissions::from_mode(0o640)).unwrap();
         std::os::unix::fs::symlink(&path, &link).unwrap();
-        let old = read_replaceable(&Stream::File(link.clone())).unwrap();
-        assert_eq!(old.content.bytes, b"old");
-        old.replace(b"new bytes").unwrap();
+        let deal = DealFile::open(&link, ACCESS).unwrap();
+        assert_eq!(deal.content.bytes, b"old");
+        deal.replace(b"new bytes", vec![]).unwrap();
         assert_eq!(fs::read(&path).unwrap(), b"new bytes");
         assert_eq!(fs::metadata(&path).unwrap().permissions().mode() & 0o777, 0o640);
         assert!(fs::symlink_metadata(&link).unwrap().is_symlink());
-        assert_eq!(names(&folder), ["deal", "link"]);
+        assert_eq!(names(&folder), ["deal", "deal.vz", "link"]);
         fs::remove_dir_all(folder).unwrap();
     }
 
@@ -279,8 +239,59 @@ mod tests {
         let target = folder.join("full");
         fs::create_dir(&target).unwrap();
         fs::write(target.join("inside"), b"").unwrap();
-        assert!(replace(&target, b"bytes", None).is_err());
+        let part = Part { target: target.clone(), bytes: b"bytes", keep: None };
+        assert!(matches!(change::put(&Home::of(&target), &[part], || Ok(())), Err(change::Trouble::Nothing(_))));
         assert_eq!(names(&folder), ["full"]);
+        fs::remove_dir_all(folder).unwrap();
+    }
+
+    #[test]
+    fn several_files_or_none() {
+        let folder = folder("several");
+        let path = folder.join("deal");
+        fs::write(&path, b"old").unwrap();
+        let deal = DealFile::open(&path, ACCESS).unwrap();
+        let other = |name: &str| Part { target: folder.join(name), bytes: b"other", keep: None };
+        fs::create_dir(folder.join("taken")).unwrap();
+        let before = names(&folder);
+        // A journal that is there cannot be, since it would have been ended: the change is not made.
+        fs::write(folder.join(".deal.vz-journal"), b"").unwrap();
+        assert!(deal.replace(b"new", vec![other("other")]).is_err());
+        fs::remove_file(folder.join(".deal.vz-journal")).unwrap();
+        assert_eq!((names(&folder), fs::read(&path).unwrap()), (before, b"old".to_vec()));
+        deal.replace(b"new", vec![other("other")]).unwrap();
+        assert_eq!(names(&folder), ["deal", "deal.vz", "other", "taken"]);
+        assert_eq!(fs::read(&path).unwrap(), b"new");
+        fs::remove_dir_all(folder).unwrap();
+    }
+
+    #[test]
+    fn a_deal_that_other_hands_change_is_not_replaced() {
+        let folder = folder("hands");
+        let path = folder.join("deal");
+        fs::write(&path, b"old").unwrap();
+        let deal = DealFile::open(&path, ACCESS).unwrap();
+        fs::write(folder.join("mine"), b"mine").unwrap();
+        fs::rename(folder.join("mine"), &path).unwrap();
+        assert_eq!(deal.replace(b"new", vec![]).unwrap_err().status, 74);
+        assert_eq!((names(&folder), fs::read(&path).unwrap()), (vec!["deal".to_string()], b"mine".to_vec()));
+        fs::remove_dir_all(folder).unwrap();
+    }
+
+    #[test]
+    fn a_name_that_a_dead_process_has_left_is_taken_over() {
+        let folder = folder("dead");
+        let path = folder.join("deal");
+        fs::write(&path, b"old").unwrap();
+        for number in [0, 3, 8] {
+            fs::write(folder.join(format!(".deal.vz-new.{number}")), b"dead").unwrap();
+        }
+        drop(DealFile::open(&path, ACCESS).unwrap());
+        assert_eq!(names(&folder), ["deal"]);
+        fs::write(folder.join(".out.vz-new.0"), b"dead").unwrap();
+        fs::write(folder.join("out"), b"old").unwrap();
+        replace(&folder.join("out"), b"new").unwrap();
+        assert_eq!(names(&folder), ["deal", "out"]);
         fs::remove_dir_all(folder).unwrap();
     }
 
@@ -335,12 +346,14 @@ mod tests {
     #[test]
     fn a_file_that_is_there_is_not_made_anew() {
         let folder = folder("new");
-        let stream = Stream::File(folder.join("deal"));
-        create_zeros(&stream, 512).unwrap();
-        assert_eq!(fs::read(folder.join("deal")).unwrap(), [0; 512]);
-        fs::write(folder.join("deal"), b"kept").unwrap();
-        assert_eq!(create_zeros(&stream, 512).unwrap_err().status, 74);
-        assert_eq!(fs::read(folder.join("deal")).unwrap(), b"kept");
+        let path = folder.join("deal");
+        assert_eq!(store::create(&path, 512).unwrap(), None);
+        assert_eq!(fs::read(&path).unwrap(), [0; 512]);
+        assert_eq!(names(&folder), ["deal", "deal.vz"]);
+        fs::write(&path, b"kept").unwrap();
+        assert_eq!(store::create(&path, 512).unwrap_err().status, 74);
+        assert_eq!(store::create(&path, 1024).unwrap_err().status, 65);
+        assert_eq!(fs::read(&path).unwrap(), b"kept");
         fs::remove_dir_all(folder).unwrap();
     }
 }

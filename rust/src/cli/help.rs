@@ -1,34 +1,60 @@
 //! The texts of `--help`, and what each command takes.
 
-/// A command: its name, its operands, whether it takes `--output`, and the text after its usage line.
+/// A command: its name, its operands, the options that not all take, and the text after its usage line.
 pub struct Topic {
+    /// The word that names it.
     pub name: &'static str,
+    /// What follows the name.
     pub operands: &'static [&'static str],
-    pub takes_output: bool,
+    /// The names of its options.
+    pub options: &'static [&'static str],
     summary: &'static str,
     text: &'static str,
 }
 
-pub const TOPICS: [Topic; 14] = [
+/// An option that some commands take: its name, its value (none where that is empty), and what it does.
+pub struct Choice {
+    /// The word after `--`.
+    pub name: &'static str,
+    /// What its value is.
+    pub value: &'static str,
+    summary: &'static str,
+}
+
+/// The options that some commands take.
+pub const OPTIONS: [Choice; 8] = [
+    Choice { name: "output", value: "FILE", summary: "write to FILE, replacing it (also -o)" },
+    Choice { name: "force", value: "", summary: "book over a slot that is not blank" },
+    Choice { name: "no-wait", value: "", summary: "do not wait where another process works on the deal" },
+    Choice { name: "new-owner", value: "", summary: "let the deal be the caller's where its owner cannot be kept" },
+    Choice { name: "segment", value: "FILE", summary: "the segment in hand" },
+    Choice { name: "raw", value: "FILE", summary: "the raw archive in hand" },
+    Choice { name: "commitment", value: "COMMITMENT", summary: "the commitment in hand (hex)" },
+    Choice { name: "place", value: "PLACE", summary: "the entry place that is repaired" },
+];
+
+/// The commands.
+pub const TOPICS: [Topic; 17] = [
     Topic {
         name: "new",
         operands: &["DEAL", "SIZE"],
-        takes_output: false,
+        options: &[],
         summary: "make an all-zero deal file",
         text: "Makes the file DEAL with SIZE zero bytes. SIZE is a power of two from 512 to 16777216.
-A file that is there is never overwritten.",
+A file that is there is never overwritten. Beside it goes DEAL.vz, a small text with the size: a deal that has
+another size than DEAL.vz says is neither read nor changed (exit status 65). DEAL.vz can be done without.",
     },
     Topic {
         name: "commit",
         operands: &["FILE"],
-        takes_output: false,
+        options: &[],
         summary: "print the commitment of a file",
         text: "Prints the commitment of the bytes of FILE in hex. FILE has a power of two from 32 to 16777216 bytes.",
     },
     Topic {
         name: "stream",
         operands: &["FILE"],
-        takes_output: false,
+        options: &[],
         summary: "print the commitment of a file of up to 2^36 bytes, read in pieces",
         text: "Prints the commitment of the bytes of FILE in hex, as `commit` does. FILE has a power of two from 32 to
 68719476736 bytes; it is read in pieces and never held whole, so FILE may be - or a pipe that is slow. Bytes
@@ -37,7 +63,7 @@ are judged as they arrive: a node with stray bits gets code 11 at once, whatever
     Topic {
         name: "pad",
         operands: &["RAW"],
-        takes_output: true,
+        options: &["output"],
         summary: "pad a raw archive to a segment (Fr32)",
         text: "Pads the bytes of RAW, from 1 to 8323072 of them, to a segment: 254 bits and then two zero bits for every node of
 32 bytes. The segment has 128/127 of the raw length, rounded up. With --output FILE the segment's bytes go to
@@ -46,7 +72,7 @@ FILE and its length is printed; otherwise it is printed in hex.",
     Topic {
         name: "unpad",
         operands: &["RAW_LENGTH", "SEGMENT"],
-        takes_output: true,
+        options: &["output"],
         summary: "take the raw bytes back out of a segment",
         text: "Takes RAW_LENGTH raw bytes back out of the bytes of SEGMENT. Code 24: SEGMENT has another length than so many raw
 bytes give. Code 11: it has stray bits, or bits after the last raw one. A segment of T bytes made by `pad` has
@@ -56,22 +82,27 @@ otherwise they are printed in hex.",
     Topic {
         name: "book",
         operands: &["DEAL", "SEGMENT"],
-        takes_output: false,
+        options: &["force", "no-wait", "new-owner"],
         summary: "book a segment file into a deal file",
         text: "Books the bytes of SEGMENT, already padded (see pad), into the file DEAL, and prints offset, entry place, size and
 commitment. The size is from 1 byte to half of the deal; zeros follow up to the segment's area, the smallest
 power of two at or above both the size and 128. A segment that the deal keeps already gets code 15, with its
 offset and entry place; the deal is not changed by any code but 0.
 
-The new deal is written to a file .vizhuthamen.* beside DEAL, flushed to the disk and renamed over DEAL, with
-its permissions. DEAL is the old or the new deal at any moment, never a part of either. A booking that is
-killed can leave the file .vizhuthamen.* behind; it can be deleted.
-DEAL is not locked: a change made to it by another program during the booking is lost.",
+Booking takes the lowest slot without a standing entry. Where that slot is not blank (damaged, or valid and not
+standing), or where the booking would overwrite bytes that may be those of a damaged slot, nothing is changed and
+the exit status is 65: see fsck and repair. --force books all the same.
+
+DEAL is locked from reading to the end; a booking waits for another, and says so after a second. With --no-wait
+it does not: nothing is changed and the exit status is 75. The new deal is written aside, flushed to the disk and
+renamed over DEAL, with its owner, permissions and extended attributes. DEAL is the old or the new deal at any
+moment, never a part of either. A file with several hard links, or whose owner cannot be kept, is refused;
+--new-owner allows the latter.",
     },
     Topic {
         name: "list",
         operands: &["DEAL"],
-        takes_output: false,
+        options: &[],
         summary: "list the index of a deal as a table",
         text: "Lists every slot of the index: slot, entry place, state, offset, size, commitment. The state is
   blank     all its bytes are zero
@@ -84,7 +115,7 @@ A slot that is blank, damaged or valid holds no standing entry and is free for b
     Topic {
         name: "tally",
         operands: &["DEAL"],
-        takes_output: false,
+        options: &[],
         summary: "count the blank, damaged and valid slots of a deal",
         text: "Counts the slots of the index by their kind: blank (all 64 bytes are zero), damaged (the checksum is wrong) and
 valid (the checksum is right, standing or not). Together they are all slots.",
@@ -92,7 +123,7 @@ valid (the checksum is right, standing or not). Together they are all slots.",
     Topic {
         name: "find",
         operands: &["DEAL", "COMMITMENT"],
-        takes_output: true,
+        options: &["output"],
         summary: "find a segment by its commitment",
         text: "Prints offset, size and entry place of the lowest slot that holds a kept entry with COMMITMENT (hex).
 With --output FILE the segment's bytes go to FILE.",
@@ -100,7 +131,7 @@ With --output FILE the segment's bytes go to FILE.",
     Topic {
         name: "build",
         operands: &["DEAL", "PLACE"],
-        takes_output: true,
+        options: &["output"],
         summary: "build the inclusion record of an entry place",
         text: "Builds the inclusion record of the kept entry at PLACE, a byte offset in the deal. With --output FILE the
 record's bytes go to FILE; otherwise it is printed in hex. The other commands read records as bytes.",
@@ -108,7 +139,7 @@ record's bytes go to FILE; otherwise it is printed in hex. The other commands re
     Topic {
         name: "check",
         operands: &["COMMITMENT", "SIZE", "RECORD"],
-        takes_output: false,
+        options: &[],
         summary: "check a record against a deal's commitment and size",
         text: "Checks the record in the file RECORD against the commitment (hex) and the size of a deal, a power of two
 from 512 to 68719476736. Code 0: the record is accepted.",
@@ -116,7 +147,7 @@ from 512 to 68719476736. Code 0: the record is accepted.",
     Topic {
         name: "settle",
         operands: &["COMMITMENT", "SIZE", "RECORD", "RECORD"],
-        takes_output: false,
+        options: &[],
         summary: "settle two records of one deal",
         text: "Checks two records against one deal's commitment (hex) and size, and compares them. Code 0: they are the same.
 Code 17: they differ and both are accepted; two different 64-byte strings with one node hash are
@@ -125,7 +156,7 @@ printed in hex, the first record's as left.",
     Topic {
         name: "settle-deal",
         operands: &["DEAL", "RECORD"],
-        takes_output: false,
+        options: &[],
         summary: "settle a record with the deal in hand",
         text: "Checks a record against the commitment and the size of the deal itself, and compares it with the deal. Code 0:
 it is the record that the deal gives. Code 17: it is accepted and is another one; two different
@@ -134,10 +165,46 @@ it is the record that the deal gives. Code 17: it is accepted and is another one
     Topic {
         name: "show",
         operands: &["RECORD"],
-        takes_output: false,
+        options: &[],
         summary: "show the fields of a record",
         text: "Shows the fields of a record in turn: tag, name, where the content starts, its length, the content. Numbers are
 in decimal, all else in hex. Code 3: the record is malformed; the fields before the fault are shown.",
+    },
+    Topic {
+        name: "fsck",
+        operands: &["DEAL"],
+        options: &["no-wait"],
+        summary: "find all that is wrong with a deal",
+        text: "Names every stray bit (its byte, its node, and whose area it lies in) and every slot that is not in order:
+  damaged       its checksum is wrong
+  not standing  its checksum is right, but its size or its offset is not allowed
+  overlapping   its area overlaps that of a lower slot
+  not kept      its commitment is not that of the bytes at its offset, or these have stray bits
+Exit status 0: nothing is wrong. 65: something is, or DEAL has another size than DEAL.vz says. Nothing is changed.",
+    },
+    Topic {
+        name: "repair",
+        operands: &["DEAL"],
+        options: &["segment", "raw", "commitment", "place", "no-wait", "new-owner"],
+        summary: "repair what can be told for certain",
+        text: "Clears stray bits, which no segment and no entry has. Makes the entry of each damaged slot anew where it can be
+told for certain: from its own bytes, where either its commitment or its checksum agrees with the bytes of the
+deal, or from the segment in hand: --segment or --raw names its file, --commitment its commitment. --place names
+the slot where several are damaged, or where it is not damaged but blank. With the segment in hand the bytes of an
+entry that stands and is not kept are written anew too.
+
+The deal as it was is kept as DEAL.before-repair (or DEAL.before-repair.N); the repaired deal and this copy are
+put in place together or not at all. Exit status 0: fsck finds nothing wrong any more. 65: something is left.",
+    },
+    Topic {
+        name: "salvage",
+        operands: &["DEAL", "FOLDER"],
+        options: &["no-wait"],
+        summary: "write out every segment that is whole for certain",
+        text: "Writes the segment of each entry that is kept, or would be after `repair`, to a file slot-N-COMMITMENT.segment in
+FOLDER, which is made where it is not there. DEAL is not changed, and may have stray bits. A file that is there
+stays: it must have the same bytes. Exit status 0: the segment of every slot that is not blank is written. 65:
+those of some are not, and they are named.",
     },
 ];
 
@@ -147,15 +214,11 @@ const CONVENTIONS: &str = "Conventions:
   Nodes are 64 hex digits; sizes and places are decimal. The file name - is standard input (for --output:
   standard output, without any other text there). -- ends the options.
 
-Options:
-  --json             print one JSON object
-  -o, --output FILE  where a command takes it: write to FILE, replacing it
-  -h, --help         print help, of one command after its name
-  -V, --version      print the version
-
 Exit status:
-  0 with code 0; with any other code that code, 1 to 24, and the line `code N: meaning` on standard output;
-  64 wrong usage; 74 reading or writing failed, with a message on standard error.
+  0 with code 0; with any other code that code, 1 to 24, and the line `code N: meaning` on standard output (on
+  standard error with --output -, where nothing else is written then);
+  64 wrong usage; 65 a deal is damaged or is not what is known of it; 74 reading or writing failed; 75 another
+  process works on the deal and --no-wait is given; each with a message on standard error.
 ";
 
 /// The command of that name.
@@ -163,6 +226,7 @@ pub fn topic(name: &str) -> Option<&'static Topic> {
     TOPICS.iter().find(|topic| topic.name == name)
 }
 
+/// The version of the program.
 pub fn version() -> String {
     format!("vizhuthamen {}\n", env!("CARGO_PKG_VERSION"))
 }
@@ -171,18 +235,42 @@ pub fn version() -> String {
 pub fn overall() -> String {
     let mut text = format!("{ABOUT}\n\nUsage: vizhuthamen COMMAND [OPTIONS] ...\n\nCommands:\n");
     for topic in &TOPICS {
-        text.push_str(&format!("  {:<45} {}\n", call(topic), topic.summary));
+        text.push_str(&format!("  {:<45} {}\n", operands(topic), topic.summary));
     }
-    text + "\n" + CONVENTIONS
+    text + "\n" + CONVENTIONS + &options(|_| true)
 }
 
 /// The help of one command.
 pub fn of(topic: &Topic) -> String {
-    format!("Usage: vizhuthamen {} [--json]\n\n{}\n\n{CONVENTIONS}", call(topic), topic.text)
+    let options = options(|choice| topic.options.contains(&choice.name));
+    format!("Usage: vizhuthamen {} [--json]\n\n{}\n\n{CONVENTIONS}{options}", call(topic), topic.text)
+}
+
+/// The options that are wanted, and those of every command.
+fn options(wanted: impl Fn(&Choice) -> bool) -> String {
+    let mut text = "\nOptions:\n".to_string();
+    let mut add = |name: String, summary| text.push_str(&format!("  {name:<25} {summary}\n"));
+    for choice in OPTIONS.iter().filter(|choice| wanted(choice)) {
+        add(format!("--{} {}", choice.name, choice.value), choice.summary);
+    }
+    add("--json".to_string(), "print one JSON object");
+    add("-h, --help".to_string(), "print help, of one command after its name");
+    add("-V, --version".to_string(), "print the version");
+    text
 }
 
 /// The command with its operands.
+fn operands(topic: &Topic) -> String {
+    format!("{} {}", topic.name, topic.operands.join(" "))
+}
+
+/// The command with its operands and options, by name where they are few.
 pub fn call(topic: &Topic) -> String {
-    let output = if topic.takes_output { " [--output FILE]" } else { "" };
-    format!("{} {}{output}", topic.name, topic.operands.join(" "))
+    let chosen: Vec<&Choice> = OPTIONS.iter().filter(|choice| topic.options.contains(&choice.name)).collect();
+    let named = |choice: &&Choice| format!(" [{}]", format!("--{} {}", choice.name, choice.value).trim_end());
+    let options = match chosen.len() {
+        0..=3 => chosen.iter().map(named).collect(),
+        _ => " [OPTIONS]".to_string(),
+    };
+    operands(topic) + &options
 }

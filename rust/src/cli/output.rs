@@ -1,16 +1,21 @@
 //! Standard output and standard error.
 use super::failure::{self, Failure};
-use std::io::{self, ErrorKind, Write};
+use super::store::system;
+use std::io::{self, Write};
 
-/// Writes to standard output. A reader that has gone away is no failure.
+/// A failure where standard output was closed when the program began.
+pub fn open() -> Result<(), Failure> {
+    match system::output_closed() {
+        true => Err(failure::io("standard output is closed; nothing is done")),
+        false => Ok(()),
+    }
+}
+
+/// Writes to standard output. A reader that has gone away is a failure like any other.
 pub fn write(bytes: &[u8]) -> Result<(), Failure> {
     let mut out = io::stdout().lock();
-    match out.write_all(bytes).and_then(|()| out.flush()) {
-        Err(error) if error.kind() != ErrorKind::BrokenPipe => {
-            Err(failure::io(format!("cannot write to standard output: {error}")))
-        }
-        _ => Ok(()),
-    }
+    let written = out.write_all(bytes).and_then(|()| out.flush());
+    written.map_err(|error| failure::io(format!("cannot write to standard output: {error}")))
 }
 
 /// Writes a line to standard error. Where that fails there is nowhere left to say so.

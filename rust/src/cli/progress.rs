@@ -29,11 +29,6 @@ impl Progress {
         self.show(&format!("{} MiB", bytes >> 20));
     }
 
-    /// Shows how far the work is.
-    pub fn step(&self, done: u64, total: u64) {
-        self.show(&format!("{done} of {total}"));
-    }
-
     fn show(&self, detail: &str) {
         if self.shown {
             let mut err = io::stderr().lock();

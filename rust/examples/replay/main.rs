@@ -4,11 +4,11 @@
 //! line of text: the code, the numbers in decimal, the bytes in hex. Values are zero where the library gives none.
 //!
 //! Every case is run twice, by the safe functions and by the functions of the C interface; two answers that differ are an error.
-#[path = "replay/raw.rs"]
+mod operation;
 mod raw;
-#[path = "replay/safe.rs"]
 mod safe;
 
+use operation::Operation;
 use std::error::Error;
 use std::fmt::{Display, Write as _};
 use std::io::{self, BufReader, BufWriter, ErrorKind, Read, Write};
@@ -18,15 +18,11 @@ use vizhuthamen::{hex, Refusal};
 /// A longer argument is an error of the input.
 const MAX_ARGUMENT: u64 = 1 << 25;
 
-/// The operations that write to their first argument, and to their second: book; build, pad, unpad.
-const WRITE_A: [u64; 1] = [7];
-const WRITE_B: [u64; 3] = [8, 17, 18];
-
 type Answer = Result<Line, Box<dyn Error>>;
 
 #[derive(Clone)]
 struct Case {
-    operation: u64,
+    operation: Operation,
     a: Vec<u8>,
     b: Vec<u8>,
     x: u64,
@@ -73,8 +69,8 @@ fn replay(mut input: impl Read, mut output: impl Write) -> Result<(), Box<dyn Er
 fn answer(case: Case) -> Answer {
     let mut lent = case.clone();
     let raw = raw::answer(&mut lent)?;
-    let changed_a = lent.a != case.a && !WRITE_A.contains(&case.operation);
-    let changed_b = lent.b != case.b && !WRITE_B.contains(&case.operation);
+    let changed_a = lent.a != case.a && !case.operation.writes_a();
+    let changed_b = lent.b != case.b && !case.operation.writes_b();
     if changed_a || changed_b {
         return Err(format!("an input was changed: {}", raw.0).into());
     }
@@ -87,14 +83,16 @@ fn answer(case: Case) -> Answer {
 
 /// The next case; none at the end of the input.
 fn read_case(input: &mut impl Read) -> Result<Option<Case>, Box<dyn Error>> {
-    let Some(operation) = read_operation(input)? else {
+    let Some(number) = read_operation(input)? else {
         return Ok(None);
     };
+    let operation = Operation::numbered(number).ok_or_else(|| format!("no operation has the number {number}"))?;
     let (a, b) = (read_number(input)?, read_number(input)?);
     let (x, y) = (read_number(input)?, read_number(input)?);
     Ok(Some(Case { operation, a: read_bytes(input, a)?, b: read_bytes(input, b)?, x, y }))
 }
 
+/// The first number of a case; none at the end of the input.
 fn read_operation(input: &mut impl Read) -> Result<Option<u64>, Box<dyn Error>> {
     let mut first = [0];
     loop {
@@ -127,10 +125,6 @@ fn read_bytes(input: &mut impl Read, length: u64) -> Result<Vec<u8>, Box<dyn Err
 
 fn digest(bytes: &[u8]) -> Result<[u8; 32], Refusal> {
     vizhuthamen::sha256(bytes)
-}
-
-fn no_operation(operation: u64) -> Answer {
-    Err(format!("no operation has the number {operation}").into())
 }
 
 /// Pieces of these lengths, as far as the bytes go, and then the rest in one piece.

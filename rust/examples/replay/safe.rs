@@ -1,5 +1,5 @@
 //! A case answered by the safe functions.
-use super::{commitment_end, digest, no_operation, pieces, Answer, Case, Line};
+use super::{commitment_end, digest, pieces, Answer, Case, Line, Operation};
 use std::fmt::Write;
 use vizhuthamen::{self as vz, Booking, Node, Position, ReadEntry, Refusal, Settled, Slot, Streaming};
 
@@ -7,30 +7,30 @@ fn code(result: Result<(), Refusal>) -> Line {
     Line::code(result.err().map_or(0, Refusal::code))
 }
 
+/// The line of a case.
 pub fn answer(case: Case) -> Answer {
     let Case { operation, mut a, b, x, y } = case;
     match operation {
-        1 => Ok(digest_line(vz::sha256(&a))),
-        2 => Ok(digest_line(vz::commitment(&a).map(|node| node.0))),
-        3 => Ok(numbers(x)),
-        4 => Ok(made_entry(vz::make_entry(&a, x, y))),
-        5 => Ok(read_entry(&a)),
-        6 => find(&a, &b),
-        7 => book(&mut a, &b),
-        8 => build(&a, b, x),
-        9 => Ok(code(vz::check(&b, x, &a))),
-        10 => {
+        Operation::Sha256 => Ok(digest_line(vz::sha256(&a))),
+        Operation::Commitment => Ok(digest_line(vz::commitment(&a).map(|node| node.0))),
+        Operation::Numbers => Ok(numbers(x)),
+        Operation::Make => Ok(made_entry(vz::make_entry(&a, x, y))),
+        Operation::Read => Ok(read_entry(&a)),
+        Operation::Find => find(&a, &b),
+        Operation::Book => book(&mut a, &b),
+        Operation::Build => build(&a, b, x),
+        Operation::Check => Ok(code(vz::check(&b, x, &a))),
+        Operation::Settle => {
             let (commitment, second) = b.split_at(commitment_end(&b, y));
             Ok(settled(vz::settle_records(commitment, x, &a, second)))
         }
-        11 => Ok(settled(vz::settle_with_deal(&a, &b))),
-        12 => fields(&a),
-        14 => Ok(inspect(&a, x)),
-        16 => Ok(stream(&a, &b)),
-        17 => pad(&a, b),
-        18 => unpad(x, &a, b),
-        19 => Ok(tally(&a)),
-        _ => no_operation(operation),
+        Operation::SettleDeal => Ok(settled(vz::settle_with_deal(&a, &b))),
+        Operation::Fields => fields(&a),
+        Operation::Inspect => Ok(inspect(&a, x)),
+        Operation::Stream => Ok(stream(&a, &b)),
+        Operation::Pad => pad(&a, b),
+        Operation::Unpad => unpad(x, &a, b),
+        Operation::Tally => Ok(tally(&a)),
     }
 }
 

@@ -1,8 +1,8 @@
 //! A case answered by the functions of the C interface. Outputs are lent full of a pattern: with a code that writes none the
 //! pattern must stay, and zeros are shown.
-use super::{commitment_end, digest, no_operation, pieces, Answer, Case, Line};
+use super::{commitment_end, digest, pieces, Answer, Case, Line, Operation};
 use std::fmt::Write;
-use vizhuthamen::ffi;
+use vizhuthamen::{ffi, STREAM_STATE};
 
 const PATTERN: u8 = 0xa5;
 const NUMBER: u64 = 0xa5a5_a5a5_a5a5_a5a5;
@@ -46,49 +46,52 @@ impl Written {
     }
 }
 
+/// The line of a case.
 pub fn answer(case: &mut Case) -> Answer {
     let Case { operation, ref mut a, ref mut b, x, y } = *case;
     match operation {
-        1 | 2 => hashed(operation, a),
-        3 => numbers(x),
-        4 => make_entry(a, x, y),
-        5 => read_entry(a),
-        6 => find(a, b),
-        7 => book(a, b),
-        8 => build(a, b, x),
-        9 => check(b, x, a),
-        10 => {
+        Operation::Sha256 => hashed(ffi::vz_sha256, a),
+        Operation::Commitment => hashed(ffi::vz_commitment, a),
+        Operation::Numbers => numbers(x),
+        Operation::Make => make_entry(a, x, y),
+        Operation::Read => read_entry(a),
+        Operation::Find => find(a, b),
+        Operation::Book => book(a, b),
+        Operation::Build => build(a, b, x),
+        Operation::Check => check(b, x, a),
+        Operation::Settle => {
             let (commitment, second) = b.split_at(commitment_end(b, y));
             settle_records(commitment, x, a, second)
         }
-        11 => settle_with_deal(a, b),
-        12 => fields(a),
-        14 => inspect(a, x),
-        16 => stream(a, b),
-        17 => pad(a, b),
-        18 => unpad(x, a, b),
-        19 => tally(a),
-        _ => no_operation(operation),
+        Operation::SettleDeal => settle_with_deal(a, b),
+        Operation::Fields => fields(a),
+        Operation::Inspect => inspect(a, x),
+        Operation::Stream => stream(a, b),
+        Operation::Pad => pad(a, b),
+        Operation::Unpad => unpad(x, a, b),
+        Operation::Tally => tally(a),
     }
 }
 
-fn hashed(operation: u64, input: &[u8]) -> Answer {
+/// A function of the C interface from bytes to 32 bytes.
+type Hash = unsafe extern "C" fn(*const u8, usize, *mut u8, usize) -> u32;
+
+fn hashed(function: Hash, input: &[u8]) -> Answer {
     let mut out = [PATTERN; 32];
-    let function = if operation == 1 { ffi::vz_sha256 } else { ffi::vz_commitment };
     // SAFETY: here and below, slices are live and outputs are locals or mutably borrowed, so that nothing overlaps.
     let code = unsafe { function(input.as_ptr(), input.len(), out.as_mut_ptr(), out.len()) };
     Written::new(code, &[0]).bytes(out).done()
 }
 
 fn stream(bytes: &[u8], lengths: &[u8]) -> Answer {
-    let mut state = [PATTERN; 1072];
-    unsafe { ffi::vz_stream_new(state.as_mut_ptr(), 1072) };
+    let mut state = [PATTERN; STREAM_STATE];
+    unsafe { ffi::vz_stream_new(state.as_mut_ptr(), STREAM_STATE) };
     let mut codes = vec![];
     for piece in pieces(bytes, lengths) {
-        codes.push(unsafe { ffi::vz_stream_take(state.as_mut_ptr(), 1072, piece.as_ptr(), piece.len()) });
+        codes.push(unsafe { ffi::vz_stream_take(state.as_mut_ptr(), STREAM_STATE, piece.as_ptr(), piece.len()) });
     }
     let (mut node, mut count) = ([PATTERN; 32], NUMBER);
-    let code = unsafe { ffi::vz_stream_end(state.as_ptr(), 1072, node.as_mut_ptr(), 32, &mut count) };
+    let code = unsafe { ffi::vz_stream_end(state.as_ptr(), STREAM_STATE, node.as_mut_ptr(), 32, &mut count) };
     let line = Written::new(code, &[0]).bytes(node).number(count).done()?;
     Ok(codes.into_iter().fold(line, Line::add))
 }

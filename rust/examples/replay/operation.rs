@@ -1,0 +1,54 @@
+//! The operations that a case can ask for, by name.
+
+/// Makes the enumeration and its reading from the number of a case's header.
+macro_rules! operations {
+    ($($number:literal $name:ident)*) => {
+        /// An operation of tests/cases.py, which names the same numbers. 13 and 15 are of other programs.
+        #[derive(Clone, Copy, Debug, PartialEq, Eq)]
+        pub enum Operation {
+            $($name),*
+        }
+
+        impl Operation {
+            /// The operation of that number.
+            pub fn numbered(number: u64) -> Option<Operation> {
+                match number {
+                    $($number => Some(Operation::$name),)*
+                    _ => None,
+                }
+            }
+        }
+    };
+}
+
+operations! {
+    1 Sha256
+    2 Commitment
+    3 Numbers
+    4 Make
+    5 Read
+    6 Find
+    7 Book
+    8 Build
+    9 Check
+    10 Settle
+    11 SettleDeal
+    12 Fields
+    14 Inspect
+    16 Stream
+    17 Pad
+    18 Unpad
+    19 Tally
+}
+
+impl Operation {
+    /// Whether the first argument is lent to be written.
+    pub fn writes_a(self) -> bool {
+        self == Operation::Book
+    }
+
+    /// Whether the second argument is lent to be written.
+    pub fn writes_b(self) -> bool {
+        matches!(self, Operation::Build | Operation::Pad | Operation::Unpad)
+    }
+}

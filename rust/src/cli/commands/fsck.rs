@@ -1,0 +1,159 @@
+//! What is wrong with a deal.
+use super::super::answer::Answer;
+use super::super::args::Stream;
+use super::super::failure::Failure;
+use super::super::files::{self, Content};
+use super::super::json::Json;
+use super::super::progress::Progress;
+use super::super::store::{self, DealFile};
+use super::super::survey::{self, area, Slot, State, Stray, Survey};
+use super::{refused, slot_members, text};
+
+/// Names all that is wrong with a deal. Nothing is changed.
+pub fn fsck(deal: &Stream, wait: bool) -> Result<Answer, Failure> {
+    let (deal, disagrees) = read(deal, wait)?;
+    let progress = Progress::start("checking", deal.bytes.len());
+    let survey = match survey::survey(&deal.bytes) {
+        Ok(survey) => survey,
+        Err(refusal) => return Ok(disagrees.into_iter().fold(refused(refusal, &deal), Answer::with_note)),
+    };
+    drop(progress);
+    let wrong = Wrong::of(&survey);
+    let answer = match wrong.lines.is_empty() && disagrees.is_none() {
+        true => Answer::done("nothing is wrong with the deal"),
+        false => Answer::damaged("something is wrong with the deal"),
+    };
+    Ok(wrong.told(disagreeing(answer, disagrees), &survey))
+}
+
+/// Adds that a deal has another size than is known of it.
+pub fn disagreeing(answer: Answer, disagrees: Option<String>) -> Answer {
+    match disagrees {
+        None => answer,
+        Some(why) => answer.with_text(format!("{why}\n"), vec![("disagrees", text(why))]),
+    }
+}
+
+/// Reads a deal under its lock where it is a file, and says where it has another size than is known of it.
+pub fn read(deal: &Stream, wait: bool) -> Result<(Content, Option<String>), Failure> {
+    match deal {
+        Stream::File(path) if path.is_file() => {
+            let file = DealFile::open_to_read(path, wait)?;
+            let disagrees = store::agrees(file.path(), file.content.length()).err().map(|failure| failure.message);
+            Ok((file.content, disagrees))
+        }
+        _ => files::read(deal).map(|content| (content, None)),
+    }
+}
+
+/// What is wrong: a line of text for each, and the same for JSON.
+pub struct Wrong {
+    pub lines: Vec<String>,
+    stray: Vec<Json>,
+    slots: Vec<Json>,
+}
+
+impl Wrong {
+    pub fn of(survey: &Survey) -> Wrong {
+        let mut wrong = Wrong { lines: vec![], stray: vec![], slots: vec![] };
+        for bits in &survey.stray {
+            wrong.add_stray(survey, bits);
+        }
+        for slot in &survey.slots {
+            wrong.add_slot(survey, slot);
+        }
+        wrong
+    }
+
+    fn add_stray(&mut self, survey: &Survey, stray: &Stray) {
+        let Stray { offset, bits } = *stray;
+        let node = offset / 32;
+        let slots: Vec<u64> = survey.slots.iter().filter(|slot| covers(slot, offset)).map(|slot| slot.number).collect();
+        let index = (offset >= survey.numbers.start).then(|| (offset - survey.numbers.start) / survey::ENTRY as u64);
+        let whose = match (index, slots.as_slice()) {
+            (Some(slot), _) => format!("in slot {slot} of the index"),
+            (None, []) => "in no entry's area".to_string(),
+            (None, slots) => {
+                let numbers: Vec<String> = slots.iter().map(u64::to_string).collect();
+                format!("in the area of slot {}", numbers.join(", "))
+            }
+        };
+        self.lines.push(format!("stray bits {bits:#04x} at byte {offset}, node {node}, {whose}"));
+        let numbers = slots.into_iter().map(Json::Number).collect();
+        let mut members = vec![
+            ("offset", Json::Number(offset)),
+            ("bits", Json::Number(u64::from(bits))),
+            ("node", Json::Number(node)),
+            ("slots", Json::List(numbers)),
+        ];
+        members.extend(index.map(|slot| ("index_slot", Json::Number(slot))));
+        self.stray.push(Json::Object(members));
+    }
+
+    fn add_slot(&mut self, survey: &Survey, slot: &Slot) {
+        for (state, why) in states(survey, slot) {
+            self.lines.push(format!("slot {} (place {}) is {state}: {why}", slot.number, slot.place));
+            let mut members = slot_members(slot, state);
+            if let State::Standing { overlaps: Some(other), .. } = slot.state {
+                members.push(("overlaps", Json::Number(other)));
+            }
+            self.slots.push(Json::Object(members));
+        }
+    }
+
+    /// Adds what is wrong to an answer, with the numbers of slots.
+    pub fn told(self, answer: Answer, survey: &Survey) -> Answer {
+        let count = |wanted: fn(&Slot) -> bool| survey.slots.iter().filter(|slot| wanted(slot)).count() as u64;
+        let kept = count(|slot| slot.kept().is_some());
+        let blank = count(|slot| slot.state == State::Blank);
+        let mut lines = self.lines.join("\n");
+        if !lines.is_empty() {
+            lines.push('\n');
+        }
+        lines.push_str(&format!("{kept} of {} slots kept, {blank} blank\n", survey.slots.len()));
+        let members = vec![
+            ("slots", Json::Number(survey.slots.len() as u64)),
+            ("kept", Json::Number(kept)),
+            ("blank", Json::Number(blank)),
+            ("stray", Json::List(self.stray)),
+            ("wrong", Json::List(self.slots)),
+        ];
+        answer.with_text(lines, members)
+    }
+}
+
+/// Whether the area of a slot's entry, which stands, has a byte.
+fn covers(slot: &Slot, offset: u64) -> bool {
+    slot.standing().is_some_and(|entry| (entry.offset..entry.offset + area(entry.size)).contains(&offset))
+}
+
+/// What is wrong with a slot: words, and the reason.
+fn states(survey: &Survey, slot: &Slot) -> Vec<(&'static str, String)> {
+    let mut states = vec![];
+    match slot.state {
+        State::Blank => {}
+        State::Damaged => states.push(("damaged", "its checksum is wrong".to_string())),
+        State::Valid(entry) => {
+            let why = format!("size {} or offset {} is not allowed in this deal", entry.size, entry.offset);
+            states.push(("not standing", why));
+        }
+        State::Standing { entry, kept, overlaps } => {
+            if let Some(other) = overlaps {
+                states.push(("overlapping", format!("its area is also that of slot {other}")));
+            }
+            let strayed = survey.stray.iter().any(|stray| covers(slot, stray.offset));
+            let at = format!("the {} bytes at offset {}", area(entry.size), entry.offset);
+            match (kept, strayed) {
+                (true, _) => {}
+                (false, true) => states.push(("not kept", format!("{at} have stray bits"))),
+                (false, false) => states.push(("not kept", format!("{at} have another commitment"))),
+            }
+        }
+    }
+    states
+}
+
+/// The name of a file in an answer.
+pub fn file_name(path: &std::path::Path) -> Json {
+    text(super::shown(path))
+}

@@ -1,0 +1,97 @@
+//! Repairing a deal.
+use super::super::answer::Answer;
+use super::super::args::{InHand, Stream};
+use super::super::failure::{self, Failure};
+use super::super::files;
+use super::super::json::Json;
+use super::super::mend::{self, Hand, Step};
+use super::super::progress::Progress;
+use super::super::store::{Access, DealFile};
+use super::super::survey::Stray;
+use super::fsck::{file_name, Wrong};
+use super::{path_of, refused, slot_entry, text};
+use vizhuthamen::{Entry, Node, Refusal};
+
+/// Mends what can be told for certain, with a copy of the deal as it was beside it.
+pub fn repair(deal: &Stream, in_hand: Option<&InHand>, place: Option<u64>, access: Access) -> Result<Answer, Failure> {
+    let hand = match in_hand.map(hand).transpose()? {
+        Some(Err(answer)) => return Ok(answer),
+        hand => hand.and_then(Result::ok),
+    };
+    let file = DealFile::open(path_of(deal)?, access)?;
+    let progress = Progress::start("repairing", file.content.bytes.len());
+    let mended = match mend::mend(&file.content.bytes, hand.as_ref(), place) {
+        Ok(mended) => mended,
+        Err(refusal) => return Ok(refused(refusal, &file.content)),
+    };
+    drop(progress);
+    let copy = match mended.steps.is_empty() {
+        true => None,
+        false => {
+            let (name, part) = file.copy()?;
+            file.replace(&mended.bytes, part.into_iter().collect())?;
+            Some(name)
+        }
+    };
+    let wrong = Wrong::of(&mended.survey);
+    let answer = match (wrong.lines.is_empty(), mended.steps.is_empty()) {
+        (true, true) => Answer::done("nothing is wrong with the deal"),
+        (true, false) => Answer::done("the deal is repaired"),
+        (false, _) => Answer::damaged("something is left that cannot be told"),
+    };
+    let lines = mended.steps.iter().map(line).collect();
+    let steps = mended.steps.iter().map(members).collect();
+    let answer = answer.with_text(lines, vec![("mended", Json::List(steps))]);
+    let answer = copy.into_iter().fold(answer, |answer, name| answer.with_value("copy", file_name(&name)).writing());
+    Ok(wrong.told(answer, &mended.survey))
+}
+
+/// The segment in hand, or the refusal of its bytes.
+fn hand(in_hand: &InHand) -> Result<Result<Hand, Answer>, Failure> {
+    let refused =
+        |refusal, name: &str| Answer::refused(refusal).with_note(format!("{name} is no segment that a deal can have"));
+    Ok(match in_hand {
+        InHand::Commitment(bytes) => match <[u8; 32]>::try_from(bytes.as_slice()) {
+            Ok(node) => Ok(Hand { commitment: Node(node), segment: None }),
+            Err(_) => Err(Answer::refused(Refusal::COMMITMENT_LENGTH)),
+        },
+        InHand::Segment(file) => {
+            let segment = files::read(file)?;
+            if segment.bytes.is_empty() {
+                return Err(failure::usage(format!("{} is empty", segment.name)));
+            }
+            Hand::of(&segment.bytes).map_err(|refusal| refused(refusal, &segment.name))
+        }
+        InHand::Raw(file) => {
+            let raw = files::read(file)?;
+            let hand = vizhuthamen::pad(&raw.bytes).and_then(|segment| Hand::of(&segment));
+            hand.map_err(|refusal| refused(refusal, &raw.name))
+        }
+    })
+}
+
+/// A step as a line of text.
+fn line(step: &Step) -> String {
+    let entry =
+        |entry: &Entry| format!("offset {}, size {}, commitment {}", entry.offset, entry.size, entry.commitment);
+    match step {
+        Step::Bits(Stray { offset, bits }) => format!("cleared stray bits {bits:#04x} at byte {offset}\n"),
+        Step::Entry { slot, place, entry: made } => {
+            format!("made the entry of slot {slot} (place {place}) anew: {}\n", entry(made))
+        }
+        Step::Segment { slot, place, entry: stood } => {
+            format!("wrote the segment of slot {slot} (place {place}) anew: {}\n", entry(stood))
+        }
+    }
+}
+
+/// A step for JSON.
+fn members(step: &Step) -> Json {
+    Json::Object(match step {
+        Step::Bits(Stray { offset, bits }) => {
+            vec![("what", text("bits")), ("offset", Json::Number(*offset)), ("bits", Json::Number(u64::from(*bits)))]
+        }
+        Step::Entry { slot, place, entry } => slot_entry(text("entry"), *slot, *place, entry),
+        Step::Segment { slot, place, entry } => slot_entry(text("segment"), *slot, *place, entry),
+    })
+}

@@ -1,0 +1,55 @@
+//! What a file has beside its bytes: owner, permissions, extended attributes, access lists among them.
+use super::names::shown;
+use super::system;
+use std::ffi::CStr;
+use std::fs::{File, Metadata};
+use std::io;
+use std::os::unix::fs::{fchown, MetadataExt};
+
+/// The file whose attributes another takes over, and whether it may do so without the owner.
+pub struct Keep<'f> {
+    pub old: &'f File,
+    pub new_owner: bool,
+}
+
+/// Gives a new file the owner, the extended attributes and the permissions of the old one. What cannot be kept is refused.
+pub fn keep(new: &File, keep: &Keep) -> Result<(), String> {
+    let old = keep.old.metadata().map_err(|error| format!("its attributes cannot be read: {error}"))?;
+    keep_owner(new, &old, keep.new_owner)?;
+    let names = system::attribute_names(keep.old).map_err(|error| format!("its attributes cannot be read: {error}"))?;
+    for name in &names {
+        keep_attribute(new, keep.old, name).map_err(|error| {
+            format!("its extended attribute {} cannot be kept: {error}", shown(name.to_string_lossy().as_ref()))
+        })?;
+    }
+    // Last, since a change of the owner takes permissions away.
+    new.set_permissions(old.permissions()).map_err(|error| format!("its permissions cannot be kept: {error}"))
+}
+
+fn keep_owner(new: &File, old: &Metadata, new_owner: bool) -> Result<(), String> {
+    let made = new.metadata().map_err(|error| error.to_string())?;
+    let group = made.gid() == old.gid() || fchown(new, None, Some(old.gid())).is_ok();
+    let user = made.uid() == old.uid() || fchown(new, Some(old.uid()), None).is_ok();
+    match (user && group) || new_owner {
+        true => Ok(()),
+        false => Err(format!(
+            "it belongs to user {} and group {}, and its replacement would belong to user {}; \
+             run the command as that user, or allow it with --new-owner",
+            old.uid(),
+            old.gid(),
+            made.uid()
+        )),
+    }
+}
+
+/// An attribute that the new file has already, as a label that the system gives, need not be set.
+fn keep_attribute(new: &File, old: &File, name: &CStr) -> io::Result<()> {
+    let value = match system::attribute(old, name) {
+        Err(error) if error.raw_os_error() == Some(system::ENODATA) => return Ok(()),
+        value => value?,
+    };
+    match system::set_attribute(new, name, &value) {
+        Err(_) if system::attribute(new, name).is_ok_and(|has| has == value) => Ok(()),
+        set => set,
+    }
+}

@@ -1,0 +1,184 @@
+//! The file of a deal: made, read and changed under its lock.
+use super::aside::{leads_to, Aside, Fill};
+use super::attributes::Keep;
+use super::change::{self, Part, Trouble};
+use super::lock::{self, Share};
+use super::names::{shown, Home};
+use super::sidecar;
+use super::signals::Held;
+use crate::cli::failure::{self, Failure};
+use crate::cli::files::{self, Content};
+use std::fs::{self, File, OpenOptions};
+use std::os::unix::fs::MetadataExt;
+use std::path::{Path, PathBuf};
+
+/// How a deal is opened for a change.
+#[derive(Clone, Copy, Debug, PartialEq, Eq)]
+pub struct Access {
+    /// Whether to wait where another process works on the deal.
+    pub wait: bool,
+    /// Whether the deal may belong to the caller afterwards, where its owner cannot be kept.
+    pub new_owner: bool,
+}
+
+/// A deal under its lock, which ends when this is dropped.
+pub struct DealFile {
+    /// The deal as it was read.
+    pub content: Content,
+    file: File,
+    path: PathBuf,
+    home: Home,
+    access: Access,
+    known: bool,
+}
+
+impl DealFile {
+    /// Opens a deal for a change: nobody else changes it as long as this is there. It must be a regular file with one name that the
+    /// caller may write, and have the size that is known of it.
+    pub fn open(given: &Path, access: Access) -> Result<DealFile, Failure> {
+        let deal = DealFile::lock(given, access, Share::Nobody)?;
+        let cannot = |error| failure::io(format!("cannot clean up beside {}: {error}", shown(given)));
+        change::clear(&deal.home, &deal.file).map_err(cannot)?;
+        if deal.file.metadata().is_ok_and(|metadata| metadata.nlink() > 1) {
+            return Err(failure::io(format!(
+                "cannot replace {}: it has several names (hard links), which would no longer be one file; \
+                 remove the others, or make them symbolic links",
+                shown(given)
+            )));
+        }
+        let known = sidecar::agrees(&deal.path, deal.content.length())?;
+        Ok(DealFile { known, ..deal })
+    }
+
+    /// Opens a deal for reading it together with what lies beside it: nobody changes it as long as this is there.
+    pub fn open_to_read(given: &Path, wait: bool) -> Result<DealFile, Failure> {
+        DealFile::lock(given, Access { wait, new_owner: false }, Share::Readers)
+    }
+
+    /// Locks the file that the name leads to, ends a change that a dead process has left, and reads.
+    fn lock(given: &Path, access: Access, share: Share) -> Result<DealFile, Failure> {
+        loop {
+            if let Some(deal) = DealFile::try_lock(given, access, share)? {
+                return Ok(deal);
+            }
+        }
+    }
+
+    /// One turn of that. Nothing where the deal was replaced or a change of it was ended in the meantime.
+    fn try_lock(given: &Path, access: Access, share: Share) -> Result<Option<DealFile>, Failure> {
+        let name = shown(given);
+        let path = fs::canonicalize(given).map_err(|error| files::cannot("read", &name, error))?;
+        let metadata = fs::metadata(&path).map_err(|error| files::cannot("read", &name, error))?;
+        if !metadata.is_file() {
+            return Err(failure::io(format!("cannot lock {name}: it is not a regular file")));
+        }
+        let home = Home::of(&path);
+        // A change that is to be ended is ended by a writer, and then a reader begins anew.
+        let writes = share == Share::Nobody || home.journal().exists();
+        let opened = OpenOptions::new().read(true).write(writes).open(&path);
+        let action = if writes { "open for reading and writing" } else { "read" };
+        let file = opened.map_err(|error| files::cannot(action, &name, error))?;
+        lock::take(&file, if writes { Share::Nobody } else { share }, access.wait, given)?;
+        let current = leads_to(&path, &file).map_err(|error| files::cannot("read", &name, error))?;
+        if !current || !writes && home.journal().exists() {
+            return Ok(None);
+        }
+        let ended = writes && change::end(&home).map_err(|error| failure::io(format!("{name}: {error}")))?;
+        if ended || writes && share == Share::Readers {
+            return Ok(None);
+        }
+        let content = files::read_open(&file, name)?;
+        Ok(Some(DealFile { content, file, path, home, access, known: false }))
+    }
+
+    /// An error where the deal is not the file that was read any more, or not as it was read: other hands were at it.
+    fn unchanged(&self) -> Result<(), String> {
+        let metadata = self.file.metadata().map_err(|error| error.to_string())?;
+        let read = self.content.metadata.as_ref().ok_or("its attributes were not read")?;
+        let time = |metadata: &fs::Metadata| (metadata.len(), metadata.mtime(), metadata.mtime_nsec());
+        let current = leads_to(&self.path, &self.file).map_err(|error| error.to_string())?;
+        match current && time(&metadata) == time(read) {
+            true => Ok(()),
+            false => Err("another program has changed or replaced it in the meantime".to_string()),
+        }
+    }
+
+    /// Puts a new deal in the place of the old one, with its owner and permissions, together with other files beside it: all of them
+    /// or none. What is known of the deal is put beside it where nothing is.
+    pub fn replace(&self, bytes: &[u8], others: Vec<Part>) -> Result<(), Failure> {
+        let keep = Keep { old: &self.file, new_owner: self.access.new_owner };
+        let text = sidecar::text(bytes.len() as u64);
+        let mut parts = vec![Part { target: self.path.clone(), bytes, keep: Some(keep) }];
+        if !self.known {
+            // Whoever may read the deal may read what is known of it.
+            let keep = Keep { old: &self.file, new_owner: true };
+            parts.push(Part { target: self.home.sidecar(), bytes: text.as_bytes(), keep: Some(keep) });
+        }
+        parts.extend(others);
+        change::put(&self.home, &parts, || self.unchanged()).map_err(|trouble| troubled(trouble, &self.content.name))
+    }
+
+    /// The part that makes a copy of the deal as it was read, beside it: its target is a name that nothing has. None where there is
+    /// such a copy already.
+    pub fn copy(&self) -> Result<(PathBuf, Option<Part<'_>>), Failure> {
+        for number in 0.. {
+            let target = self.home.copy(number);
+            match fs::read(&target) {
+                Ok(bytes) if bytes == self.content.bytes => return Ok((target, None)),
+                Ok(_) => {}
+                Err(error) if error.kind() == std::io::ErrorKind::NotFound => {
+                    let keep = Keep { old: &self.file, new_owner: true };
+                    let part = Part { target: target.clone(), bytes: &self.content.bytes, keep: Some(keep) };
+                    return Ok((target, Some(part)));
+                }
+                Err(error) => return Err(files::cannot("read", &shown(&target), error)),
+            }
+        }
+        unreachable!("some number is free");
+    }
+
+    /// Where the deal lies.
+    pub fn path(&self) -> &Path {
+        &self.path
+    }
+}
+
+/// The failure of a change, in which it says whether anything is changed.
+pub fn troubled(trouble: Trouble, name: &str) -> Failure {
+    failure::io(match trouble {
+        Trouble::Nothing(why) => format!("cannot write {name}: {why}; nothing is changed"),
+        Trouble::Made(why) => format!("{name} is written, but {why}"),
+    })
+}
+
+/// Makes a deal of zero bytes. A file that is there stays. Says what could not be done beside it.
+pub fn create(given: &Path, size: u64) -> Result<Option<String>, Failure> {
+    let name = shown(given);
+    let cannot = |error: String| failure::io(format!("cannot make {name}: {error}"));
+    let home = Home::of(given);
+    let known = sidecar::agrees(given, size)?;
+    let held = Held::start();
+    let mut aside = Aside::write(&home, 0, Fill::Zeros(size), None, &held).map_err(cannot)?;
+    if !aside.make(given, &held).map_err(cannot)? {
+        return Err(failure::io(format!("cannot make {name}: the file exists")));
+    }
+    // The new deal was locked before it had its name, and is until the end.
+    change::flush(&home.folder)
+        .map_err(|error| troubled(Trouble::Made(format!("its folder could not be flushed: {error}")), &name))?;
+    Ok(beside_new(&home, size, known, aside.file(), &held).err().map(|why| {
+        format!("{} could not be written: {why}; a cut of {name} will not be noticed", shown(home.sidecar()))
+    }))
+}
+
+/// Removes what was left beside an older deal of the same name, and puts what is known of the new one there.
+fn beside_new(home: &Home, size: u64, known: bool, deal: &File, held: &Held) -> Result<(), String> {
+    match fs::remove_file(home.journal()) {
+        Err(error) if error.kind() != std::io::ErrorKind::NotFound => return Err(error.to_string()),
+        _ => change::clear(home, deal)?,
+    }
+    if !known {
+        let text = sidecar::text(size);
+        Aside::write(home, 0, Fill::Bytes(text.as_bytes()), None, held)?.make(&home.sidecar(), held)?;
+    }
+    change::flush(&home.folder).map_err(|error| error.to_string())
+}

@@ -1,0 +1,573 @@
+"""Kills, signals, errors and races at the command line: python3 tests/faults_test.py [--large] [--seed S] [--folder F].
+
+A library between the program and the C library (tests/c/faults.c, compiled here) counts the calls that go to the system. Each command that
+writes is run once for every call of it and every way in which that call can go wrong:
+
+  kill     the process is killed before the call, and later calls must find the old state or the new one, nothing between;
+  signal   SIGINT, SIGTERM or SIGHUP comes before the call, and nothing may be left behind, without any later call;
+  error    the call fails with ENOSPC, EIO, EINTR, EXDEV or EACCES, or writes too little;
+  pause    the process is stopped before the call, another one books into the same deal, and the first goes on.
+
+All of it is done with unnamed files and without them (`plain`), as on a system that has none. Then processes are killed at random moments, and 2 to 8
+processes book into one deal at once, undisturbed and while others of them are killed. Afterwards every booking that was answered with 0
+must be in the deal where it was told to be, every deal must be a whole one, and no file may be there that nobody asked for.
+"""
+import argparse
+import errno
+import os
+import random
+import shutil
+import signal
+import subprocess
+import sys
+import tempfile
+import threading
+import time
+from collections import Counter
+from concurrent.futures import ProcessPoolExecutor
+from pathlib import Path
+
+from cases import node
+from model import Model, area, pad, segment_length
+
+ROOT = Path(__file__).resolve().parent.parent
+BINARY = Path(os.environ.get("VIZHUTHAMEN", ROOT / "rust" / "target" / "release" / "vizhuthamen"))
+MODEL = Model()
+DATA, IO, BUSY = 65, 74, 75
+ERRORS = (errno.ENOSPC, errno.EIO, errno.EINTR, errno.EXDEV, errno.EACCES)
+SIGNALS = (signal.SIGINT, signal.SIGTERM, signal.SIGHUP)
+
+# Functions of the C library that the program uses and that need no fault: they do not go to the system, or only at the start, or their
+# failure is not the program's to handle (memory, threads, time).
+PLAIN = set("""_ITM_deregisterTMCloneTable _ITM_registerTMCloneTable __cxa_finalize __cxa_thread_atexit_impl __errno_location __gmon_start__
+__libc_start_main __tls_get_addr __xpg_strerror_r abort bcmp calloc clock_gettime clock_nanosleep dl_iterate_phdr dlsym free getauxval getenv
+getrandom gettid isatty malloc memcpy memmove memset memchr memcmp mmap64 mprotect munmap pause poll posix_memalign realloc sched_yield
+sigaction sigaltstack signal sigpending strlen syscall sysconf getpid nanosleep""".split())
+
+
+class Wrong(Exception):
+    pass
+
+
+def check(condition, *what):
+    if not condition:
+        raise Wrong(" ".join(map(str, what)))
+
+
+def compile_shim(shim):
+    source = ROOT / "tests" / "c" / "faults.c"
+    subprocess.run(["gcc", "-Wall", "-Wextra", "-Werror", "-O1", "-shared", "-fPIC", "-o", shim, source, "-ldl"], check=True)
+
+
+def names_of(file, kind):
+    out = subprocess.run(["nm", "-D", kind, file], capture_output=True, check=True, text=True).stdout
+    return {line.split()[-1].split("@")[0] for line in out.splitlines()}
+
+
+def check_names(shim):
+    """Every function that the program asks of the C library is one that can go wrong here, or is known to need no fault."""
+    asked = {n for n in names_of(BINARY, "--undefined-only") if not n.startswith(("_Unwind", "pthread_"))}
+    unknown = asked - names_of(shim, "--defined-only") - PLAIN
+    check(not unknown, "functions that are not looked at:", *sorted(unknown))
+
+
+class Place:
+    """A folder, and calls of the program in it."""
+
+    def __init__(self, folder, shim):
+        self.folder, self.shim = folder, shim
+
+    def path(self, name):
+        return self.folder / name
+
+    def clean(self):
+        for path in self.folder.iterdir():
+            shutil.rmtree(path) if path.is_dir() else path.unlink()
+
+    def put(self, files):
+        self.clean()
+        for name, data in files.items():
+            self.path(name).write_bytes(data)
+
+    def state(self):
+        """All files: names and bytes."""
+        return {p.name: p.read_bytes() for p in self.folder.iterdir()}
+
+    def start(self, words, fault=None, plain=False, **options):
+        environment = {"PATH": os.environ.get("PATH", "")}
+        if fault or plain:
+            environment["LD_PRELOAD"] = str(self.shim)
+            environment["FAULT_PLAIN"] = str(int(plain))
+        environment.update(fault or {})
+        return subprocess.Popen([BINARY, *map(str, words)], cwd=self.folder, env=environment, stdin=subprocess.DEVNULL,
+                                stdout=subprocess.PIPE, stderr=subprocess.PIPE, **options)
+
+    def run(self, words, **options):
+        call = self.start(words, **options)
+        out, err = call.communicate(timeout=120)
+        check(b"panicked" not in err, words, err)
+        return call.returncode, out, err
+
+    def calls(self, words, plain):
+        """The names of the calls that a command makes, in order."""
+        log = self.folder.parent / "log"
+        log.unlink(missing_ok=True)
+        self.run(words, fault={"FAULT_LOG": str(log)}, plain=plain)
+        return log.read_text().split()
+
+
+def check_flushed(names):
+    """A file is flushed to the disk after its last write and before it gets its name, and the folder is flushed after that."""
+    naming = ("linkat", "rename", "renameat2")
+    written = flushed = named = 0
+    for at, name in enumerate(names, 1):
+        if name in naming:
+            check(flushed > written, "named before it was flushed:", *names[:at])
+            named = at
+        flushed = at if name == "fsync" else flushed
+        written = at if name in ("write", "ftruncate64") and at < len(names) else written
+    check(flushed > named, "the folder was not flushed:", *names)
+
+
+def fault(at, what):
+    return {"FAULT_AT": str(at), "FAULT_DO": what}
+
+
+class Scene:
+    """A command, the files before it and after it, and its exit statuses: done, and run once more afterwards."""
+
+    def __init__(self, name, words, before, after, again):
+        self.name, self.words, self.before, self.after, self.again = name, words, before, after, again
+        # Files that the command makes or changes.
+        self.changed = [n for n in after if before.get(n) != after[n]]
+
+    def whole(self, state):
+        """Every file that the command changes is the old one or the new one, and there are no others but such as nobody else sees."""
+        for name in self.changed:
+            check(state.get(name) in (self.before.get(name), self.after[name]), self.name, "torn:", name)
+        for name in self.before:
+            check(name in state, self.name, "lost:", name)
+
+    def litter(self, state):
+        return [name for name in state if name not in self.before and name not in self.after]
+
+    def together(self, state):
+        """All files of the command are the old ones, or all are the new ones."""
+        old = [state.get(n) == self.before.get(n) for n in self.changed]
+        new = [state.get(n) == self.after[n] for n in self.changed]
+        check(all(old) or all(new), self.name, "neither all nor nothing:", *sorted(state))
+        return all(new)
+
+
+def scenes(rng):
+    segment = b"".join(node(rng) for _ in range(4))
+    first = b"".join(node(rng) for _ in range(8))
+    sidecar = b"vizhuthamen deal 1\nsize 1024\n"
+    old = MODEL.book(bytes(1024), first)[3]
+    new = MODEL.book(old, segment)[3]
+    spoilt = old[:768] + bytes([old[768] ^ 1]) + old[769:]
+    record = MODEL.build(old, 768)[1]
+    files = {"segment": segment, "deal": old}
+    yield Scene("book", ("book", "deal", "segment"), {**files, "deal.vz": sidecar}, {**files, "deal.vz": sidecar, "deal": new}, (0, 15))
+    yield Scene("book, nothing known", ("book", "deal", "segment"), files, {**files, "deal.vz": sidecar, "deal": new}, (0, 15))
+    made = {"segment": segment, "deal": bytes(1024), "deal.vz": sidecar}
+    yield Scene("new", ("new", "deal", 1024), {"segment": segment}, made, (0, IO))
+    yield Scene("repair", ("repair", "deal"), {"deal": spoilt}, {"deal": old, "deal.vz": sidecar, "deal.before-repair": spoilt}, (0, 0))
+    yield Scene("output", ("build", "deal", 768, "-o", "record"), {"deal": old}, {"deal": old, "record": record}, (0, 0))
+    yield Scene("output, replaced", ("build", "deal", 768, "-o", "record"), {"deal": old, "record": b"before"},
+                {"deal": old, "record": record}, (0, 0))
+
+
+class Faults:
+    def __init__(self, place, counts):
+        self.place, self.counts = place, counts
+
+    def after(self, scene, plain):
+        """The command once more, undisturbed: its end is the whole new state, and nothing is left."""
+        status, _, err = self.place.run(scene.words, plain=plain)
+        check(status in scene.again, scene.name, "run again:", status, err)
+        state, after = self.place.state(), scene.after
+        if scene.name == "new":
+            # What is known of a deal can be done without; the first booking puts it there, and removes what was left.
+            check(state["deal"] == after["deal"], scene.name, "after running again")
+            status, _, err = self.place.run(("book", "deal", "segment"), plain=plain)
+            check(status == 0, scene.name, "booking afterwards:", status, err)
+            state, after = self.place.state(), {**after, "deal": MODEL.book(after["deal"], after["segment"])[3]}
+        check(state == after, scene.name, "after running again:", *sorted(state))
+
+    def kills(self, scene, plain):
+        """Killed before each call; then looked at, by a command that ends what was begun; then run again."""
+        for at in range(1, len(self.place.calls_of(scene, plain)) + 1):
+            self.place.put(scene.before)
+            status, *_ = self.place.run(scene.words, fault=fault(at, "kill 9"), plain=plain)
+            check(status == -9, scene.name, at, "not killed:", status)
+            state = self.place.state()
+            scene.whole(state)
+            self.counts["kills"] += 1
+            if "deal" in state and scene.name != "new":
+                status, _, err = self.place.run(("fsck", "deal"), plain=plain)
+                check(status in (0, DATA), scene.name, at, "fsck:", status, err)
+                scene.together(self.place.state())
+            self.after(scene, plain)
+
+    def signals(self, scene, plain, numbers):
+        """A signal before each call: nothing is left behind, without any later call."""
+        for number in numbers:
+            for at in range(1, len(self.place.calls_of(scene, plain)) + 1):
+                self.place.put(scene.before)
+                status, *_ = self.place.run(scene.words, fault=fault(at, f"kill {int(number)}"), plain=plain)
+                check(status == -number, scene.name, at, "not ended by the signal:", status)
+                state = self.place.state()
+                scene.whole(state)
+                check(not scene.litter(state), scene.name, at, number, "left:", *scene.litter(state))
+                if scene.name != "new":
+                    scene.together(state)
+                self.counts["signals"] += 1
+                self.after(scene, plain)
+
+    def ignored(self, scene, plain):
+        """A signal that the process ignores stops nothing."""
+        ignoring = {"preexec_fn": lambda: signal.signal(signal.SIGHUP, signal.SIG_IGN)}
+        for at in range(1, len(self.place.calls_of(scene, plain)) + 1):
+            self.place.put(scene.before)
+            status, *_ = self.place.run(scene.words, fault=fault(at, f"kill {int(signal.SIGHUP)}"), plain=plain, **ignoring)
+            check(status == 0 and self.place.state() == scene.after, scene.name, at, "stopped by an ignored signal:", status)
+            self.counts["signals"] += 1
+
+    def errors(self, scene, plain, numbers):
+        """Each call fails: with exit status 0 all is done, with another one all or nothing is, and it says which."""
+        names = self.place.calls_of(scene, plain)
+        for what in [*(f"error {n}" for n in numbers), "short"]:
+            for at, name in enumerate(names, 1):
+                if name in ("fcntl", "close") or what == "short" and name != "write":
+                    continue
+                self.place.put(scene.before)
+                status, _, err = self.place.run(scene.words, fault=fault(at, what), plain=plain)
+                here = (scene.name, at, name, what, status, err)
+                check(status in (0, IO), *here)
+                check(status == 0 or err.startswith(b"vizhuthamen: ") and err.count(b"\n") == 1, *here)
+                state = self.place.state()
+                scene.whole(state)
+                made = all(state.get(n) == scene.after[n] for n in scene.changed)
+                check(made or status != 0 or scene.name == "new" and b"could not be written" in err, *here)
+                check(b"nothing is changed" not in err or not made, *here)
+                # A name that could not be removed, or a change that the next call ends, may be left for that.
+                check(not scene.litter(state) or name == "unlink" or b"next call" in err, *here, *scene.litter(state))
+                self.counts["errors"] += 1
+                self.after(scene, plain)
+
+    def recoveries(self, scene, plain, every):
+        """Killed after a change of several files was decided; then whoever ends it is killed before each of its calls."""
+        decided = []
+        for at in range(1, len(self.place.calls_of(scene, plain)) + 1):
+            self.place.put(scene.before)
+            self.place.run(scene.words, fault=fault(at, "kill 9"), plain=plain)
+            state = self.place.state()
+            if ".deal.vz-journal" in state:
+                decided.append((at, state))
+        check(decided, scene.name, "no journal was seen")
+        for at, begun in decided if every else decided[:1]:
+            self.place.put(begun)
+            for again in range(1, len(self.place.calls(("fsck", "deal"), plain)) + 1):
+                self.place.put(begun)
+                self.place.run(("fsck", "deal"), fault=fault(again, "kill 9"), plain=plain)
+                scene.whole(self.place.state())
+                self.counts["kills"] += 1
+                self.place.run(("fsck", "deal"), plain=plain)
+                check(scene.together(self.place.state()), scene.name, at, again, "a decided change was not made")
+                self.after(scene, plain)
+
+    def pauses(self, scene, plain, other):
+        """Stopped before each call while another process books; both bookings are in the deal afterwards."""
+        words = ("book", "deal", "other", "--no-wait")
+        for at in range(1, len(self.place.calls_of(scene, plain)) + 1):
+            self.place.put({**scene.before, "other": other})
+            call = self.place.start(scene.words, fault=fault(at, f"kill {int(signal.SIGSTOP)}"), plain=plain)
+            info = os.waitid(os.P_PID, call.pid, os.WSTOPPED | os.WEXITED | os.WNOWAIT)
+            check(info.si_code == os.CLD_STOPPED, scene.name, at, "not stopped")
+            status, out, err = self.place.run(words, plain=plain)
+            check(status in (0, BUSY), scene.name, at, status, err)
+            call.send_signal(signal.SIGCONT)
+            mine, err = call.communicate(timeout=60)
+            check(call.returncode == 0, scene.name, at, call.returncode, err)
+            if status == BUSY:
+                status, out, err = self.place.run(words, plain=plain)
+                check(status == 0, scene.name, at, status, err)
+            state = self.place.state()
+            accounted(state["deal"], {told(mine): scene.before["segment"], told(out): other})
+            check(sorted(state) == ["deal", "deal.vz", "other", "segment"], scene.name, at, "left:", *sorted(state))
+            self.counts["pauses"] += 1
+
+
+    def paused_outputs(self, scene, plain, raw):
+        """Stopped before each call, with a name in the way that a dead process has left, while another process writes the same output."""
+        other = pad(raw, bytes(segment_length(len(raw))))[2]
+        for at in range(1, len(self.place.calls_of(scene, plain)) + 8):
+            self.place.put({**scene.before, "raw": raw, ".record.vz-new.0": b"dead"})
+            first = self.place.start(scene.words, fault=fault(at, f"kill {int(signal.SIGSTOP)}"), plain=plain)
+            os.waitid(os.P_PID, first.pid, os.WSTOPPED | os.WEXITED | os.WNOWAIT)
+            second = self.place.start(("pad", "raw", "-o", "record"), plain=plain)
+            try:
+                second.wait(timeout=0.2)
+            except subprocess.TimeoutExpired:
+                pass  # it waits for the first
+            first.send_signal(signal.SIGCONT)
+            for call in (first, second):
+                _, err = call.communicate(timeout=60)
+                check(call.returncode == 0, scene.name, at, call.returncode, err)
+            state = self.place.state()
+            check(state["record"] in (scene.after["record"], other), scene.name, at, "torn: record")
+            check(sorted(state) == sorted([*scene.after, "raw"]), scene.name, at, "left:", *sorted(state))
+            self.counts["pauses"] += 1
+
+
+def told(out):
+    """Offset and place of a booking's answer."""
+    lines = dict(line.split() for line in out.decode().splitlines())
+    return int(lines["offset"]), int(lines["place"])
+
+
+def accounted(deal, bookings):
+    """Every booking is in the deal where it was told to be, with its entry."""
+    for (offset, place), segment in bookings.items():
+        filled = segment + bytes(area(len(segment)) - len(segment))
+        check(deal[offset : offset + len(filled)] == filled, "a booking's bytes are lost: offset", offset)
+        entry = MODEL.entry(MODEL.tree(filled)[-1][0], offset, len(segment))
+        check(deal[place : place + 64] == entry, "a booking's entry is lost: place", place)
+
+
+class Races:
+    def __init__(self, place, counts, rng):
+        self.place, self.counts, self.rng = place, counts, rng
+
+    def prepare(self, size, bookings):
+        segments = {f"s{i}": b"".join(node(self.rng) for _ in range(self.rng.choice((4, 8, 16, 32)))) for i in range(bookings)}
+        self.place.clean()
+        for name, data in segments.items():
+            self.place.path(name).write_bytes(data)
+        check(self.place.run(("new", "deal", size))[0] == 0, "new")
+        return segments
+
+    def end(self, segments, answers):
+        state = self.place.state()
+        check(sorted(state) == sorted([*segments, "deal", "deal.vz"]), "left:", *sorted(state))
+        check(len(set(answers.values())) == len(segments), "a place was told twice:", answers)
+        accounted(state["deal"], {where: segments[name] for name, where in answers.items()})
+        check(self.place.run(("fsck", "deal"))[0] == 0, "fsck")
+
+    def undisturbed(self, processes, bookings, size, plain):
+        """Processes book different segments at once."""
+        segments = self.prepare(size, bookings)
+        names, answers = list(segments), {}
+        while names:
+            batch, names = names[:processes], names[processes:]
+            calls = {name: self.place.start(("book", "deal", name), plain=plain) for name in batch}
+            for name, call in calls.items():
+                out, err = call.communicate(timeout=120)
+                check(call.returncode == 0, "booking", name, call.returncode, err)
+                answers[name] = told(out)
+        self.end(segments, answers)
+        self.counts["races"] += 1
+        self.counts["raced bookings"] += bookings
+
+    def disturbed(self, processes, bookings, size, plain):
+        """The same with workers that repeat a booking until it is answered, while bookings are killed at random moments."""
+        segments = self.prepare(size, bookings)
+        queue, answers, failures, lock = list(segments), {}, [], threading.Lock()
+        seeds = [self.rng.random() for _ in range(processes)]
+
+        def book(name, rng):
+            while True:
+                call = self.place.start(("book", "deal", name), plain=plain)
+                if rng.random() < 0.6:
+                    time.sleep(rng.random() * 0.03)
+                    call.kill()
+                out, err = call.communicate(timeout=120)
+                if call.returncode == -9:
+                    with lock:
+                        self.counts["kills"] += 1
+                    continue
+                check(call.returncode in (0, 15), "booking", name, call.returncode, err)
+                lines = out.decode().splitlines()
+                return told("\n".join(lines[call.returncode == 15:]).encode())
+
+        def work(seed):
+            rng = random.Random(seed)
+            try:
+                while True:
+                    with lock:
+                        if not queue:
+                            return
+                        name = queue.pop()
+                    answer = book(name, rng)
+                    with lock:
+                        answers[name] = answer
+            except Exception as error:  # told by the main thread
+                failures.append(error)
+
+        threads = [threading.Thread(target=work, args=(seed,)) for seed in seeds]
+        for thread in threads:
+            thread.start()
+        for thread in threads:
+            thread.join()
+        check(not failures, *failures)
+        # Whatever the last kill has left goes with the next booking.
+        check(self.place.run(("book", "deal", next(iter(segments))))[0] == 15, "a booking is lost")
+        self.end(segments, answers)
+        self.counts["races"] += 1
+        self.counts["raced bookings"] += bookings
+
+    def makers(self, processes):
+        """Processes make one deal at once: one of them does."""
+        self.place.clean()
+        calls = [self.place.start(("new", "deal", 1024)) for _ in range(processes)]
+        statuses = sorted((call.communicate(), call.returncode)[1] for call in calls)
+        check(statuses == [0] + [IO] * (processes - 1), "new, by several:", statuses)
+        check(sorted(self.place.state()) == ["deal", "deal.vz"], "left:", *sorted(self.place.state()))
+        self.counts["races"] += 1
+
+    def writers(self, processes):
+        """Processes write one output at once: it is whole, and one of theirs."""
+        self.place.clean()
+        contents = [bytes([i]) * (1 << 16) for i in range(processes)]
+        for i, data in enumerate(contents):
+            self.place.path(f"raw{i}").write_bytes(data)
+        for plain in (False, True):
+            calls = [self.place.start(("pad", f"raw{i}", "-o", "out"), plain=plain) for i in range(processes)]
+            for call in calls:
+                _, err = call.communicate()
+                check(call.returncode == 0, "output, by several:", call.returncode, err)
+            state = self.place.state()
+            check(sorted(state) == sorted([*(f"raw{i}" for i in range(processes)), "out"]), "left:", *sorted(state))
+            status, out, _ = self.place.run(("unpad", 1 << 16, "out", "-o", "-"))
+            check(status == 0 and out in contents, "output, by several: torn")
+            self.counts["races"] += 1
+
+    def random_kills(self, count, size, plain):
+        """One process at a time, killed at a random moment: the deal is the old one or the new one."""
+        segments = self.prepare(size, 1)
+        new = MODEL.book(bytes(size), segments["s0"])[3]
+        began = time.monotonic()
+        check(self.place.run(("book", "deal", "s0"), plain=plain)[0] == 0, "booking")
+        span = time.monotonic() - began
+        for _ in range(count):
+            self.place.path("deal").write_bytes(bytes(size))
+            call = self.place.start(("book", "deal", "s0"), plain=plain)
+            time.sleep(self.rng.random() * 1.3 * span)
+            call.kill()
+            call.communicate()
+            check(self.place.path("deal").read_bytes() in (bytes(size), new), "a torn deal")
+            self.counts["kills"] += 1
+        check(self.place.run(("book", "deal", "s0"), plain=plain)[0] in (0, 15), "booking")
+        self.end(segments, {"s0": (0, size - 64 * max(4, size // 131072))})
+
+
+def work(job):
+    """One part of the test, in a folder of its own. Gives its counts and what it says."""
+    kind, name, plain, options = job
+    rng = random.Random(f"{options.seed}/{kind}/{name}/{plain}")
+    with tempfile.TemporaryDirectory(prefix="vizhuthamen-faults-", dir=options.folder) as folder:
+        place = Place(Path(folder) / "place", options.shim)
+        place.folder.mkdir()
+        try:
+            return (race if kind == "race" else disturb)(place, rng, name, plain, options)
+        except Wrong as wrong:
+            raise Wrong(f"{name}, plain {plain}: {wrong}") from None
+
+
+def disturb(place, rng, name, plain, options):
+    """Every call of a command goes wrong in every way."""
+    scene = next(scene for scene in scenes(random.Random(options.seed)) if scene.name == name)
+    place.put(scene.before)
+    names = place.calls(scene.words, plain)
+    check(place.state() == scene.after, scene.name, "undisturbed:", *sorted(place.state()))
+    check_flushed(names)
+    place.calls_of = lambda scene, plain: names
+    counts = Counter()
+    faults = Faults(place, counts)
+    faults.kills(scene, plain)
+    faults.signals(scene, plain, SIGNALS if options.large else (rng.choice(SIGNALS),))
+    every = options.large or scene.name.startswith("book") and plain < 2
+    faults.errors(scene, plain, ERRORS if every else (errno.ENOSPC, errno.EIO))
+    if scene.name in ("book, nothing known", "repair"):
+        faults.recoveries(scene, plain, options.large)
+    if scene.name == "book" and plain:
+        faults.ignored(scene, plain)
+    if scene.name == "output, replaced":
+        faults.paused_outputs(scene, plain, rng.randbytes(1000))
+    if scene.name.startswith("book"):
+        faults.pauses(scene, plain, b"".join(node(rng) for _ in range(4)))
+    mode = ("", ", no unnamed files", ", no unnamed files, no rename to a free name")[plain]
+    return counts, f"{scene.name}{mode}: {len(names)} calls"
+
+
+def race(place, rng, name, plain, options):
+    """Several processes at once, and kills at random moments."""
+    counts = Counter()
+    races = Races(place, counts, rng)
+    bookings, size = (32, 1 << 22) if options.large else (8, 1 << 20)
+    for processes in range(2, 9):
+        races.makers(processes)
+        races.writers(processes)
+        races.undisturbed(processes, bookings, size, plain)
+        races.disturbed(processes, bookings, size, plain)
+    races.random_kills(1000 if options.large else 40, 1 << 20, plain)
+    return counts, f"races{', no unnamed files' if plain else ''}"
+
+
+def jobs(options):
+    for scene in scenes(random.Random(options.seed)):
+        for plain in (0, 1, 2) if scene.name in ("new", "output", "book, nothing known") else (0, 1):
+            yield "disturb", scene.name, plain, options
+    for plain in (0, 1):
+        yield "race", "races", plain, options
+
+
+def run(options):
+    """All jobs, as many at a time as there are processors."""
+    counts = Counter()
+    with ProcessPoolExecutor(os.cpu_count()) as pool:
+        try:
+            for found, line in pool.map(work, jobs(options)):
+                counts += found
+                print(f"faults: {line}", flush=True)
+        except Wrong:
+            pool.shutdown(cancel_futures=True)
+            raise
+    return counts
+
+
+def arguments():
+    parser = argparse.ArgumentParser(description="Kills, signals, errors and races at the command line.")
+    parser.add_argument("--large", action="store_true", help="every signal and every error for every command, larger races, more kills")
+    parser.add_argument("--seed", default=os.urandom(4).hex(), help="seed of the random moments (default: a fresh one, which is printed)")
+    parser.add_argument("--folder", help="where the files are made (default: /dev/shm, or else the system's temporary folder)")
+    options = parser.parse_args()
+    if not options.folder and os.access("/dev/shm", os.W_OK):
+        options.folder = "/dev/shm"
+    return options
+
+
+def main():
+    options = arguments()
+    if not BINARY.is_file():
+        sys.exit(f"faults: {BINARY} is not there; run: cargo build --release --offline --manifest-path rust/Cargo.toml")
+    print(f"faults: seed {options.seed}", flush=True)
+    # A call started in the background, or by nohup, may ignore signals, and what it starts then does too.
+    for number in SIGNALS:
+        signal.signal(number, signal.default_int_handler if number == signal.SIGINT else signal.SIG_DFL)
+    began = time.monotonic()
+    with tempfile.TemporaryDirectory(prefix="vizhuthamen-faults-") as folder:
+        options.shim = Path(folder) / "faults.so"
+        compile_shim(options.shim)
+        try:
+            check_names(options.shim)
+            counts = run(options)
+        except Wrong as wrong:
+            sys.exit(f"faults: seed {options.seed}: {wrong}")
+    told_counts = ", ".join(f"{count} {what}" for what, count in counts.items())
+    print(f"faults: {told_counts}; 0 lost, 0 torn, 0 left; {time.monotonic() - began:.0f} s")
+
+
+if __name__ == "__main__":
+    main()
