@@ -57,27 +57,27 @@ module _ (deal segment : List ℕ) where
   abbrev code : ℕ
   code = firstRefusal (bookRules deal segment)
 
-  abbrev inRoom : Decision
-  inRoom = decide (length deal) (rangesOf deal) (area (length segment)) (lowestKeeping deal segment)
+  abbrev roomDecision : Decision
+  roomDecision = decide (length deal) (rangesOf deal) (area (length segment)) (lowestKeeping deal segment)
 
   -- what is decided for a segment that no rule refuses
-  pub decision-is : Bookable deal segment → decision deal segment ≡ inRoom
+  pub decision-is : Bookable deal segment → decision deal segment ≡ roomDecision
   unfolding decision
   decision-is b = rw (not-refused deal segment .1 b)
 
   -- every decision is a refusal by 2, 4 or 11, or made in the deal's room
   pub by-decision : (P : Decision → Type 0) → ((c : ℕ) → 0 < c → c ≤ 11 → P (Refuse c))
-      → (Bookable deal segment → P inRoom) → P (decision deal segment)
+      → (Bookable deal segment → P roomDecision) → P (decision deal segment)
   unfolding decision
   by-decision P refused passed =
-      by-rules P code inRoom (λ c e. refused (suc c) (omega arith) (omega (arith, refused-end deal segment)))
+      by-rules P code roomDecision (λ c e. refused (suc c) (omega arith) (omega (arith, refused-end deal segment)))
       (λ e. passed (not-refused deal segment .0 e))
 
-  -- a decision that no refusal by 2, 4 or 11 is, was made in the deal's room
+  -- a decision that is no refusal by 2, 4 or 11 was made in the deal's room
   in-room : (x : Decision) → ((c : ℕ) → 0 < c → c ≤ 11 → Refuse c ≡ x → ⊥) → decision deal segment ≡ x
-      → Bookable deal segment × (inRoom ≡ x)
+      → Bookable deal segment × (roomDecision ≡ x)
   in-room x other =
-      by-decision (λ y. y ≡ x → Bookable deal segment × (inRoom ≡ x)) (λ c h k e. absurd (other c h k e))
+      by-decision (λ y. y ≡ x → Bookable deal segment × (roomDecision ≡ x)) (λ c h k e. absurd (other c h k e))
       (λ b e. (b, e))
 
   not-kept : (b : Bookable deal segment) → lowestKeeping deal segment ≡ Missing → Unkept deal segment
@@ -92,7 +92,7 @@ module _ (deal segment : List ℕ) where
   none-kept u =
       lowest-none (keepsSegment deal segment) 0 (entryCount (length deal)) (λ j a b. u .none-keeps j (omega arith))
 
-  keeping : (i : ℕ) → (inRoom ≡ Already i) ↔ (lowestKeeping deal segment ≡ At i)
+  keeping : (i : ℕ) → (roomDecision ≡ Already i) ↔ (lowestKeeping deal segment ≡ At i)
   keeping = decides-already (length deal) (rangesOf deal) (area (length segment)) (lowestKeeping deal segment)
 
   -- a decision, and exactly when
@@ -122,7 +122,7 @@ module _ (deal segment : List ℕ) where
   )
     where
       placing : (b : Bookable deal segment)
-          → (inRoom ≡ Place i o)
+          → (roomDecision ≡ Place i o)
           ↔ ((lowestKeeping deal segment ≡ Missing) × Places (length deal) (rangesOf deal) (area (length segment)) i o)
       placing b =
           decides-place (length deal) (rangesOf deal) (area (length segment)) (lowestKeeping deal segment)
@@ -137,7 +137,8 @@ module _ (deal segment : List ℕ) where
     λ b. decision-is (b .0 .bookable) ∙ refusing .1 (none-kept (b .0), b .1),
   )
     where
-      refusing : (inRoom ≡ Refuse 13) ↔ ((lowestKeeping deal segment ≡ Missing) × NoSlot (length deal) (rangesOf deal))
+      refusing : (roomDecision ≡ Refuse 13)
+          ↔ ((lowestKeeping deal segment ≡ Missing) × NoSlot (length deal) (rangesOf deal))
       refusing = decides-13 (length deal) (rangesOf deal) (area (length segment)) (lowestKeeping deal segment)
 
   pub no-place : (decision deal segment ≡ Refuse 14)
@@ -151,7 +152,7 @@ module _ (deal segment : List ℕ) where
   )
     where
       refusing : (b : Bookable deal segment)
-          → (inRoom ≡ Refuse 14)
+          → (roomDecision ≡ Refuse 14)
           ↔ ((lowestKeeping deal segment ≡ Missing) × NoPlace (length deal) (rangesOf deal) (area (length segment)))
       refusing b =
           decides-14 (length deal) (rangesOf deal) (area (length segment)) (lowestKeeping deal segment) (area-some b)
