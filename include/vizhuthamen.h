@@ -1,12 +1,13 @@
 /*
  * Vizhuthamen: verifiable data aggregation (FRC-0058), proved.
  *
- * Every function answers one of the codes below, for any bytes and numbers. Lent memory is a pointer and a length; a pointer
- * may be dangling only where its length is 0, and is never NULL. Memory that is written must not overlap any other argument.
+ * Every function answers one of the codes below, for any bytes and numbers. Lent memory is a pointer and a length; a
+ * pointer may be dangling only where its length is 0, and is never NULL. Memory that is written must not overlap any
+ * other argument.
  *
- * An output that has one fixed length is refused with 12, before all else, where it has another. Outputs are written with
- * code 0 (also with 15 in vz_book, and with 17 in the two settlings) and left as they were with every other code. A stream's
- * state is written by vz_stream_take with every code but 12.
+ * An output that has one fixed length is refused with 12, before all else, where it has another. Outputs are written
+ * with code 0 (also with 15 in vz_book, and with 17 in the two settlings) and left as they were with every other code.
+ * A stream's state is written by vz_stream_take with every code but 12.
  */
 #ifndef VIZHUTHAMEN_H
 #define VIZHUTHAMEN_H
@@ -55,28 +56,31 @@ uint32_t vz_sha256(const uint8_t *message, size_t message_len, uint8_t *digest, 
 /* The commitment of a run, a power of two from 32 to 2^24 bytes. node: 32 bytes. Codes: 2, 11. */
 uint32_t vz_commitment(const uint8_t *run, size_t run_len, uint8_t *node, size_t node_len);
 
-/* The length of a stream's state. The caller keeps the state, and hands it on as it came back. Any bytes of this length are
- * answered: a code in them that is none of a stream's sticks too, and counts as 2. */
+/* The length of a stream's state. The caller keeps the state, and hands it on as it came back: then the answer at the
+ * end is that for all bytes, however they were cut. The integrity of a stored state is the caller's: nothing in it
+ * tells whether its bytes were changed. Any bytes of this length are answered: a code in them that is none of a
+ * stream's sticks too, and counts as 2. */
 #define VZ_STREAM_STATE 1072
 
 /* The commitment of bytes that arrive in pieces: a new start. state: VZ_STREAM_STATE bytes. Codes: 12. */
 uint32_t vz_stream_new(uint8_t *state, size_t state_len);
 
-/* Takes one more piece, of any length, and answers the state's code: 0, or 2 or 11, which stick until vz_stream_new. Bytes are
- * judged in turn: 11 where a node is completed that has stray bits, 2 at the first byte past 2^36. Codes: 12 (the state is left as
- * it was), 11, 2. */
+/* Takes one more piece, of any length, and answers the state's code: 0, or 2 or 11, which stick until vz_stream_new.
+ * Bytes are judged in turn: 11 where a node is completed that has stray bits, 2 at the first byte past 2^36. Codes: 12
+ * (the state is left as it was), 11, 2. */
 uint32_t vz_stream_take(uint8_t *state, size_t state_len, const uint8_t *piece, size_t piece_len);
 
-/* The commitment of all bytes taken so far, and their number, a power of two from 32 to 2^36. The state stays: more pieces may be
- * taken. node: 32 bytes. Codes: 12, 11, 2. */
+/* The commitment of all bytes taken so far, and their number, a power of two from 32 to 2^36. The state stays: more
+ * pieces may be taken. node: 32 bytes. With 11 and 2, node and *count stay as they were. Codes: 12, 11, 2. */
 uint32_t vz_stream_end(const uint8_t *state, size_t state_len, uint8_t *node, size_t node_len, uint64_t *count);
 
-/* Fr32 padding: writes the segment of raw_len raw bytes, 1 to 8,323,072, into the first bytes of segment, and answers its length,
- * raw_len x 128 / 127 rounded up; the rest of segment stays. 2^23 bytes hold any segment. Codes: 2, 12. */
+/* Fr32 padding: writes the segment of raw_len raw bytes, 1 to 8,323,072, into the first bytes of segment, and answers
+ * its length, raw_len x 128 / 127 rounded up; the rest of segment stays. 2^23 bytes hold any segment. Codes: 2, 12. */
 uint32_t vz_fr32_pad(const uint8_t *raw, size_t raw_len, uint8_t *segment, size_t segment_len, uint64_t *length);
 
-/* The way back: writes the raw_length raw bytes of a segment into the first bytes of raw, and answers their number; the rest of raw
- * stays. Codes: 2 for raw_length, 24, 11 for stray bits in whole nodes or any bit set after the last raw one, 12. */
+/* The way back: writes the raw_length raw bytes of a segment into the first bytes of raw, and answers their number;
+ * the rest of raw stays. Codes: 2 for raw_length, 24, 11 for stray bits in whole nodes or any bit set after the last
+ * raw one, 12. */
 uint32_t vz_fr32_unpad(uint64_t raw_length, const uint8_t *segment, size_t segment_len, uint8_t *raw, size_t raw_len,
                        uint64_t *length);
 
@@ -84,49 +88,54 @@ uint32_t vz_fr32_unpad(uint64_t raw_length, const uint8_t *segment, size_t segme
 uint32_t vz_index_numbers(uint64_t size, uint64_t *entries, uint64_t *start);
 
 /* The index entry for a commitment of 32 bytes and two numbers, taken as they are. entry: 64 bytes. Codes: 1, 8. */
-uint32_t vz_make_entry(const uint8_t *commitment, size_t commitment_len, uint64_t offset, uint64_t size, uint8_t *entry,
-                       size_t entry_len);
+uint32_t vz_make_entry(const uint8_t *commitment, size_t commitment_len, uint64_t offset, uint64_t size,
+                       uint8_t *entry, size_t entry_len);
 
-/* What the 64 bytes of an entry say: its kind, VZ_BLANK, VZ_DAMAGED or VZ_VALID, with the three fields where it is valid, and
- * zeros otherwise. commitment: 32 bytes. Codes: 2. */
-uint32_t vz_read_entry(const uint8_t *entry, size_t entry_len, uint32_t *kind, uint8_t *commitment, size_t commitment_len,
-                       uint64_t *offset, uint64_t *size);
+/* What the 64 bytes of an entry say: its kind, VZ_BLANK, VZ_DAMAGED or VZ_VALID, with the three fields where it is
+ * valid, and zeros otherwise. commitment: 32 bytes. Codes: 2. */
+uint32_t vz_read_entry(const uint8_t *entry, size_t entry_len, uint32_t *kind, uint8_t *commitment,
+                       size_t commitment_len, uint64_t *offset, uint64_t *size);
 
-/* What stands at an entry place of a deal: state is 0 where the slot is free, 1 where an entry stands, 2 where it is kept; with
- * its commitment (32 bytes), offset and size, zeros where it is free. Codes: 2, 11, 6. */
+/* What stands at an entry place of a deal: state is 0 where the slot is free, 1 where an entry stands, 2 where it is
+ * kept; with its commitment (32 bytes), offset and size, zeros where it is free. Codes: 2, 11, 6. */
 uint32_t vz_inspect(const uint8_t *deal, size_t deal_len, uint64_t place, uint32_t *state, uint8_t *commitment,
                     size_t commitment_len, uint64_t *offset, uint64_t *size);
 
-/* How many slots of a deal's index are blank, damaged and valid; together they are the number of entries. Codes: 2, 11. */
+/* How many slots of a deal's index are blank, damaged and valid; together they are the number of entries. Codes: 2,
+ * 11. */
 uint32_t vz_tally(const uint8_t *deal, size_t deal_len, uint64_t *blank, uint64_t *damaged, uint64_t *valid);
 
-/* The lowest slot that holds a kept entry with this commitment; the segment is the size bytes of the deal at offset, without the
- * zeros after it. Codes: 1, 2, 11, 16. */
-uint32_t vz_find(const uint8_t *deal, size_t deal_len, const uint8_t *commitment, size_t commitment_len, uint64_t *offset,
-                 uint64_t *size, uint64_t *place);
+/* The lowest slot that holds a kept entry with this commitment; the segment is the size bytes of the deal at offset,
+ * without the zeros after it. Codes: 1, 2, 11, 16. */
+uint32_t vz_find(const uint8_t *deal, size_t deal_len, const uint8_t *commitment, size_t commitment_len,
+                 uint64_t *offset, uint64_t *size, uint64_t *place);
 
-/* Books a segment of 1 byte to half of the deal. With 0 it is written into the deal with zeros after it to its area's end, and its
- * entry; no other byte changes. The area is the smallest power of two at or above both the size and 128. The numbers are written
- * with 0, and with 15 (where the segment is kept). Codes: 2, 4, 11, 15, 13, 14. */
-uint32_t vz_book(uint8_t *deal, size_t deal_len, const uint8_t *segment, size_t segment_len, uint64_t *offset, uint64_t *place);
+/* Books a segment of 1 byte to half of the deal. With 0 it is written into the deal with zeros after it to its area's
+ * end, and its entry; no other byte changes. The area is the smallest power of two at or above both the size and 128.
+ * The numbers are written with 0, and with 15 (where the segment is kept). Codes: 2, 4, 11, 15, 13, 14. */
+uint32_t vz_book(uint8_t *deal, size_t deal_len, const uint8_t *segment, size_t segment_len, uint64_t *offset,
+                 uint64_t *place);
 
-/* Builds the inclusion record of the entry at a place: it fills the first length bytes of record, the rest stays. 1,962 bytes
- * hold any record. Codes: 2, 11, 6, 16, 12. */
-uint32_t vz_build(const uint8_t *deal, size_t deal_len, uint64_t place, uint8_t *record, size_t record_len, uint64_t *length);
+/* Builds the inclusion record of the entry at a place: it fills the first length bytes of record, the rest stays.
+ * 1,962 bytes hold any record. Codes: 2, 11, 6, 16, 12. */
+uint32_t vz_build(const uint8_t *deal, size_t deal_len, uint64_t place, uint8_t *record, size_t record_len,
+                  uint64_t *length);
 
 /* Checks a record against a deal's commitment and size. Codes, in this order: 1 to 8, 19, 9, 10. */
-uint32_t vz_check(const uint8_t *commitment, size_t commitment_len, uint64_t size, const uint8_t *record, size_t record_len);
+uint32_t vz_check(const uint8_t *commitment, size_t commitment_len, uint64_t size, const uint8_t *record,
+                  size_t record_len);
 
-/* Settles two records for one deal commitment and size: 0 exactly where both are accepted and the same bytes; 17 with two
- * different strings (left and right, 64 bytes each) that have one node hash. Codes: the first one's check, the second one's, 18, 17. */
+/* Settles two records for one deal commitment and size: 0, with zeros in left and right (64 bytes each), exactly where
+ * both are accepted and the same bytes; 17 with two different strings there that have one node hash. Codes: the first
+ * one's check, the second one's, 18, 17. */
 uint32_t vz_settle_records(const uint8_t *commitment, size_t commitment_len, uint64_t size, const uint8_t *first,
                            size_t first_len, const uint8_t *second, size_t second_len, uint8_t *left, size_t left_len,
                            uint8_t *right, size_t right_len);
 
-/* Settles a record with a deal in hand: 0 exactly where building at its place would write it; 17 with a pair as above.
- * Codes: 2, 11, those of the check against the deal's own commitment and length, 17. */
-uint32_t vz_settle_with_deal(const uint8_t *deal, size_t deal_len, const uint8_t *record, size_t record_len, uint8_t *left,
-                             size_t left_len, uint8_t *right, size_t right_len);
+/* Settles a record with a deal in hand: 0, with zeros, exactly where building at its place would write it; 17 with a
+ * pair as above. Codes: 2, 11, those of the check against the deal's own commitment and length, 17. */
+uint32_t vz_settle_with_deal(const uint8_t *deal, size_t deal_len, const uint8_t *record, size_t record_len,
+                             uint8_t *left, size_t left_len, uint8_t *right, size_t right_len);
 
 /* The field at a place of a record: its tag, where its content starts, the content's length, the next field's place.
  * Codes: 3 where no field lies there. */

@@ -1,8 +1,11 @@
 /*
- * Every function of include/vizhuthamen.h once, from C: two segments in an all-zero deal of 512 bytes (document 01, "Run and
- * compared"), the first one's record built, checked and settled. Prints each code, and fails where an answer is another one.
+ * Every function of include/vizhuthamen.h once, from C: two segments in an all-zero deal of 512 bytes (document 01,
+ * "Run and compared"), the first one's record built, checked and settled. Prints each code, and fails where an answer
+ * is another one.
  *
- *   rt staticlib vizhuthamen && gcc -Iinclude tests/c/smoke.c target/staticlib/libvizhuthamen.a -o target/smoke && target/smoke
+ *   rt staticlib vizhuthamen
+ *   gcc -Iinclude tests/c/smoke.c target/staticlib/libvizhuthamen.a -o target/smoke
+ *   target/smoke
  */
 #include <stdio.h>
 #include <string.h>
@@ -26,8 +29,9 @@ static uint64_t offset, place, size, length, start, next, entries, blank, damage
 static uint32_t kind, state, tag;
 
 static void hashing(void) {
-  static const uint8_t digest_of_abc[32] = {0xba, 0x78, 0x16, 0xbf, 0x8f, 0x01, 0xcf, 0xea, 0x41, 0x41, 0x40, 0xde, 0x5d, 0xae, 0x22, 0x23,
-                                            0xb0, 0x03, 0x61, 0xa3, 0x96, 0x17, 0x7a, 0x9c, 0xb4, 0x10, 0xff, 0x61, 0xf2, 0x00, 0x15, 0xad};
+  static const uint8_t digest_of_abc[32] = {
+      0xba, 0x78, 0x16, 0xbf, 0x8f, 0x01, 0xcf, 0xea, 0x41, 0x41, 0x40, 0xde, 0x5d, 0xae, 0x22, 0x23,
+      0xb0, 0x03, 0x61, 0xa3, 0x96, 0x17, 0x7a, 0x9c, 0xb4, 0x10, 0xff, 0x61, 0xf2, 0x00, 0x15, 0xad};
   uint8_t digest[32];
   answer("sha256", vz_sha256((const uint8_t *)"abc", 3, digest, 32), VZ_OK);
   answer("sha256, FIPS vector", memcmp(digest, digest_of_abc, 32) == 0, 1);
@@ -39,11 +43,12 @@ static void hashing(void) {
 /* The first segment in two pieces, cut inside a node; then a node with stray bits. */
 static void streaming(void) {
   uint8_t state[VZ_STREAM_STATE], node[32], stray[32];
-  uint64_t count = 0;
+  uint64_t count = 7;
   memset(stray, 0xff, 32);
   answer("stream, new start", vz_stream_new(state, sizeof state), VZ_OK);
   answer("stream, 50 bytes", vz_stream_take(state, sizeof state, first_segment, 50), VZ_OK);
   answer("stream, end after 50 bytes", vz_stream_end(state, sizeof state, node, 32, &count), VZ_SIZE);
+  answer("stream, count left as it was with 2", count, 7);
   answer("stream, 78 bytes more", vz_stream_take(state, sizeof state, first_segment + 50, 78), VZ_OK);
   answer("stream, end", vz_stream_end(state, sizeof state, node, 32, &count), VZ_OK);
   answer("stream, commitment", memcmp(node, commitment, 32) == 0, 1);
@@ -51,7 +56,7 @@ static void streaming(void) {
   answer("stream, stray bits", vz_stream_take(state, sizeof state, stray, 32), VZ_STRAY_BITS);
   answer("stream, nothing more", vz_stream_take(state, sizeof state, stray, 0), VZ_STRAY_BITS);
   answer("stream, end after stray bits", vz_stream_end(state, sizeof state, node, 32, &count), VZ_STRAY_BITS);
-  answer("stream, count left as it was", count, 128);
+  answer("stream, count left as it was with 11", count, 128);
   answer("stream, state of 1071 bytes", vz_stream_new(state, sizeof state - 1), VZ_OUTPUT);
 }
 
@@ -137,7 +142,12 @@ static void records(void) {
 }
 
 static void settling(void) {
-  answer("settle records", vz_settle_records(deal_commitment, 32, 512, record, length, record, length, left, 64, right, 64), VZ_OK);
+  static const uint8_t zeros[64];
+  memset(left, 7, 64);
+  memset(right, 7, 64);
+  answer("settle records",
+         vz_settle_records(deal_commitment, 32, 512, record, length, record, length, left, 64, right, 64), VZ_OK);
+  answer("settle records, strings", memcmp(left, zeros, 64) == 0 && memcmp(right, zeros, 64) == 0, 1);
   answer("settle with the deal", vz_settle_with_deal(deal, 512, record, length, left, 64, right, 64), VZ_OK);
   record[40] ^= 1;
   answer("check of another record", vz_check(deal_commitment, 32, 512, record, length), VZ_OFFSET);

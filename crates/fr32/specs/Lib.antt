@@ -7,3 +7,4 @@ pub mod InverseLaws
 pub mod Answers
 pub mod AnswerLaws
 pub mod ThereAndBack
+pub mod InPieces

@@ -14,7 +14,7 @@ use Rattle.octets.specs.LittleEndianLaws.{length-bytesOf}
 use Rattle.fr32.specs.Padding.{segmentLength, segmentNodes, nodesOf, padded}
 use Rattle.fr32.specs.BitLaws.{bits-kept, byte-of-number, eight-bits}
 
-length-nodesOf : (m v : ℕ) → length (nodesOf m v) ≡ 32 * m
+pub length-nodesOf : (m v : ℕ) → length (nodesOf m v) ≡ 32 * m
 unfolding nodesOf
 length-nodesOf zero v = refl
 length-nodesOf (suc m) v =

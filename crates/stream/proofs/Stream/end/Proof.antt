@@ -15,9 +15,11 @@ use Rattle.stream.specs.StreamLaws.{height-waits}
 use Rattle.stream.proofs.Stream.end.Statement.{statement}
 use Rattle.stream.proofs.Stream.end.Tie as tie
 
+abbrev start : tie.Else3 → tie.Start
+start c = c .before .before .before .before .before .before
+
 -- the test on the number of bytes, where it is passed
-allowed : (c : tie.Else3)
-    → powerBetween 32 largest (c .before .before .before .before .before .before .args .self .count) ≡ true
+allowed : (c : tie.Else3) → powerBetween 32 largest (start c .args .self .count) ≡ true
 allowed c = sym (c .before .is-power-between .ensures) ∙ not-false _ (c .if3 .left)
 
 returns : tie.Need-returns
@@ -39,7 +41,7 @@ sub-height c = simp (c .log2 .ensures) (tree-height _ (allowed (c .before)))
 node-at-requires : tie.Need-node-at-requires
 node-at-requires c κs =
     let e = c .before .before .before in
-    let s = e .before .before .before .before .before .before .args .self in
+    let s = start e .args .self in
     let l : length (s .waiting) ≡ 1024 = search needs in
     let h = height-waits (s .count) (allowed e) in
     simp (c .before .before .log2 .ensures) (omega arith)
@@ -47,7 +49,7 @@ node-at-requires c κs =
 returns-4 : tie.Need-returns-4
 returns-4 c =
     let e = c .before .before .before .before in
-    let s = e .before .before .before .before .before .before .args .self in
+    let s = start e .args .self in
     let node =
     c .node-at .ensures
     ∙ ap (λ (n : ℕ). part (s .waiting) (32 * (n - 5)) 32) (c .before .before .before .log2 .ensures) in
