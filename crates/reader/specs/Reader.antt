@@ -7,10 +7,12 @@ use lib.Dec.{eqb}
 use lib.ListN.{length, drop}
 use Rattle.rules.specs.Choice.{choose}
 use Rattle.octets.specs.Splice.{part}
-use Rattle.record.specs.Form.{FieldRule, layout, Contents, contents, malformed, addContent, Parsed, fieldsIn}
-use Rattle.record.specs.FieldAt.{fieldAt, asked}
-use Rattle.record.specs.declared.Field.{Field}
-use Rattle.record.specs.declared.Field.the-variants.{Content, Refused}
+use Rattle.fields.specs.Table.{Contents, contents, malformed, addContent}
+use Rattle.fields.specs.FieldAt.{fieldAt, asked}
+use Rattle.fields.specs.declared.FieldRule.{FieldRule}
+use Rattle.fields.specs.declared.Field.{Field}
+use Rattle.fields.specs.declared.Field.the-variants.{Content, Refused}
+use Rattle.record.specs.Form.{layout, Parsed, fieldsIn}
 use Rattle.reader.specs.declared.RecordReader.{RecordReader}
 
 -- the place after the field that was read at a place; after the refusal it is the same place

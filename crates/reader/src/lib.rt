@@ -1,7 +1,7 @@
 // A reader that holds a lent record and a place in it, and hands out the record's fields in turn.
-use record::Field;
+use fields::Field;
 ghost use mathlib.Core.Path.{_≡_};
-ghost use Rattle.record.specs.FieldAt.{fieldAt};
+ghost use Rattle.fields.specs.FieldAt.{fieldAt};
 ghost use Rattle.reader.specs.Reader.{nextPlace, placeAfter, readerAt, movedOn};
 
 // A lent record, and the place where its next field is read.
@@ -39,7 +39,7 @@ impl<'a> RecordReader<'a> {
     pub fn next_field(&mut self) -> Field
         ensures { λ r. ⌜ (r ≡ fieldAt (now (now (self .entry) .bytes)) (now (self .entry) .place)) × (now (self .exit) ≡ movedOn (now (self .entry))) ⌝ }
     {
-        let field = record::read_field(self.bytes, self.place);
+        let field = fields::read_field(self.bytes, self.place);
         self.place = next_place(field, self.place);
         field
     }

@@ -26,7 +26,7 @@ module _ (terms : DealTerms) (r : List ℕ) (b : Bytes r) (e : checkOf terms r �
   accepted-length =
       let a = accepted-fields terms r e in
       sym (ap length (accepted-encodes terms r e b))
-      ∙ encode-length (fieldsOf r) (accepted-sized terms r e b)
+      ∙ encode-length (fieldsOf r) (accepted-sized terms r e b .commitment-32)
       ∙ ap₂ (λ (m n : ℕ). tableLength layout (m ∷ n ∷ [])) (a .segment-path-length) (a .entry-path-length)
 
   pub accepted-range : (202 ≤ length r) × (length r ≤ 1962)

@@ -96,6 +96,7 @@ parse-canonical r x h e = go (readContents layout r) refl e
     go (contents cs) p q = let m = contents-canonical layout r cs h p in six cs p q (m .1) (m .2)
 
 -- the length of what is written is the table's
-pub encode-length : (x : Fields) → Sized x → length (encode x) ≡ tableLength layout (length (x .segmentPath) ∷ length (x .entryPath) ∷ [])
+pub encode-length : (x : Fields) → length (x .commitment) ≡ 32 → length (encode x) ≡ tableLength layout (length (x .segmentPath) ∷ length (x .entryPath) ∷ [])
 unfolding encode
-encode-length x h = written-length layout (contentsOf x) (sized-fits x h)
+encode-length x l =
+    written-length layout (contentsOf x) (l, (length-bytesOf 8 (x .offset), (length-bytesOf 8 (x .size), (length-bytesOf 8 (x .place), (tt, (tt, tt))))))

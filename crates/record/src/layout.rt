@@ -16,6 +16,9 @@ pub const SEGMENT_PATH: usize = 4;
 pub const ENTRY_PATH: usize = 5;
 pub const ROWS: usize = 6;
 
+// The bytes of a record beside its two paths: a head for each row, the commitment and three numbers.
+pub const FIXED_LENGTH: usize = 3 * ROWS + 32 + 3 * 8;
+
 // A row whose content has one length.
 fn fixed(tag: u8, length: usize) -> FieldRule
     ensures { λ r. ⌜ r ≡ fieldRule tag (Exactly length) ⌝ }

@@ -6,6 +6,7 @@ mod layout; // layout.rt: the table of a record's fields
 pub use form::parse;
 pub use layout::COMMITMENT;
 pub use layout::ENTRY_PATH;
+pub use layout::FIXED_LENGTH;
 pub use layout::OFFSET;
 pub use layout::PLACE;
 pub use layout::SEGMENT_PATH;

@@ -51,10 +51,10 @@ use denote.Triple.Spec.{Meets, tripleOf}
 use denote.Triple.Table.{entered, cited}
 use denote.Triple.Walked.{says, Stays, stay-none, stay-none-slice, walkOf, goes-none, goes-none-slice, Walks, ends-at, walked, walk-meets}
 use denote.Exit.{yes}
-use Rattle.record.specs.FieldAt.{fieldAt}
-use Rattle.record.specs.declared.Field.{Field}
-use Rattle.record.proofs.Field as S
-use Rattle.record.proofs.Field.Laws as S′
+use Rattle.fields.specs.FieldAt.{fieldAt}
+use Rattle.fields.specs.declared.Field.{Field}
+use Rattle.fields.proofs.Field as S
+use Rattle.fields.proofs.Field.Laws as S′
 use Rattle.reader.specs.Reader.{nextPlace, placeAfter, readerAt, movedOn}
 use Rattle.reader.specs.declared.RecordReader.{RecordReader}
 use Rattle.reader.proofs.Lent.{lends, comes-back}

@@ -27,7 +27,7 @@ returns c =
     let middle = h .put-head .ensures .1 in
     let content = bytesOf 8 (a .number) in
     (
-      field-written (now (a .out)) content (a .at) (a .tag) (length-bytesOf 8 (a .number)) (omega arith) (h .put-head .ensures .0) middle (w .put-u64 .ensures),
+      field-written (now (a .out)) content (a .at) (a .row .tag) (length-bytesOf 8 (a .number)) (omega arith) (h .put-head .ensures .0) middle (w .put-u64 .ensures),
       omega arith,
     )
 

@@ -15,7 +15,7 @@ enum-told c = search needs
 returns : tie.Need-returns
 returns c =
     let k = c .before .before in
-    rw (← k .read-field .ensures, c .enum-told .given .1) (refl, (refl, (refl, (refl, refl))))
+    rw (← k .read-field .ensures .0, c .enum-told .given .1) (refl, (refl, (refl, (refl, refl))))
 
 cast-tag : tie.Need-cast-tag
 cast-tag c = search needs
@@ -24,7 +24,7 @@ returns-2 : tie.Need-returns-2
 returns-2 c =
     let f = c .before in
     let k = f .before .before in
-    rw (← k .read-field .ensures, f .field-tag .given .1) (refl, (refl, (refl, (refl, refl))))
+    rw (← k .read-field .ensures .0, f .field-tag .given .1) (refl, (refl, (refl, (refl, refl))))
 
 pub vz-read-field-spec : {M : Type 1} → statement M
 vz-read-field-spec =
