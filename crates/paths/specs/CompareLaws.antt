@@ -42,8 +42,9 @@ module _ (x s : List ℕ) (vs : List (List ℕ)) (y t : List ℕ) (ws : List (Li
   pub paths-up : (p : ℕ) → length s ≡ length t
       → comparedUp (length s / 32) p x s y t (compared (firstDifference vs ws)) ≡ pathsCompared p x s vs y t ws
   paths-up p l =
+      let vs' = pathStrings (length s / 32) x p s vs in
       sym (compared-up (length s / 32) p x s y t vs ws)
-      ∙ ap (λ (n : ℕ). compared (firstDifference (pathStrings (length s / 32) x p s vs) (pathStrings (n / 32) y p t ws))) l
+      ∙ ap (λ (n : ℕ). compared (firstDifference vs' (pathStrings (n / 32) y p t ws))) l
 
   -- paths from one start
   pub paths-compared : (start : PathStart) → length s ≡ 32 * start .levels → length t ≡ 32 * start .levels

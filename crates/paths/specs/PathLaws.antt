@@ -49,8 +49,11 @@ strings-chain (suc n) p x s bs ws hx hs h =
     let t : length (take 32 s) ≡ 32 = length-take-le 32 s (omega arith) in
     let v : List ℕ = pairOf p x (take 32 s) in
     strings-chain n (p / 2) (nodeHash v) (drop 32 s) (eqb (p % 2) 0 ∷ bs) (v ∷ ws) (node-hash-length v)
-    (simp length-drop (omega arith))
-    (pair-length x (take 32 s) hx t p, refl, subst (λ (z : List ℕ). Chain z bs ws) (sym (pair-half x (take 32 s) hx t p)) h)
+    (simp length-drop (omega arith)) (
+      pair-length x (take 32 s) hx t p,
+      refl,
+      subst (λ (z : List ℕ). Chain z bs ws) (sym (pair-half x (take 32 s) hx t p)) h,
+    )
 
 pub path-chain : (start : PathStart) {c : List ℕ} (x s : List ℕ) (bs : List Bool) (ws : List (List ℕ))
     → length x ≡ 32 → length s ≡ 32 * start .levels → rootFrom start x s ≡ c → Chain x bs ws
@@ -69,7 +72,8 @@ pub strings-length : (start : PathStart) (x s : List ℕ) (ws : List (List ℕ))
     → length (stringsFrom start x s ws) ≡ start .levels + length ws
 strings-length start x s ws = length-strings (start .levels) (start .position) x s ws
 
--- what two paths with the same strings have in common: the siblings, what stands below, and, where there is a level, the node
+-- what two paths with the same strings have in common: the siblings, what stands below, and, where there is a level, the
+-- node
 pub record SamePath (levels : ℕ) (x y s t : List ℕ) (vs ws : List (List ℕ)) : Type 0 where
   pub same-siblings : s ≡ t
   pub same-below : vs ≡ ws
@@ -102,7 +106,8 @@ strings-tell (suc n) p x y s t vs ws hx hy hs ht e =
     record {
       same-siblings = cut s t k (r .same-siblings);
       same-below = j;
-      same-node = λ h. sym (pair-half x (take 32 s) hx a p) ∙ ap (half (eqb (p % 2) 0)) i ∙ pair-half y (take 32 t) hy b p;
+      same-node = λ h.
+          sym (pair-half x (take 32 s) hx a p) ∙ ap (half (eqb (p % 2) 0)) i ∙ pair-half y (take 32 t) hy b p;
     }
 
 pub same-strings : (start : PathStart) (x y s t : List ℕ) (vs ws : List (List ℕ)) → length x ≡ 32 → length y ≡ 32

@@ -1,5 +1,5 @@
--- A source that is a tree: its own paths lead to its top node, their strings are its pairs, and no sibling above the lowest level has
--- stray bits. Once over the height.
+-- A source that is a tree: its own paths lead to its top node, their strings are its pairs, and no sibling above the lowest
+-- level has stray bits. Once over the height.
 use mathlib.Core.Path.{_≡_, refl, sym, ap, ap₂, subst, _∙_}
 use mathlib.Core.Bool.{Bool, true}
 use Prim.Native.Nat.{ℕ, zero, suc, _+_, _-_, _*_, _/_, _%_, _^_, _<_}
@@ -101,7 +101,8 @@ module _ (nodes : NodeSource) (run : List ℕ) (top : ℕ) (t : IsTree nodes run
       let k : length (siblings nodes n (suc i) q) / 32 ≡ n = omega arith in
       ap (λ (m : ℕ). clearNodes m (siblings nodes n (suc i) q)) k ∙ clear-up n i q w
 
-  pub path-clear : (start : PathStart) → 0 < start .level → InTree top start → noStrayBits (siblingsFrom nodes start) ≡ true
+  pub path-clear : (start : PathStart) → 0 < start .level → InTree top start
+      → noStrayBits (siblingsFrom nodes start) ≡ true
   path-clear start = path-clear-at (start .levels) (start .level) (start .position)
 
   -- one step along the source's own path
@@ -158,7 +159,8 @@ module _ (nodes : NodeSource) (run : List ℕ) (top : ℕ) (t : IsTree nodes run
         → Chain (nodes top 0) (sidesFrom start bs) (pairsFrom nodes start ws)
     own-chain bs ws h =
         subst (Chain (nodes top 0) (sidesFrom start bs)) (own-strings ws)
-        (path-chain start (nodeFrom nodes start) (siblingsFrom nodes start) bs ws node-length (path-length start w) own-leads h)
+        (path-chain start (nodeFrom nodes start) (siblingsFrom nodes start) bs ws node-length (path-length start w)
+        own-leads h)
 
     -- a path whose strings are the pairs is the source's own
     pub own-path : (x s : List ℕ) (vs ws : List (List ℕ)) → length x ≡ 32 → length s ≡ 32 * start .levels
@@ -172,4 +174,5 @@ module _ (nodes : NodeSource) (run : List ℕ) (top : ℕ) (t : IsTree nodes run
 pub run-path-length : (run : List ℕ) (n level q : ℕ) → length run ≡ 32 * 2 ^ (level + n) → q < 2 ^ n
     → length (siblings (nodeAt run) n level q) ≡ 32 * n
 run-path-length run n level q e h =
-    path-length (nodeAt run) run (level + n) (run-tree run (level + n) e) (pathStart n level q) (record { up = refl; among = h })
+    path-length (nodeAt run) run (level + n) (run-tree run (level + n) e) (pathStart n level q)
+    (record { up = refl; among = h })

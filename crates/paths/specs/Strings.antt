@@ -1,5 +1,5 @@
--- The 64-byte strings that are hashed along a path, from the top down (document 01, "Booking, finding, building, settling":
--- settle).
+-- The 64-byte strings that are hashed along a path, from the top down (document 01, "Booking, finding, building,
+-- settling": settle).
 use Prim.Native.Nat.{ℕ, zero, suc, _/_}
 use mathlib.Core.List.{List, _∷_}
 use lib.ListN.{take, drop}
