@@ -5,4 +5,3 @@ pub mod SettleLaws
 pub mod FieldsOfLaws
 pub mod ComparingLaws
 pub mod EntryStringsLaws
-pub mod DealStringsLaws
