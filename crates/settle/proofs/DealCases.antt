@@ -29,8 +29,8 @@ use Rattle.build.specs.BuildLaws.{InDeal, in-deal, segment-start, entry-start, 
 use Rattle.settle.specs.Settle.{notSettled, entryStrings, segmentStrings, dealEntryStrings, dealSegmentStrings}
 use Rattle.settle.specs.Settle.{settleWithDeal}
 use Rattle.settle.specs.SettleLaws.{settledFrom, orCompared, settled-parts}
-use Rattle.settle.specs.FieldsOf.{fieldsOf}
-use Rattle.settle.specs.FieldsOfLaws.{accepted-parses, accepted-fields}
+use Rattle.record.specs.FieldsOf.{fieldsOf}
+use Rattle.record.specs.FieldsOfLaws.{accepted-parses, accepted-fields}
 use Rattle.settle.specs.Comparing.{entriesCompared, segmentsCompared, entryWithDeal, segmentWithDeal}
 use Rattle.settle.proofs.Answers.{refused-with, entries-decide, segments-decide}
 

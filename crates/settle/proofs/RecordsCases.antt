@@ -21,8 +21,9 @@ use Rattle.record.specs.Check.{DealTerms, entryFor, checkOf}
 use Rattle.record.specs.CheckLaws.{Accepted, check-terms}
 use Rattle.settle.specs.Settle.{notSettled, entryStrings, segmentStrings, settleRecords}
 use Rattle.settle.specs.SettleLaws.{settledFrom, orCompared, settled-parts, same-fields}
-use Rattle.settle.specs.FieldsOf.{fieldsOf}
-use Rattle.settle.specs.FieldsOfLaws.{place-of, accepted-parses, accepted-fields, accepted-sized}
+use Rattle.record.specs.FieldsOf.{fieldsOf}
+use Rattle.record.specs.FieldsOfLaws.{accepted-parses, accepted-fields, accepted-sized}
+use Rattle.settle.specs.FieldsOfLaws.{place-of}
 use Rattle.settle.specs.Comparing.{entriesCompared, segmentsCompared}
 use Rattle.settle.specs.EntryStringsLaws.{entry-strings-length, same-entry}
 use Rattle.settle.proofs.Answers.{refused-with, entries-decide, segments-decide}

@@ -1,5 +1,4 @@
 pub mod Settle
-pub mod FieldsOf
 pub mod Comparing
 pub mod SettleLaws
 pub mod FieldsOfLaws

@@ -20,7 +20,7 @@ ghost use Rattle.record.specs.Check.{checkOf};
 ghost use Rattle.lent.specs.LentDeal.{lentDeal, dealRefusal};
 ghost use Rattle.build.specs.Build.{termsOf, entryPathOf};
 ghost use Rattle.settle.specs.Settle.{settleWithDeal};
-ghost use Rattle.settle.specs.FieldsOf.{fieldsOf};
+ghost use Rattle.record.specs.FieldsOf.{fieldsOf};
 ghost use Rattle.settle.specs.Comparing.{entryWithDeal, segmentWithDeal};
 
 // A lent deal has at most 2^19 nodes of 32 bytes, and its longest path is that of an entry, from level 1 up.

@@ -14,7 +14,7 @@ use Rattle.lent.specs.LentDeal.{lentDeal}
 use Rattle.lent.specs.LentDealLaws.{refusal-none}
 use Rattle.build.specs.Build.{segmentPathOf}
 use Rattle.build.specs.BuildLaws.{InDeal, segment-start}
-use Rattle.settle.specs.FieldsOf.{fieldsOf}
+use Rattle.record.specs.FieldsOf.{fieldsOf}
 use Rattle.settle.specs.Comparing.{segmentsCompared}
 use Rattle.settle.proofs.OwnPath.{OwnPath, path-room, node-room, path-written, written-length, written-fits}
 use Rattle.settle.proofs.DealCases.{inside, segment-paths, segments-found}

@@ -16,7 +16,7 @@ use Rattle.sizes.specs.SizesLaws.{lent-size}
 use Rattle.record.specs.Check.{dealTerms, checkOf}
 use Rattle.lent.specs.LentDeal.{lentDeal, dealRefusal}
 use Rattle.build.specs.Build.{termsOf, entryPathOf}
-use Rattle.settle.specs.FieldsOf.{fieldsOf}
+use Rattle.record.specs.FieldsOf.{fieldsOf}
 use Rattle.settle.proofs.OwnPath.{OwnPath, path-room, path-written, written-length, written-fits}
 use Rattle.settle.proofs.OwnEntryPath.{entry-path}
 use Rattle.settle.proofs.DealCases.{deal-refused, lent, check-refused, accepted-place, entries-differ, entries-same}
