@@ -110,11 +110,10 @@ one-passed (suc n) r at p (Content tag start m next) e d h =
     let k : p ≡ n = omega arith in
     (omega arith, ap (λ (i : ℕ). placeAfter i r (nextPlace (fieldAt r at) at)) k)
 one-passed (suc n) r at p Refused e d h =
-    let z : nextPlace (fieldAt r at) at ≡ at = ap (λ (x : Field). nextPlace x at) (sym e) in
-    (
+    let z : nextPlace (fieldAt r at) at ≡ at = ap (λ (x : Field). nextPlace x at) (sym e) in (
       omega arith,
       ap (λ (i : ℕ). placeAfter i r (nextPlace (fieldAt r at) at)) d
-      ∙ sym (stays-refused n r (nextPlace (fieldAt r at) at) (ap (fieldAt r) z ∙ sym e)),
+          ∙ sym (stays-refused n r (nextPlace (fieldAt r at) at) (ap (fieldAt r) z ∙ sym e)),
     )
 
 -- ---- what is passed and known
