@@ -17,7 +17,8 @@ use Rattle.index.specs.declared.Row.{Row}
 use Rattle.lent.specs.LentDeal.{lentDeal}
 use Rattle.build.specs.Build.{built, notBuilt, recordAt, buildAnswer, buildOutput}
 use Rattle.build.specs.BuildLaws.{InDeal, in-deal, means-build}
-use Rattle.build.specs.Encode.{recordLength, recordFor}
+use Rattle.record.specs.Form.{recordLength}
+use Rattle.build.specs.Encode.{recordFor}
 use Rattle.build.specs.EncodeLaws.{record-of-entry, commitment-in-length, record-length}
 use Rattle.build.specs.declared.BuildAnswer.{BuildAnswer}
 

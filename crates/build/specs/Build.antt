@@ -1,17 +1,15 @@
 -- Building a record from a lent deal and an entry place (document 01, "Booking, finding, building, settling": build).
 use Prim.Native.Nat.{ℕ}
-use mathlib.Core.List.{List, [], _∷_}
+use mathlib.Core.List.{List, [], _∷_, _++_}
 use lib.ListN.{length}
 use lib.Dec.{leb}
 use Rattle.rules.specs.Choice.{choose}
 use Rattle.rules.specs.Refusals.{Rule, rule, firstRefusal, unlessRefused}
 use Rattle.octets.specs.Splice.{splice}
-use Rattle.merkle.specs.Tree.{nodeAt}
-use Rattle.stray.specs.StrayBits.{noStrayBits}
-use Rattle.merkle.specs.NodeSource.{NodeSource}
-use Rattle.lent.specs.LentDeal.{LentDeal, dealSize}
-use Rattle.paths.specs.Siblings.{siblings}
-use Rattle.sizes.specs.Sizes.{lentSizeAllowed, placeAllowed, dealLevel, segmentLevel, segmentPathLevels, entryPathLevels, segmentPosition, entryPosition}
+use Rattle.lent.specs.LentDeal.{LentDeal, dealSize, dealRules}
+use Rattle.paths.specs.Siblings.{siblingsFrom}
+use Rattle.paths.specs.DealStarts.{segmentStart, entryStart}
+use Rattle.sizes.specs.Sizes.{placeAllowed, dealLevel}
 use Rattle.entries.specs.Entry.{commitmentIn, offsetIn, sizeIn}
 use Rattle.index.specs.Slots.{entryAt, kept}
 use Rattle.record.specs.Form.{Fields, encode}
@@ -24,10 +22,10 @@ termsOf deal = dealTerms (deal .nodes (dealLevel (dealSize deal)) 0) (dealSize d
 
 -- the Merkle paths of a segment and of an entry
 abbrev pub segmentPathOf : LentDeal → ℕ → ℕ → List ℕ
-segmentPathOf deal offset size = siblings (deal .nodes) (segmentPathLevels (dealSize deal) size) (segmentLevel size) (segmentPosition offset size)
+segmentPathOf deal offset size = siblingsFrom (deal .nodes) (segmentStart (dealSize deal) offset size)
 
 abbrev pub entryPathOf : LentDeal → ℕ → List ℕ
-entryPathOf deal place = siblings (deal .nodes) (entryPathLevels (dealSize deal)) 1 (entryPosition place)
+entryPathOf deal place = siblingsFrom (deal .nodes) (entryStart (dealSize deal) place)
 
 -- the fields of the record for the entry e at a place
 unfoldable pub fieldsFor : LentDeal → List ℕ → ℕ → Fields
@@ -48,9 +46,8 @@ pub data Building : Type 0 where
 
 abbrev pub buildRules : LentDeal → ℕ → List Rule
 buildRules deal place =
-    rule (lentSizeAllowed (dealSize deal)) 2
-    ∷ rule (noStrayBits (deal .bytes)) 11
-    ∷ rule (placeAllowed (dealSize deal) place) 6
+    dealRules (deal .bytes)
+    ++ rule (placeAllowed (dealSize deal) place) 6
     ∷ rule (kept (deal .nodes) (dealSize deal) (entryAt (deal .bytes) place)) 16
     ∷ []
 
@@ -62,7 +59,8 @@ recordAt deal place =
 -- with a lent output: 12 where it is shorter than the record, which else fills its first bytes
 abbrev pub answerFor : Building → List ℕ → BuildAnswer
 answerFor (notBuilt code) out = record { code = code; length = 0 }
-answerFor (built r) out = choose (leb (length r) (length out)) (record { code = 0; length = length r }) (record { code = 12; length = 0 })
+answerFor (built r) out =
+    choose (leb (length r) (length out)) (record { code = 0; length = length r }) (record { code = 12; length = 0 })
 
 abbrev pub outputFor : Building → List ℕ → List ℕ
 outputFor (notBuilt code) out = out

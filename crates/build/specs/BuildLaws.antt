@@ -15,12 +15,16 @@ use Rattle.octets.specs.SpliceLaws.{part-length, bytes-part}
 use Rattle.node.specs.Node.{nodeHash}
 use Rattle.stray.specs.StrayBits.{clearNode, noStrayBits}
 use Rattle.stray.specs.StrayBitsLaws.{clear-at}
-use Rattle.paths.specs.Path.{pathRoot}
 use Rattle.merkle.specs.NodeSource.{NodeSource, IsTree}
-use Rattle.paths.specs.Siblings.{siblings}
+use Rattle.paths.specs.Start.{InTree}
+use Rattle.paths.specs.Path.{rootFrom}
+use Rattle.paths.specs.Siblings.{nodeFrom}
 use Rattle.paths.specs.SiblingsLaws.{path-length, path-clear, own-leads}
-use Rattle.sizes.specs.Sizes.{lentSizeAllowed, segmentSizeAllowed, offsetAllowed, placeAllowed, area, indexStart, dealLevel, segmentLevel, segmentPathLevels, entryPathLevels, segmentPosition, entryPosition}
-use Rattle.sizes.specs.SizesLaws.{LentSize, lent-size, SegmentSize, segment-size, SegmentPlace, segment-place, EntryPlace, entry-place, index-start-le}
+use Rattle.paths.specs.DealStarts.{segmentStart, entryStart}
+use Rattle.sizes.specs.Sizes.{lentSizeAllowed, segmentSizeAllowed, offsetAllowed, placeAllowed, area, indexStart}
+use Rattle.sizes.specs.Sizes.{dealLevel, segmentLevel, segmentPathLevels, entryPathLevels}
+use Rattle.sizes.specs.SizesLaws.{LentSize, lent-size, SegmentSize, segment-size, index-start-le}
+use Rattle.sizes.specs.SizesLaws.{SegmentPlace, segment-place, EntryPlace, entry-place}
 use Rattle.entries.specs.Entry.{entryOf, commitmentIn, offsetIn, sizeIn}
 use Rattle.entries.specs.EntryLaws.{valid-is}
 use Rattle.index.specs.Slots.{entryAt, kept}
@@ -43,7 +47,9 @@ pub build-means : (deal : LentDeal) (place : ℕ) (r : List ℕ) → recordAt de
 unfolding recordAt
 build-means deal place r e = go (firstRefusal (buildRules deal place)) refl e
   where
-    go : (code : ℕ) → firstRefusal (buildRules deal place) ≡ code → unlessRefused code notBuilt (built (encode (fieldsFor deal (entryAt (deal .bytes) place) place))) ≡ built r → Builds deal place r
+    go : (code : ℕ) → firstRefusal (buildRules deal place) ≡ code
+        → unlessRefused code notBuilt (built (encode (fieldsFor deal (entryAt (deal .bytes) place) place))) ≡ built r
+        → Builds deal place r
     go zero q i =
         let a = none-refused (buildRules deal place) (omega arith, (omega arith, (omega arith, (omega arith, tt)))) q in
         let w : encode (fieldsFor deal (entryAt (deal .bytes) place) place) ≡ r = cc in
@@ -56,8 +62,10 @@ build-means deal place r e = go (firstRefusal (buildRules deal place)) refl e
         }
     go (suc code) q i = let z : _≡_ {A = ℕ} 0 1 = cc in absurd (omega arith)
 
-pub means-build : (deal : LentDeal) (place : ℕ) (r : List ℕ) → lentSizeAllowed (dealSize deal) ≡ true → noStrayBits (deal .bytes) ≡ true → placeAllowed (dealSize deal) place ≡ true
-    → kept (deal .nodes) (dealSize deal) (entryAt (deal .bytes) place) ≡ true → encode (fieldsFor deal (entryAt (deal .bytes) place) place) ≡ r → recordAt deal place ≡ built r
+pub means-build : (deal : LentDeal) (place : ℕ) (r : List ℕ) → lentSizeAllowed (dealSize deal) ≡ true
+    → noStrayBits (deal .bytes) ≡ true → placeAllowed (dealSize deal) place ≡ true
+    → kept (deal .nodes) (dealSize deal) (entryAt (deal .bytes) place) ≡ true
+    → encode (fieldsFor deal (entryAt (deal .bytes) place) place) ≡ r → recordAt deal place ≡ built r
 unfolding recordAt
 means-build deal place r a b c k e = rw (a, b, c, k) (ap built e)
 
@@ -70,8 +78,8 @@ pub record InDeal (d place offset size : ℕ) : Type 0 where
   pub segment-up : segmentLevel size + segmentPathLevels d size ≡ dealLevel d
   pub entry-up : 1 + entryPathLevels d ≡ dealLevel d
 
-pub in-deal : (d place offset size : ℕ) → lentSizeAllowed d ≡ true → placeAllowed d place ≡ true → segmentSizeAllowed d size ≡ true → offsetAllowed d offset size ≡ true
-    → InDeal d place offset size
+pub in-deal : (d place offset size : ℕ) → lentSizeAllowed d ≡ true → placeAllowed d place ≡ true
+    → segmentSizeAllowed d size ≡ true → offsetAllowed d offset size ≡ true → InDeal d place offset size
 in-deal d place offset size l q s f =
     let t = lent-size d l in
     let a = segment-size d size (t .deal) s in
@@ -86,8 +94,17 @@ in-deal d place offset size l q s f =
       entry-up = omega arith;
     }
 
+-- the starts of the two paths in the deal's tree
+module _ {d place offset size : ℕ} (w : InDeal d place offset size) where
+  pub segment-start : InTree (dealLevel d) (segmentStart d offset size)
+  segment-start = record { up = w .segment-up; among = w .segment-is .position-in }
+
+  pub entry-start : InTree (dealLevel d) (entryStart d place)
+  entry-start = record { up = w .entry-up; among = w .place-is .position-in }
+
 -- an entry of a deal without stray bits has a clear commitment
-entry-clear : (deal : List ℕ) (place : ℕ) → place ≡ 64 * (place / 64) → place + 64 ≤ length deal → noStrayBits deal ≡ true → clearNode (commitmentIn (entryAt deal place)) ≡ true
+entry-clear : (deal : List ℕ) (place : ℕ) → place ≡ 64 * (place / 64) → place + 64 ≤ length deal
+    → noStrayBits deal ≡ true → clearNode (commitmentIn (entryAt deal place)) ≡ true
 unfolding commitmentIn part
 entry-clear deal place e h k =
     let at : place ≡ (place / 64 * 2) * 32 = omega arith in
@@ -95,8 +112,8 @@ entry-clear deal place e h k =
     ∙ clear-at (length deal / 32) (place / 64 * 2) deal k (omega arith)
 
 -- the node over the 64 bytes at a place
-pub entry-node : (nodes : NodeSource) (deal : List ℕ) (top place : ℕ) → IsTree nodes deal top → place ≡ 64 * (place / 64) → 0 < top → place / 64 < 2 ^ (top - 1)
-    → nodeHash (entryAt deal place) ≡ nodes 1 (place / 64)
+pub entry-node : (nodes : NodeSource) (deal : List ℕ) (top place : ℕ) → IsTree nodes deal top → place ≡ 64 * (place / 64)
+    → 0 < top → place / 64 < 2 ^ (top - 1) → nodeHash (entryAt deal place) ≡ nodes 1 (place / 64)
 unfolding part
 entry-node nodes deal top place t e o h =
     let m = place / 64 in
@@ -110,65 +127,61 @@ entry-node nodes deal top place t e o h =
 module _ (deal : LentDeal) (t : IsTree (deal .nodes) (deal .bytes) (dealLevel (dealSize deal))) where
   module _ (place offset size : ℕ) (w : InDeal (dealSize deal) place offset size) where
     pub segment-path-length : length (segmentPathOf deal offset size) ≡ 32 * segmentPathLevels (dealSize deal) size
-    segment-path-length =
-        path-length (deal .nodes) (deal .bytes) (dealLevel (dealSize deal)) t (segmentPathLevels (dealSize deal) size) (segmentLevel size) (segmentPosition offset size) (w .segment-up) (w .segment-is .position-in)
+    segment-path-length = path-length (deal .nodes) (deal .bytes) _ t _ (segment-start w)
 
     pub entry-path-length : length (entryPathOf deal place) ≡ 32 * entryPathLevels (dealSize deal)
-    entry-path-length =
-        path-length (deal .nodes) (deal .bytes) (dealLevel (dealSize deal)) t (entryPathLevels (dealSize deal)) 1 (entryPosition place) (w .entry-up) (w .place-is .position-in)
+    entry-path-length = path-length (deal .nodes) (deal .bytes) _ t _ (entry-start w)
 
     pub segment-path-clear : noStrayBits (segmentPathOf deal offset size) ≡ true
     segment-path-clear =
-        let l : 2 ≤ segmentLevel size = w .size-is .level-low in
-        let k : suc (segmentLevel size - 1) ≡ segmentLevel size = omega arith in
-        ap (λ (i : ℕ). noStrayBits (siblings (deal .nodes) (segmentPathLevels (dealSize deal) size) i (segmentPosition offset size))) (sym k)
-        ∙ path-clear (deal .nodes) (deal .bytes) (dealLevel (dealSize deal)) t (segmentPathLevels (dealSize deal) size) (segmentLevel size - 1) (segmentPosition offset size)
-        (ap (λ (i : ℕ). i + segmentPathLevels (dealSize deal) size) k ∙ w .segment-up)
-        (w .segment-is .position-in)
+        let low : 2 ≤ segmentLevel size = w .size-is .level-low in
+        path-clear (deal .nodes) (deal .bytes) _ t (segmentStart (dealSize deal) offset size) (omega arith) (segment-start w)
 
     pub entry-path-clear : noStrayBits (entryPathOf deal place) ≡ true
     entry-path-clear =
-        path-clear (deal .nodes) (deal .bytes) (dealLevel (dealSize deal)) t (entryPathLevels (dealSize deal)) 0 (entryPosition place) (w .entry-up) (w .place-is .position-in)
+        path-clear (deal .nodes) (deal .bytes) _ t (entryStart (dealSize deal) place) (omega arith) (entry-start w)
 
     pub segment-path-leads :
-        pathRoot (segmentPathLevels (dealSize deal) size) (deal .nodes (segmentLevel size) (segmentPosition offset size)) (segmentPosition offset size) (segmentPathOf deal offset size)
-        ≡ termsOf deal .commitment
-    segment-path-leads =
-        own-leads (deal .nodes) (deal .bytes) (dealLevel (dealSize deal)) t (segmentPathLevels (dealSize deal) size) (segmentLevel size) (segmentPosition offset size) (w .segment-up) (w .segment-is .position-in)
+        let start = segmentStart (dealSize deal) offset size in
+        rootFrom start (nodeFrom (deal .nodes) start) (segmentPathOf deal offset size) ≡ termsOf deal .commitment
+    segment-path-leads = own-leads (deal .nodes) (deal .bytes) _ t _ (segment-start w)
 
-    pub entry-path-leads : pathRoot (entryPathLevels (dealSize deal)) (deal .nodes 1 (entryPosition place)) (entryPosition place) (entryPathOf deal place) ≡ termsOf deal .commitment
-    entry-path-leads =
-        own-leads (deal .nodes) (deal .bytes) (dealLevel (dealSize deal)) t (entryPathLevels (dealSize deal)) 1 (entryPosition place) (w .entry-up) (w .place-is .position-in)
+    pub entry-path-leads :
+        let start = entryStart (dealSize deal) place in
+        rootFrom start (nodeFrom (deal .nodes) start) (entryPathOf deal place) ≡ termsOf deal .commitment
+    entry-path-leads = own-leads (deal .nodes) (deal .bytes) _ t _ (entry-start w)
 
-    pub place-node : nodeHash (entryAt (deal .bytes) place) ≡ deal .nodes 1 (entryPosition place)
+    pub place-node : nodeHash (entryAt (deal .bytes) place) ≡ nodeFrom (deal .nodes) (entryStart (dealSize deal) place)
     place-node =
         let l : 4 ≤ dealLevel (dealSize deal) = w .lent-is .deal .level-low in
-        entry-node (deal .nodes) (deal .bytes) (dealLevel (dealSize deal)) place t (w .place-is .at-position) (omega arith) (w .place-is .position-in)
+        entry-node (deal .nodes) (deal .bytes) (dealLevel (dealSize deal)) place t (w .place-is .at-position) (omega arith)
+        (w .place-is .position-in)
 
   pub commitment-length : length (termsOf deal .commitment) ≡ 32
   commitment-length = t .sized 0 (dealLevel (dealSize deal)) 0 (omega arith) (omega arith)
 
   module _ (b : Bytes (deal .bytes)) (place : ℕ) (r : List ℕ) (m : Builds deal place r) where
-    e : List ℕ
+    abbrev e : List ℕ
     e = entryAt (deal .bytes) place
 
-    pub built-in-deal : InDeal (dealSize deal) place (offsetIn (entryAt (deal .bytes) place)) (sizeIn (entryAt (deal .bytes) place))
+    pub built-in-deal : InDeal (dealSize deal) place (offsetIn e) (sizeIn e)
     built-in-deal =
-        in-deal (dealSize deal) place (offsetIn (entryAt (deal .bytes) place)) (sizeIn (entryAt (deal .bytes) place)) (m .lent) (m .place-allowed)
-        (m .is-kept .is-standing .size-allowed) (m .is-kept .is-standing .offset-allowed)
+        let s = m .is-kept .is-standing in
+        in-deal (dealSize deal) place (offsetIn e) (sizeIn e) (m .lent) (m .place-allowed) (s .size-allowed) (s .offset-allowed)
 
     -- the entry is the one that its fields make
-    pub built-valid : entryOf (commitmentIn (entryAt (deal .bytes) place)) (offsetIn (entryAt (deal .bytes) place)) (sizeIn (entryAt (deal .bytes) place)) ≡ entryAt (deal .bytes) place
+    pub built-valid : entryOf (commitmentIn e) (offsetIn e) (sizeIn e) ≡ e
     built-valid =
-        valid-is (entryAt (deal .bytes) place) (part-length (deal .bytes) place 64 (built-in-deal .place-is .in-deal)) (bytes-part (deal .bytes) place 64 b) (m .is-kept .is-standing .right)
+        valid-is e (part-length (deal .bytes) place 64 (built-in-deal .place-is .in-deal)) (bytes-part (deal .bytes) place 64 b)
+        (m .is-kept .is-standing .right)
 
-    pub built-sized : Sized (fieldsFor deal (entryAt (deal .bytes) place) place)
+    pub built-sized : Sized (fieldsFor deal e place)
     unfolding fieldsFor commitmentIn
     built-sized =
         let w = built-in-deal in
-        let o = offsetIn (entryAt (deal .bytes) place) in
-        let z = sizeIn (entryAt (deal .bytes) place) in
-        let l : length (entryAt (deal .bytes) place) ≡ 64 = part-length (deal .bytes) place 64 (w .place-is .in-deal) in
+        let o = offsetIn e in
+        let z = sizeIn e in
+        let l : length e ≡ 64 = part-length (deal .bytes) place 64 (w .place-is .in-deal) in
         let high : dealSize deal ≤ 2 ^ 24 = w .lent-is .lent-high in
         let room : place + 64 ≤ dealSize deal = w .place-is .in-deal in
         let sl = index-start-le (dealSize deal) in
@@ -178,7 +191,7 @@ module _ (deal : LentDeal) (t : IsTree (deal .nodes) (deal .bytes) (dealLevel (d
         let a = segment-path-length place o z w in
         let c = entry-path-length place o z w in
         record {
-          commitment-32 = part-length (entryAt (deal .bytes) place) 0 32 (omega arith);
+          commitment-32 = part-length e 0 32 (omega arith);
           offset-8 = omega arith;
           size-8 = omega arith;
           place-8 = omega arith;
@@ -188,15 +201,16 @@ module _ (deal : LentDeal) (t : IsTree (deal .nodes) (deal .bytes) (dealLevel (d
           entry-path-short = omega arith;
         }
 
-    pub built-parses : parse r ≡ parsed (fieldsFor deal (entryAt (deal .bytes) place) place)
-    built-parses = ap parse (sym (m .wrote)) ∙ parse-encode (fieldsFor deal (entryAt (deal .bytes) place) place) built-sized
+    pub built-parses : parse r ≡ parsed (fieldsFor deal e place)
+    built-parses = ap parse (sym (m .wrote)) ∙ parse-encode (fieldsFor deal e place) built-sized
 
-    pub built-accepted : Accepted (termsOf deal) (fieldsFor deal (entryAt (deal .bytes) place) place)
+    pub built-accepted : Accepted (termsOf deal) (fieldsFor deal e place)
     unfolding fieldsFor
     built-accepted =
         let w = built-in-deal in
-        let o = offsetIn (entryAt (deal .bytes) place) in
-        let z = sizeIn (entryAt (deal .bytes) place) in
+        let o = offsetIn e in
+        let z = sizeIn e in
+        let d = dealSize deal in
         record {
           size-allowed = m .is-kept .is-standing .size-allowed;
           offset-allowed = m .is-kept .is-standing .offset-allowed;
@@ -207,9 +221,10 @@ module _ (deal : LentDeal) (t : IsTree (deal .nodes) (deal .bytes) (dealLevel (d
           segment-path-clear = segment-path-clear place o z w;
           entry-path-clear = entry-path-clear place o z w;
           segment-path-leads =
-              ap (λ (x : List ℕ). pathRoot (segmentPathLevels (dealSize deal) z) x (segmentPosition o z) (segmentPathOf deal o z)) (sym (m .is-kept .node-is))
+              ap (λ (x : List ℕ). rootFrom (segmentStart d o z) x (segmentPathOf deal o z)) (sym (m .is-kept .node-is))
               ∙ segment-path-leads place o z w;
           entry-path-leads =
-              ap (λ (x : List ℕ). pathRoot (entryPathLevels (dealSize deal)) x (entryPosition place) (entryPathOf deal place)) (ap nodeHash built-valid ∙ place-node place o z w)
+              ap (λ (x : List ℕ). rootFrom (entryStart d place) x (entryPathOf deal place))
+              (ap nodeHash built-valid ∙ place-node place o z w)
               ∙ entry-path-leads place o z w;
         }

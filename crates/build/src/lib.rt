@@ -1,6 +1,5 @@
 // Building an inclusion record.
 mod building;
-mod fields;
 mod writing;
 
 pub use building::build;

@@ -1,16 +1,19 @@
 // Writing a whole record.
-use crate::fields::put_node_field;
-use crate::fields::put_number_field;
-use crate::fields::put_path_field;
+use fields::FieldRule;
 use index::Row;
 ghost use mathlib.Core.Path.{_≡_};
-ghost use Prim.Native.Nat.{_≤_};
+ghost use Prim.Native.Nat.{_+_, _*_, _^_, _≤_, _<_};
+ghost use mathlib.Core.List.{[]};
 ghost use lib.ListN.{length};
 ghost use Rattle.octets.specs.Splice.{splice};
+ghost use Rattle.fields.specs.Table.{putField};
+ghost use Rattle.merkle.specs.Tree.{nodeAt};
+ghost use Rattle.paths.specs.Siblings.{siblings};
 ghost use Rattle.sizes.specs.SizesLaws.{LentSize, SegmentSize};
 ghost use Rattle.lent.specs.LentDeal.{lentDeal};
+ghost use Rattle.record.specs.Form.{recordLength};
 ghost use Rattle.build.specs.BuildLaws.{InDeal};
-ghost use Rattle.build.specs.Encode.{recordLength, recordFor};
+ghost use Rattle.build.specs.Encode.{recordFor};
 
 // The length of a record in a lent deal of d bytes, for a segment of a size.
 pub(crate) fn record_length(d: u64, size: u64) -> usize
@@ -20,11 +23,29 @@ pub(crate) fn record_length(d: u64, size: u64) -> usize
     let deal_level = sizes::deal_level(d);
     let levels = deal_level - sizes::segment_level(size);
     let entry_levels = deal_level - 1;
-    74 + 32 * levels + 32 * entry_levels
+    record::FIXED_LENGTH + 32 * levels + 32 * entry_levels
 }
 
-// Writes the record for the entry at a place of a lent deal into the first bytes of `out`: the fields in the order of their tags,
-// each where the one before it ends.
+// Writes the field of a row, which holds the Merkle path of the node at a position of a level of the deal, and answers the place after it.
+fn put_path(
+    out: &mut [u8],
+    at: usize,
+    row: FieldRule,
+    deal: &[u8],
+    levels: usize,
+    level: usize,
+    position: usize,
+) -> usize
+    requires { ⌜ (level + levels < 32) × (length (now deal) ≡ 32 * 2 ^ (level + levels)) × (position < 2 ^ levels) × (at + 3 + 32 * levels ≤ length (now out)) ⌝ }
+    ensures { λ r. ⌜ (now (out .exit) ≡ splice (now (out .entry)) at (putField (row .tag) (siblings (nodeAt (now (deal .entry))) levels level position) [])) × (r ≡ at + (3 + 32 * levels)) ⌝ }
+{
+    let content = fields::put_head(out, at, row.tag, 32 * levels);
+    paths::write_path(deal, levels, level, position, out, content);
+    content + 32 * levels
+}
+
+// Writes the record for the entry at a place of a lent deal into the first bytes of `out`: the fields of the table in its order, each
+// where the one before it ends.
 pub(crate) fn write_record(deal: &[u8], entry: Row, place: u64, out: &mut [u8])
     requires { ⌜ InDeal (length (now deal)) place (entry .offset) (entry .size) ⌝ }
     requires { ⌜ recordLength (length (now deal)) (entry .size) ≤ length (now out) ⌝ }
@@ -36,12 +57,13 @@ pub(crate) fn write_record(deal: &[u8], entry: Row, place: u64, out: &mut [u8])
     let position = sizes::segment_position(entry.offset, entry.size) as usize;
     let entry_levels = deal_level - 1;
     let entry_position = (place / 64) as usize;
-    let entry_path_at = 71 + 32 * levels;
     let commitment = entry.commitment;
-    put_node_field(out, 0, 1, commitment);
-    put_number_field(out, 35, 2, entry.offset);
-    put_number_field(out, 46, 3, entry.size);
-    put_number_field(out, 57, 4, place);
-    put_path_field(out, 68, 5, deal, levels, level, position);
-    put_path_field(out, entry_path_at, 6, deal, entry_levels, 1, entry_position);
+    let at = fields::put_node(out, 0, record::row(record::COMMITMENT), commitment);
+    let at = fields::put_number(out, at, record::row(record::OFFSET), entry.offset);
+    let at = fields::put_number(out, at, record::row(record::SIZE), entry.size);
+    let at = fields::put_number(out, at, record::row(record::PLACE), place);
+    let segment_row = record::row(record::SEGMENT_PATH);
+    let at = put_path(out, at, segment_row, deal, levels, level, position);
+    let entry_row = record::row(record::ENTRY_PATH);
+    put_path(out, at, entry_row, deal, entry_levels, 1, entry_position);
 }

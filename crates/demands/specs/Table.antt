@@ -1,5 +1,5 @@
 -- Document 01, "Table to be proved (P1 to P12)", over what the routines answer. The lengths of records are those of
--- `Rattle.build.specs.EncodeLaws.built-length`.
+-- `Rattle.record.specs.AcceptedLength.accepted-length`.
 use mathlib.Core.Path.{_≡_, refl, ap, ap₂, _∙_}
 use mathlib.Core.Bool.{Bool, true, false}
 use Prim.Native.Nat.{ℕ, _^_, _≤_}
@@ -17,7 +17,7 @@ use Rattle.sizes.specs.Sizes.{dealSizeAllowed, segmentSizeAllowed, offsetAllowe
 use Rattle.sizes.specs.Sizes.{entryCount, indexStart, dealLevel, segmentLevel}
 use Rattle.record.specs.Form.{Fields, parsed, parse}
 use Rattle.record.specs.Check.{dealTerms, checkOf}
-use Rattle.build.specs.Encode.{recordLength}
+use Rattle.record.specs.Form.{recordLength}
 use Rattle.demands.specs.TableLaws.{answers-4, answers-5, answers-6, never-4, never-5, never-6}
 
 -- the index numbers as answered

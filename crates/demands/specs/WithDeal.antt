@@ -6,163 +6,143 @@ use native.Mathlib.Omega.{arith}
 use mathlib.Core.List.{List, [], _∷_, _++_}
 use lib.ListN.{length}
 use Rattle.octets.specs.Bytes.{Bytes}
+use Rattle.octets.specs.SpliceLaws.{part-length}
 use Rattle.node.specs.Node.{nodeHash, node-hash-length}
-use Rattle.paths.specs.Strings.{pathStrings}
-use Rattle.paths.specs.Difference.{firstDifference}
-use Rattle.paths.specs.Chain.{sides, Chain}
-use Rattle.paths.specs.DifferenceLaws.{Shows, chain-length, two-chains, two-parts}
-use Rattle.paths.specs.PathLaws.{strings-chain, strings-injective, strings-start}
-use Rattle.sizes.specs.Sizes.{lentSizeAllowed, dealLevel, segmentLevel, segmentPathLevels, entryPathLevels, segmentPosition, entryPosition}
+use Rattle.stray.specs.StrayBits.{noStrayBits}
+use Rattle.merkle.specs.NodeSource.{IsTree}
+use Rattle.merkle.specs.NodeSourceLaws.{run-tree}
+use Rattle.paths.specs.Strings.{stringsFrom}
+use Rattle.paths.specs.Siblings.{nodeFrom}
+use Rattle.paths.specs.SiblingsLaws.{own-strings, own-chain, own-path}
+use Rattle.paths.specs.DealStarts.{segmentStart, entryStart}
+use Rattle.sizes.specs.Sizes.{lentSizeAllowed, dealLevel, segmentLevel}
+use Rattle.sizes.specs.SizesLaws.{lent-size}
 use Rattle.entries.specs.Entry.{offsetIn, sizeIn}
-use Rattle.entries.specs.EntryLaws.{commitment-back, offset-back, size-back}
+use Rattle.index.specs.Slots.{entryAt, kept}
+use Rattle.index.specs.SlotsLaws.{made-kept}
 use Rattle.record.specs.Form.{Fields, parsed, parse, encode}
 use Rattle.record.specs.FormLaws.{Sized, parse-canonical}
 use Rattle.record.specs.Check.{entryFor, checkOf}
 use Rattle.record.specs.CheckLaws.{Accepted, check-means}
-use Rattle.settle.specs.Settle.{entryStrings, segmentStrings, stringsOf, placeIn}
-use Rattle.octets.specs.SpliceLaws.{part-length}
-use Rattle.stray.specs.StrayBits.{noStrayBits}
-use Rattle.merkle.specs.NodeSource.{IsTree}
-use Rattle.merkle.specs.NodeSourceLaws.{run-tree}
-use Rattle.sizes.specs.SizesLaws.{lent-size}
-use Rattle.index.specs.Slots.{entryAt, kept}
-use Rattle.index.specs.SlotsLaws.{made-kept}
 use Rattle.lent.specs.LentDeal.{LentDeal, lentDeal, dealSize}
+use Rattle.lent.specs.LentDealLaws.{none-refusal}
 use Rattle.build.specs.Build.{termsOf, segmentPathOf, entryPathOf, fieldsFor, built, recordAt}
-use Rattle.build.specs.BuildLaws.{Builds, build-means, means-build, InDeal, in-deal, segment-path-length, entry-path-length, segment-path-leads, entry-path-leads, place-node, built-in-deal, built-valid, built-parses}
-use Rattle.settle.specs.Settle.{dealStrings, settleWithDeal}
-use Rattle.settle.specs.DealStringsLaws.{deal-entry-strings, deal-segment-strings}
+use Rattle.build.specs.BuildLaws.{Builds, build-means, means-build, InDeal, in-deal, segment-start, entry-start, place-node}
+use Rattle.build.specs.BuildLaws.{built-in-deal, built-valid, built-parses}
+use Rattle.settle.specs.Settle.{entryStrings, segmentStrings, stringsOf, placeIn}
+use Rattle.settle.specs.Settle.{dealEntryStrings, dealSegmentStrings, dealStrings, settleWithDeal}
+use Rattle.settle.specs.SettleLaws.{named-commitment, named-offset, named-size}
 use Rattle.demands.specs.Settles.{Settles}
-use Rattle.demands.specs.Chains.{settles, entry-chain, segment-chain, halves}
+use Rattle.demands.specs.Chains.{Beside, settles-beside}
 
 -- the record built from an entry that was made from fields has those fields
-module _ (deal : LentDeal) (x : Fields) (h : Sized x) where
-  made-fields : x .segmentPath ≡ segmentPathOf deal (x .offset) (x .size) → x .entryPath ≡ entryPathOf deal (x .place) → fieldsFor deal (entryFor x) (x .place) ≡ x
-  unfolding fieldsFor
-  made-fields s e =
-      let k = commitment-back (x .commitment) (x .offset) (x .size) (h .commitment-32) in
-      let o = offset-back (x .commitment) (x .offset) (x .size) (h .commitment-32) (h .offset-8) in
-      let z = size-back (x .commitment) (x .offset) (x .size) (h .commitment-32) (h .size-8) in
-      let p : segmentPathOf deal (offsetIn (entryFor x)) (sizeIn (entryFor x)) ≡ x .segmentPath = ap₂ (segmentPathOf deal) o z ∙ sym s in
-      λ i. record { commitment = k i; offset = o i; size = z i; place = x .place; segmentPath = p i; entryPath = sym e i }
+made-fields : (deal : LentDeal) (x : Fields) → Sized x → x .segmentPath ≡ segmentPathOf deal (x .offset) (x .size)
+    → x .entryPath ≡ entryPathOf deal (x .place) → fieldsFor deal (entryFor x) (x .place) ≡ x
+unfolding fieldsFor
+made-fields deal x h s e =
+    let k = named-commitment x h in
+    let o = named-offset x h in
+    let z = named-size x h in
+    let p : segmentPathOf deal (offsetIn (entryFor x)) (sizeIn (entryFor x)) ≡ x .segmentPath =
+    ap₂ (segmentPathOf deal) o z ∙ sym s in
+    λ i. record { commitment = k i; offset = o i; size = z i; place = x .place; segmentPath = p i; entryPath = sym e i }
 
-module _ (deal : LentDeal) (t : IsTree (deal .nodes) (deal .bytes) (dealLevel (dealSize deal))) (bd : Bytes (deal .bytes)) (lent : lentSizeAllowed (dealSize deal) ≡ true) (cl : noStrayBits (deal .bytes) ≡ true) where
+module _ (deal : LentDeal) (t : IsTree (deal .nodes) (deal .bytes) (dealLevel (dealSize deal))) (bd : Bytes (deal .bytes))
+    (lent : lentSizeAllowed (dealSize deal) ≡ true) (clean : noStrayBits (deal .bytes) ≡ true) where
   module _ (x : Fields) (h : Sized x) (a : Accepted (termsOf deal) x) where
     w : InDeal (dealSize deal) (x .place) (x .offset) (x .size)
-    w = in-deal (dealSize deal) (x .place) (x .offset) (x .size) lent (a .place-allowed) (a .size-allowed) (a .offset-allowed)
+    w =
+        in-deal (dealSize deal) (x .place) (x .offset) (x .size) lent (a .place-allowed) (a .size-allowed) (a .offset-allowed)
 
-    -- the deal's strings along the two paths of x, as those of its own paths
-    dealEntry : List (List ℕ)
-    dealEntry = pathStrings (entryPathLevels (dealSize deal)) ((deal .nodes) 1 (entryPosition (x .place))) (entryPosition (x .place)) (entryPathOf deal (x .place)) (entryAt (deal .bytes) (x .place) ∷ [])
+    -- the deal's own strings are chains from its commitment
+    beside : Beside (termsOf deal) x (dealEntryStrings deal x) (dealSegmentStrings deal x)
+    beside =
+        let e = entryAt (deal .bytes) (x .place) in
+        record {
+          entry =
+              own-chain (deal .nodes) (deal .bytes) _ t _ (entry-start w) (true ∷ []) (e ∷ [])
+              (part-length (deal .bytes) (x .place) 64 (w .place-is .in-deal), place-node deal t _ _ _ w, tt);
+          segment = λ _. own-chain (deal .nodes) (deal .bytes) _ t _ (segment-start w) [] [] tt;
+        }
 
-    dealSegment : List (List ℕ)
-    dealSegment = pathStrings (segmentPathLevels (dealSize deal) (x .size)) ((deal .nodes) (segmentLevel (x .size)) (segmentPosition (x .offset) (x .size))) (segmentPosition (x .offset) (x .size)) (segmentPathOf deal (x .offset) (x .size)) []
-
-    deal-is : dealEntry ++ dealSegment ≡ dealStrings deal x
-    unfolding dealEntry dealSegment
-    deal-is = ap₂ _++_ (deal-entry-strings deal t x w) (deal-segment-strings deal t x w)
-
-    one-32 : length ((deal .nodes) 1 (entryPosition (x .place))) ≡ 32
-    one-32 = t .sized (entryPathLevels (dealSize deal)) 1 (entryPosition (x .place)) (w .entry-up) (w .place-is .position-in)
-
-    segment-32 : length ((deal .nodes) (segmentLevel (x .size)) (segmentPosition (x .offset) (x .size))) ≡ 32
-    segment-32 = t .sized (segmentPathLevels (dealSize deal) (x .size)) (segmentLevel (x .size)) (segmentPosition (x .offset) (x .size)) (w .segment-up) (w .segment-is .position-in)
-
-    entry-deal : Chain (termsOf deal .commitment) (sides (entryPathLevels (dealSize deal)) (entryPosition (x .place)) (true ∷ [])) dealEntry
-    unfolding dealEntry
-    entry-deal =
-        subst (λ (z : List ℕ). Chain z (sides (entryPathLevels (dealSize deal)) (entryPosition (x .place)) (true ∷ [])) (pathStrings (entryPathLevels (dealSize deal)) ((deal .nodes) 1 (entryPosition (x .place))) (entryPosition (x .place)) (entryPathOf deal (x .place)) (entryAt (deal .bytes) (x .place) ∷ [])))
-        (entry-path-leads deal t (x .place) (x .offset) (x .size) w)
-        (strings-chain (entryPathLevels (dealSize deal)) (entryPosition (x .place)) ((deal .nodes) 1 (entryPosition (x .place))) (entryPathOf deal (x .place)) (true ∷ []) (entryAt (deal .bytes) (x .place) ∷ []) one-32
-        (entry-path-length deal t (x .place) (x .offset) (x .size) w)
-        (part-length (deal .bytes) (x .place) 64 (w .place-is .in-deal), place-node deal t (x .place) (x .offset) (x .size) w, tt))
-
-    segment-deal : Chain (termsOf deal .commitment) (sides (segmentPathLevels (dealSize deal) (x .size)) (segmentPosition (x .offset) (x .size)) []) dealSegment
-    unfolding dealSegment
-    segment-deal =
-        subst (λ (z : List ℕ). Chain z (sides (segmentPathLevels (dealSize deal) (x .size)) (segmentPosition (x .offset) (x .size)) []) (pathStrings (segmentPathLevels (dealSize deal) (x .size)) ((deal .nodes) (segmentLevel (x .size)) (segmentPosition (x .offset) (x .size))) (segmentPosition (x .offset) (x .size)) (segmentPathOf deal (x .offset) (x .size)) []))
-        (segment-path-leads deal t (x .place) (x .offset) (x .size) w)
-        (strings-chain (segmentPathLevels (dealSize deal) (x .size)) (segmentPosition (x .offset) (x .size)) ((deal .nodes) (segmentLevel (x .size)) (segmentPosition (x .offset) (x .size))) (segmentPathOf deal (x .offset) (x .size)) [] [] segment-32
-        (segment-path-length deal t (x .place) (x .offset) (x .size) w) tt)
-
-    one-length : length (entryStrings (dealSize deal) x) ≡ length dealEntry
-    one-length =
-        let b = sides (entryPathLevels (dealSize deal)) (entryPosition (x .place)) (true ∷ []) in
-        chain-length (termsOf deal .commitment) b (entryStrings (dealSize deal) x) (entry-chain (termsOf deal) x (h .commitment-32) a) ∙ sym (chain-length (termsOf deal .commitment) b dealEntry entry-deal)
-
-    found : Shows (stringsOf (dealSize deal) x) (dealEntry ++ dealSegment) (firstDifference (stringsOf (dealSize deal) x) (dealEntry ++ dealSegment))
-    found =
-        two-parts (entryStrings (dealSize deal) x) (segmentStrings (dealSize deal) x) dealEntry dealSegment one-length
-        (two-chains (termsOf deal .commitment) (sides (entryPathLevels (dealSize deal)) (entryPosition (x .place)) (true ∷ [])) (entryStrings (dealSize deal) x) dealEntry (entry-chain (termsOf deal) x (h .commitment-32) a) entry-deal)
-        (λ e. two-chains (termsOf deal .commitment) (sides (segmentPathLevels (dealSize deal) (x .size)) (segmentPosition (x .offset) (x .size)) []) (segmentStrings (dealSize deal) x) dealSegment (segment-chain (termsOf deal) x (h .commitment-32) a) segment-deal)
-
-    -- no difference: building writes x
-    same-entry : entryStrings (dealSize deal) x ≡ dealEntry → (x .entryPath ≡ entryPathOf deal (x .place)) × (entryFor x ≡ entryAt (deal .bytes) (x .place))
-    unfolding entryStrings dealEntry
+    -- no difference: the record has the deal's own paths, its entry, and the commitment of the segment's node
+    same-entry : entryStrings (dealSize deal) x ≡ dealEntryStrings deal x
+        → (x .entryPath ≡ entryPathOf deal (x .place)) × (entryFor x ≡ entryAt (deal .bytes) (x .place))
+    unfolding entryStrings
     same-entry e =
-        let r = strings-injective (entryPathLevels (dealSize deal)) (entryPosition (x .place)) (nodeHash (entryFor x)) ((deal .nodes) 1 (entryPosition (x .place))) (x .entryPath) (entryPathOf deal (x .place)) (entryFor x ∷ []) (entryAt (deal .bytes) (x .place) ∷ [])
-        (node-hash-length (entryFor x)) one-32 (a .entry-path-length) (entry-path-length deal t (x .place) (x .offset) (x .size) w) e in
-        let q : entryFor x ∷ [] ≡ entryAt (deal .bytes) (x .place) ∷ [] = r .1 in
-        (r .0, cc)
+        let f = entryFor x in
+        let g = entryAt (deal .bytes) (x .place) in
+        let r = own-path (deal .nodes) (deal .bytes) _ t _ (entry-start w) (nodeHash f) (x .entryPath) (f ∷ []) (g ∷ [])
+        (node-hash-length f) (a .entry-path-length) e in
+        let q : f ∷ [] ≡ g ∷ [] = r .same-below in
+        (r .same-siblings, cc)
 
-    same-segment : segmentStrings (dealSize deal) x ≡ dealSegment → (x .segmentPath ≡ segmentPathOf deal (x .offset) (x .size)) × (x .commitment ≡ (deal .nodes) (segmentLevel (x .size)) (segmentPosition (x .offset) (x .size)))
-    unfolding segmentStrings dealSegment
+    same-segment : segmentStrings (dealSize deal) x ≡ dealSegmentStrings deal x
+        → (x .segmentPath ≡ segmentPathOf deal (x .offset) (x .size))
+        × (x .commitment ≡ nodeFrom (deal .nodes) (segmentStart (dealSize deal) (x .offset) (x .size)))
+    unfolding segmentStrings
     same-segment e =
-        let n = segmentPathLevels (dealSize deal) (x .size) in
-        let q = segmentPosition (x .offset) (x .size) in
-        let k = (deal .nodes) (segmentLevel (x .size)) (segmentPosition (x .offset) (x .size)) in
-        let s = segmentPathOf deal (x .offset) (x .size) in
-        let l = segment-path-length deal t (x .place) (x .offset) (x .size) w in
-        let b : segmentLevel (x .size) < dealLevel (dealSize deal) = w .size-is .below-deal in (
-          strings-injective n q (x .commitment) k (x .segmentPath) s [] [] (h .commitment-32) segment-32 (a .segment-path-length) l e .0,
-          strings-start n q (x .commitment) k (x .segmentPath) s [] [] (omega arith) (h .commitment-32) segment-32 (a .segment-path-length) l e,
-        )
+        let r = own-path (deal .nodes) (deal .bytes) _ t _ (segment-start w) (x .commitment) (x .segmentPath) [] []
+        (h .commitment-32) (a .segment-path-length) e in
+        let b : segmentLevel (x .size) < dealLevel (dealSize deal) = w .size-is .below-deal in
+        (r .same-siblings, r .same-node (omega arith))
 
-    same-builds : (r : List ℕ) → encode x ≡ r → stringsOf (dealSize deal) x ≡ dealEntry ++ dealSegment → recordAt deal (x .place) ≡ built r
-    same-builds r en e =
-        let f = halves (entryStrings (dealSize deal) x) dealEntry (segmentStrings (dealSize deal) x) dealSegment one-length e in
-        let g = same-entry (f .0) in
-        let k = same-segment (f .1) in
-        means-build deal (x .place) r lent cl (a .place-allowed)
-        (subst (λ (s : List ℕ). kept (deal .nodes) (dealSize deal) s ≡ true) (g .1) (made-kept (dealSize deal) (x .commitment) (x .offset) (x .size) (h .commitment-32) (h .offset-8) (h .size-8) (deal .nodes) (a .size-allowed) (a .offset-allowed) (sym (k .1))))
-        (subst (λ (s : List ℕ). encode (fieldsFor deal s (x .place)) ≡ r) (g .1) (ap encode (made-fields deal x h (k .0) (g .0)) ∙ en))
+    -- so building writes it
+    same-builds : (r : List ℕ) → encode x ≡ r → entryStrings (dealSize deal) x ≡ dealEntryStrings deal x
+        → segmentStrings (dealSize deal) x ≡ dealSegmentStrings deal x → recordAt deal (x .place) ≡ built r
+    same-builds r en e g =
+        let d = dealSize deal in
+        let f = same-entry e in
+        let k = same-segment g in
+        means-build deal (x .place) r lent clean (a .place-allowed)
+        (subst (λ (s : List ℕ). kept (deal .nodes) d s ≡ true) (f .1)
+        (made-kept d (x .commitment) (x .offset) (x .size) (h .commitment-32) (h .offset-8) (h .size-8) (deal .nodes)
+        (a .size-allowed) (a .offset-allowed) (sym (k .1))))
+        (subst (λ (s : List ℕ). encode (fieldsFor deal s (x .place)) ≡ r) (f .1)
+        (ap encode (made-fields deal x h (k .0) (f .0)) ∙ en))
 
   -- the strings of a record that was built are the deal's
   built-strings : (p : ℕ) (r : List ℕ) → Builds deal p r
-      → stringsOf (dealSize deal) (fieldsFor deal (entryAt (deal .bytes) p) p) ≡ dealStrings deal (fieldsFor deal (entryAt (deal .bytes) p) p)
+      → let y = fieldsFor deal (entryAt (deal .bytes) p) p in stringsOf (dealSize deal) y ≡ dealStrings deal y
   unfolding entryStrings segmentStrings fieldsFor
   built-strings p r b =
+      let d = dealSize deal in
       let e = entryAt (deal .bytes) p in
-      let v = built-in-deal deal t bd p r b in
       let o = offsetIn (entryAt (deal .bytes) p) in
       let z = sizeIn (entryAt (deal .bytes) p) in
+      let v = built-in-deal deal t bd p r b in
+      let q = built-valid deal t bd p r b in
+      let n = ap nodeHash q ∙ place-node deal t p o z v in
       ap₂ _++_
-      ((λ i. pathStrings (entryPathLevels (dealSize deal)) ((ap nodeHash (built-valid deal t bd p r b) ∙ place-node deal t p o z v) i) (entryPosition p) (entryPathOf deal p) (built-valid deal t bd p r b i ∷ []))
-      ∙ deal-entry-strings deal t (fieldsFor deal e p) v)
-      (ap (λ (k : List ℕ). pathStrings (segmentPathLevels (dealSize deal) z) k (segmentPosition o z) (segmentPathOf deal o z) []) (sym (b .is-kept .node-is))
-      ∙ deal-segment-strings deal t (fieldsFor deal e p) v)
+      ((λ i. stringsFrom (entryStart d p) (n i) (entryPathOf deal p) (q i ∷ []))
+      ∙ own-strings (deal .nodes) (deal .bytes) _ t _ (entry-start v) (e ∷ []))
+      (ap (λ (k : List ℕ). stringsFrom (segmentStart d o z) k (segmentPathOf deal o z) []) (sym (b .is-kept .node-is))
+      ∙ own-strings (deal .nodes) (deal .bytes) _ t _ (segment-start v) [])
 
   -- for any source that is a tree over the deal
-  pub settles-deal : (r : List ℕ) → Bytes r → checkOf (termsOf deal) r ≡ 0 → Settles (recordAt deal (placeIn (parse r)) ≡ built r) (settleWithDeal deal r)
+  pub settles-deal : (r : List ℕ) → Bytes r → checkOf (termsOf deal) r ≡ 0
+      → Settles (recordAt deal (placeIn (parse r)) ≡ built r) (settleWithDeal deal r)
   unfolding settleWithDeal
   settles-deal r br cr =
       let m = check-means (termsOf deal) r cr in
       let x = m .0 in
       let px : parse r ≡ parsed x = m .1 in
       let k = parse-canonical r x br px in
-      let di : dealEntry x (k .1) (m .2) ++ dealSegment x (k .1) (m .2) ≡ dealStrings deal x = deal-is x (k .1) (m .2) in
-      rw (lent, cl, cr, px)
-      (settles (recordAt deal (x .place) ≡ built r) (stringsOf (dealSize deal) x) (dealStrings deal x)
-      (λ e. same-builds x (k .1) (m .2) r (k .0) (e ∙ sym di))
+      rw (none-refusal (deal .bytes) lent clean, cr, px)
+      (settles-beside (termsOf deal) x (k .1) (m .2) (dealEntryStrings deal x) (dealSegmentStrings deal x) (beside x (k .1) (m .2))
+      (recordAt deal (x .place) ≡ built r)
+      (same-builds x (k .1) (m .2) r (k .0))
       (λ e.
       let b = build-means deal (x .place) r e in
       let y = fieldsFor deal (entryAt (deal .bytes) (x .place)) (x .place) in
       let q : parsed x ≡ parsed y = sym px ∙ built-parses deal t bd (x .place) r b in
       let j : x ≡ y = cc in
-      subst (λ (z : Fields). stringsOf (dealSize deal) z ≡ dealStrings deal z) (sym j) (built-strings (x .place) r b))
-      (subst (λ (ws : List (List ℕ)). Shows (stringsOf (dealSize deal) x) ws (firstDifference (stringsOf (dealSize deal) x) ws)) di (found x (k .1) (m .2))))
+      subst (λ (z : Fields). stringsOf (dealSize deal) z ≡ dealStrings deal z) (sym j) (built-strings (x .place) r b)))
 
 -- for the nodes worked out from the deal's bytes
-pub with-deal : (deal r : List ℕ) → Bytes deal → lentSizeAllowed (length deal) ≡ true → noStrayBits deal ≡ true → Bytes r → checkOf (termsOf (lentDeal deal)) r ≡ 0
+pub with-deal : (deal r : List ℕ) → Bytes deal → lentSizeAllowed (length deal) ≡ true → noStrayBits deal ≡ true → Bytes r
+    → checkOf (termsOf (lentDeal deal)) r ≡ 0
     → Settles (recordAt (lentDeal deal) (placeIn (parse r)) ≡ built r) (settleWithDeal (lentDeal deal) r)
-with-deal deal r bd l c b k = settles-deal (lentDeal deal) (run-tree deal (dealLevel (length deal)) (lent-size (length deal) l .deal .is-power)) bd l c r b k
+with-deal deal r bd l c b k =
+    let tree = run-tree deal (dealLevel (length deal)) (lent-size (length deal) l .deal .is-power) in
+    settles-deal (lentDeal deal) tree bd l c r b k

@@ -98,3 +98,43 @@ pub span-lies : (fs : List FieldRule) (r : List ℕ) (row : FieldRule) (at : ℕ
 unfolding spansFrom
 span-lies [] r row at ss ns e i h = absurd (omega arith)
 span-lies (f ∷ fs) r row at ss ns e i h = lies-from f fs r row (λ next. span-lies fs r row next) at (fieldFor f r at) refl e i h
+
+-- one span for each row
+abbrev Counted : List FieldRule → List ℕ → Type 0
+Counted fs r = (at : ℕ) (ss ns : List ℕ) → spansFrom fs r at ≡ spans ss ns → (length ss ≡ length fs) × (length ns ≡ length fs)
+
+none-counted : (t : Bool) (ss ns : List ℕ) → choose t (spans [] []) misplaced ≡ spans ss ns → (length ss ≡ 0) × (length ns ≡ 0)
+none-counted true ss ns u =
+    let us : [] ≡ ss = cc in
+    let un : [] ≡ ns = cc in
+    (sym (ap length us), sym (ap length un))
+none-counted false ss ns u = never-spans u
+
+module _ (f : FieldRule) (fs : List FieldRule) (r : List ℕ) (later : Counted fs r) {ss ns : List ℕ} where
+  counted-after : (start n next : ℕ) (x : Spans) → spansFrom fs r next ≡ x → before (start ∷ []) (n ∷ []) x ≡ spans ss ns
+      → (length ss ≡ length (f ∷ fs)) × (length ns ≡ length (f ∷ fs))
+  counted-after start n next misplaced q u = never-spans u
+  counted-after start n next (spans ts ms) q u =
+      let us : start ∷ ts ≡ ss = cc in
+      let un : n ∷ ms ≡ ns = cc in
+      let l = later next ts ms q in
+      rw (← us, ← un) (ap suc (l .0), ap suc (l .1))
+
+  counted-from : (x : Field) → onField x (λ start n next. before (start ∷ []) (n ∷ []) (spansFrom fs r next)) ≡ spans ss ns
+      → (length ss ≡ length (f ∷ fs)) × (length ns ≡ length (f ∷ fs))
+  counted-from Refused u = never-spans u
+  counted-from (Content tag start n next) u = counted-after start n next (spansFrom fs r next) refl u
+
+pub spans-counted : (fs : List FieldRule) (r : List ℕ) (at : ℕ) (ss ns : List ℕ) → spansFrom fs r at ≡ spans ss ns → (length ss ≡ length fs) × (length ns ≡ length fs)
+unfolding spansFrom
+spans-counted [] r at ss ns e = none-counted (leb (length r) at) ss ns e
+spans-counted (f ∷ fs) r at ss ns e = counted-from f fs r (λ next. spans-counted fs r next) (fieldFor f r at) e
+
+-- the content of a span
+pub parts-at : (r ss ns : List ℕ) (i : ℕ) → i < length ss → getD (partsOf r ss ns) i [] ≡ part r (getD ss i 0) (getD ns i 0)
+unfolding part
+parts-at r [] ns i h = absurd (omega arith)
+parts-at r (s ∷ ss) [] zero h = refl
+parts-at r (s ∷ ss) [] (suc i) h = refl
+parts-at r (s ∷ ss) (n ∷ ns) zero h = refl
+parts-at r (s ∷ ss) (n ∷ ns) (suc i) h = parts-at r ss ns i (omega arith)

@@ -145,18 +145,29 @@ openLengths [] cs = []
 openLengths (f ∷ fs) [] = []
 openLengths (f ∷ fs) (c ∷ cs) = openWith (f .length) c (openLengths fs cs)
 
-length-by : (rule : LengthRule) (c left : List ℕ) → lengthAllowed rule (length c) ≡ true
+-- the contents whose length a table fixes have it
+abbrev pub FixedBy : LengthRule → ℕ → Type 0
+FixedBy (Exactly n) m = m ≡ n
+FixedBy (MultipleOf n) m = Unit {0}
+
+abbrev pub FixedLengths : List FieldRule → List (List ℕ) → Type 0
+FixedLengths [] [] = Unit {0}
+FixedLengths [] (c ∷ cs) = ⊥
+FixedLengths (f ∷ fs) [] = ⊥
+FixedLengths (f ∷ fs) (c ∷ cs) = FixedBy (f .length) (length c) × FixedLengths fs cs
+
+length-by : (rule : LengthRule) (c left : List ℕ) → FixedBy rule (length c)
     → (lengthBy rule (openWith rule c left) ≡ length c) × (openAfter rule (openWith rule c left) ≡ left)
-length-by (Exactly n) c left h = (sym (eqb-true (length c) n h), refl)
+length-by (Exactly n) c left h = (sym h, refl)
 length-by (MultipleOf n) c left h = (refl, refl)
 
 -- what is written has the length that the table says
-pub written-length : (fs : List FieldRule) (cs : List (List ℕ)) → Fits fs cs → length (writeContents fs cs) ≡ tableLength fs (openLengths fs cs)
+pub written-length : (fs : List FieldRule) (cs : List (List ℕ)) → FixedLengths fs cs → length (writeContents fs cs) ≡ tableLength fs (openLengths fs cs)
 unfolding writeContents putField
 written-length [] [] h = refl
 written-length [] (c ∷ cs) h = absurd h
 written-length (f ∷ fs) [] h = absurd h
 written-length (f ∷ fs) (c ∷ cs) h =
     let b = length-by (f .length) c (openLengths fs cs) (h .0) in
-    let e = written-length fs cs (h .2) in
+    let e = written-length fs cs (h .1) in
     rw (b .1) (omega (arith, length-append c (writeContents fs cs), e, b .0))

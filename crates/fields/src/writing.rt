@@ -1,4 +1,5 @@
 // Writing a field: its head, and behind it its content. Each answers the place after what it wrote.
+use crate::FieldRule;
 ghost use mathlib.Core.Path.{_≡_};
 ghost use Prim.Native.Nat.{_+_, _≤_, _<_};
 ghost use mathlib.Core.List.{[]};
@@ -17,22 +18,22 @@ pub fn put_head(out: &mut [u8], at: usize, tag: u8, size: usize) -> usize
     at + 3
 }
 
-// Writes a field that holds a node.
-pub fn put_node(out: &mut [u8], at: usize, tag: u8, node: [u8; 32]) -> usize
+// Writes the field of a row of a table, which holds a node.
+pub fn put_node(out: &mut [u8], at: usize, row: FieldRule, node: [u8; 32]) -> usize
     requires { ⌜ at + 35 ≤ length (now out) ⌝ }
-    ensures { λ r. ⌜ (now (out .exit) ≡ splice (now (out .entry)) at (putField tag node [])) × (r ≡ at + 35) × (length node ≡ 32) ⌝ }
+    ensures { λ r. ⌜ (now (out .exit) ≡ splice (now (out .entry)) at (putField (row .tag) node [])) × (r ≡ at + 35) × (length node ≡ 32) ⌝ }
 {
-    let content = put_head(out, at, tag, 32);
+    let content = put_head(out, at, row.tag, 32);
     octets::put_node(out, content, node);
     content + 32
 }
 
-// Writes a field that holds a number.
-pub fn put_number(out: &mut [u8], at: usize, tag: u8, number: u64) -> usize
+// Writes the field of a row of a table, which holds a number.
+pub fn put_number(out: &mut [u8], at: usize, row: FieldRule, number: u64) -> usize
     requires { ⌜ at + 11 ≤ length (now out) ⌝ }
-    ensures { λ r. ⌜ (now (out .exit) ≡ splice (now (out .entry)) at (putField tag (bytesOf 8 number) [])) × (r ≡ at + 11) ⌝ }
+    ensures { λ r. ⌜ (now (out .exit) ≡ splice (now (out .entry)) at (putField (row .tag) (bytesOf 8 number) [])) × (r ≡ at + 11) ⌝ }
 {
-    let content = put_head(out, at, tag, 8);
+    let content = put_head(out, at, row.tag, 8);
     octets::put_u64(out, content, number);
     content + 8
 }

@@ -18,12 +18,16 @@ pub none-left : (n i : ℕ) → n ≤ i → n - i ≡ 0
 none-left n i h = omega arith
 
 drop-sibling : (i : ℕ) (path : List ℕ) → drop 32 (drop (i * 32) path) ≡ drop ((i + 1) * 32) path
-drop-sibling i path = let e : i * 32 + 32 ≡ (i + 1) * 32 = omega arith in drop-drop 32 (i * 32) path ∙ ap (λ (k : ℕ). drop k path) e
+drop-sibling i path =
+    let e : i * 32 + 32 ≡ (i + 1) * 32 = omega arith in
+    drop-drop 32 (i * 32) path ∙ ap (λ (k : ℕ). drop k path) e
 
 -- one path
 module _ (n i p : ℕ) (x path : List ℕ) where
   pub root-next : i < n
-      → pathRoot (n - i) x p (drop (i * 32) path) ≡ pathRoot (n - (i + 1)) (nodeHash (pairOf p x (part path (i * 32) 32))) (p / 2) (drop ((i + 1) * 32) path)
+      → let v = pairOf p x (part path (i * 32) 32) in
+      pathRoot (n - i) x p (drop (i * 32) path)
+      ≡ pathRoot (n - (i + 1)) (nodeHash v) (p / 2) (drop ((i + 1) * 32) path)
   unfolding pathRoot part
   root-next h =
       ap (λ (k : ℕ). pathRoot k x p (drop (i * 32) path)) (one-left n i h)
@@ -36,15 +40,18 @@ module _ (n i p : ℕ) (x path : List ℕ) where
 -- two paths compared
 module _ (n i p : ℕ) (x s y t : List ℕ) (seen : Compared) where
   pub compare-next : i < n
-      → comparedUp (n - i) p x (drop (i * 32) s) y (drop (i * 32) t) seen
-      ≡ comparedUp (n - (i + 1)) (p / 2) (nodeHash (pairOf p x (part s (i * 32) 32))) (drop ((i + 1) * 32) s) (nodeHash (pairOf p y (part t (i * 32) 32))) (drop ((i + 1) * 32) t)
-      (comparedAbove seen (pairOf p x (part s (i * 32) 32)) (pairOf p y (part t (i * 32) 32)))
+      → let v = pairOf p x (part s (i * 32) 32) in
+      let w = pairOf p y (part t (i * 32) 32) in
+      comparedUp (n - i) p x (drop (i * 32) s) y (drop (i * 32) t) seen
+      ≡ comparedUp (n - (i + 1)) (p / 2) (nodeHash v) (drop ((i + 1) * 32) s) (nodeHash w) (drop ((i + 1) * 32) t)
+      (comparedAbove seen v w)
   unfolding comparedUp part
   compare-next h =
       let v = pairOf p x (part s (i * 32) 32) in
       let w = pairOf p y (part t (i * 32) 32) in
       ap (λ (k : ℕ). comparedUp k p x (drop (i * 32) s) y (drop (i * 32) t) seen) (one-left n i h)
-      ∙ (λ j. comparedUp (n - (i + 1)) (p / 2) (nodeHash v) (drop-sibling i s j) (nodeHash w) (drop-sibling i t j) (comparedAbove seen v w))
+      ∙ (λ j. comparedUp (n - (i + 1)) (p / 2) (nodeHash v) (drop-sibling i s j) (nodeHash w) (drop-sibling i t j)
+      (comparedAbove seen v w))
 
   pub compare-over : n ≤ i → comparedUp (n - i) p x s y t seen ≡ seen
   unfolding comparedUp

@@ -25,27 +25,33 @@ pub sibling-within : (run : List ℕ) (n i level p : ℕ) → i < n → p < 2 ^ 
 sibling-within run n i level p h k e =
     let w = half-pow n i h in
     let top : level + i + (n - i) ≡ level + n = omega arith in
-    le-trans (within (n - i) (level + i) (siblingOf p) (omega arith)) (le-of-eq (ap (λ (m : ℕ). 32 * 2 ^ m) top ∙ sym e))
+    le-trans (within (n - i) (level + i) (siblingOf p) (omega arith))
+    (le-of-eq (ap (λ (m : ℕ). 32 * 2 ^ m) top ∙ sym e))
 
 module _ (nodes : NodeSource) (out : List ℕ) (at n : ℕ) where
-  pub write-start : (level p : ℕ) → splice out at (siblings nodes n level p) ≡ splice out (at + 32 * 0) (siblings nodes (n - 0) (level + 0) p)
+  pub write-start : (level p : ℕ)
+      → splice out at (siblings nodes n level p) ≡ splice out (at + 32 * 0) (siblings nodes (n - 0) (level + 0) p)
   write-start level p =
       let a : at ≡ at + 32 * 0 = omega arith in
       let m : n ≡ n - 0 = omega arith in
       let l : level ≡ level + 0 = omega arith in
       (λ j. splice out (a j) (siblings nodes (m j) (l j) p))
 
-  pub write-next : (i level p : ℕ) → i < n → length (nodes (level + i) (siblingOf p)) ≡ 32 → at + 32 * i + 32 ≤ length out
-      → splice out (at + 32 * i) (siblings nodes (n - i) (level + i) p)
-      ≡ splice (splice out (at + 32 * i) (nodes (level + i) (siblingOf p))) (at + 32 * (i + 1)) (siblings nodes (n - (i + 1)) (level + (i + 1)) (p / 2))
+  pub write-next : (i level p : ℕ) → i < n → length (nodes (level + i) (siblingOf p)) ≡ 32
+      → at + 32 * i + 32 ≤ length out
+      → let written = splice out (at + 32 * i) (nodes (level + i) (siblingOf p)) in
+      splice out (at + 32 * i) (siblings nodes (n - i) (level + i) p)
+      ≡ splice written (at + 32 * (i + 1)) (siblings nodes (n - (i + 1)) (level + (i + 1)) (p / 2))
   unfolding siblings
   write-next i level p h sized room =
       let node = nodes (level + i) (siblingOf p) in
+      let rest = siblings nodes (n - (i + 1)) (level + (i + 1)) (p / 2) in
       let above : suc (level + i) ≡ level + (i + 1) = omega arith in
       ap (λ (k : ℕ). splice out (at + 32 * i) (siblings nodes k (level + i) p)) (one-left n i h)
       ∙ ap (λ (l : ℕ). splice out (at + 32 * i) (node ++ siblings nodes (n - (i + 1)) l (p / 2))) above
-      ∙ sym (splice-append out (at + 32 * i) (at + 32 * (i + 1)) node (siblings nodes (n - (i + 1)) (level + (i + 1)) (p / 2)) (omega arith) (omega arith))
+      ∙ sym (splice-append out (at + 32 * i) (at + 32 * (i + 1)) node rest (omega arith) (omega arith))
 
   pub write-over : (i level p : ℕ) → n ≤ i → splice out at (siblings nodes (n - i) level p) ≡ out
   unfolding siblings
-  write-over i level p h = ap (λ (k : ℕ). splice out at (siblings nodes k level p)) (none-left n i h) ∙ splice-nothing out at
+  write-over i level p h =
+      ap (λ (k : ℕ). splice out at (siblings nodes k level p)) (none-left n i h) ∙ splice-nothing out at

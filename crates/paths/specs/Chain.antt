@@ -7,11 +7,16 @@ use lib.Dec.{eqb}
 use lib.ListN.{length, take, drop}
 use Rattle.rules.specs.Choice.{choose}
 use Rattle.node.specs.Node.{nodeHash}
+use Rattle.paths.specs.Start.{PathStart}
 
--- which half of each string, from the top, is the next node
+-- which half of each string, from the top, is the next node, along n levels from position p, and then below
 unfoldable pub sides : ℕ → ℕ → List Bool → List Bool
-sides zero p bs = bs
-sides (suc n) p bs = sides n (p / 2) (eqb (p % 2) 0 ∷ bs)
+sides zero p below = below
+sides (suc n) p below = sides n (p / 2) (eqb (p % 2) 0 ∷ below)
+
+-- the same, from a start
+abbrev pub sidesFrom : PathStart → List Bool → List Bool
+sidesFrom start below = sides (start .levels) (start .position) below
 
 abbrev pub half : Bool → List ℕ → List ℕ
 half b w = choose b (take 32 w) (drop 32 w)

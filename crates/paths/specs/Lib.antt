@@ -1,11 +1,14 @@
+pub mod Start
 pub mod Path
 pub mod Strings
 pub mod Difference
 pub mod Collision
 pub mod Siblings
+pub mod DealStarts
 pub mod Compare
 pub mod Chain
 pub mod DifferenceLaws
 pub mod PathLaws
 pub mod SiblingsLaws
+pub mod DealStartsLaws
 pub mod CompareLaws

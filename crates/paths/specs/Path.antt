@@ -5,8 +5,10 @@ use lib.ListN.{take, drop}
 use lib.Dec.{eqb}
 use Rattle.rules.specs.Choice.{choose}
 use Rattle.node.specs.Node.{nodeHash}
+use Rattle.paths.specs.Start.{PathStart}
 
--- the 64 bytes that are hashed for the running node at position p and its sibling: an even p puts the running node on the left
+-- the 64 bytes that are hashed for the running node at position p and its sibling: an even p puts the running node on the
+-- left
 unfoldable pub pairOf : ℕ → List ℕ → List ℕ → List ℕ
 pairOf p node sibling = choose (eqb (p % 2) 0) (node ++ sibling) (sibling ++ node)
 
@@ -14,3 +16,7 @@ pairOf p node sibling = choose (eqb (p % 2) 0) (node ++ sibling) (sibling ++ nod
 unfoldable pub pathRoot : ℕ → List ℕ → ℕ → List ℕ → List ℕ
 pathRoot zero node p path = node
 pathRoot (suc n) node p path = pathRoot n (nodeHash (pairOf p node (take 32 path))) (p / 2) (drop 32 path)
+
+-- the same, from a node at a start
+abbrev pub rootFrom : PathStart → List ℕ → List ℕ → List ℕ
+rootFrom start node path = pathRoot (start .levels) node (start .position) path

@@ -2,6 +2,7 @@
 use Prim.Native.Nat.{ℕ, zero, suc, _+_, _-_, _*_, _/_, _%_}
 use mathlib.Core.List.{List, [], _∷_, _++_}
 use Rattle.merkle.specs.NodeSource.{NodeSource}
+use Rattle.paths.specs.Start.{PathStart}
 
 -- the sibling's position: q + 1 at an even q, and q - 1 at an odd one
 abbrev pub siblingOf : ℕ → ℕ
@@ -17,3 +18,13 @@ unfoldable pub nodePairs : NodeSource → ℕ → ℕ → ℕ → List (List ℕ
 nodePairs nodes zero level q below = below
 nodePairs nodes (suc n) level q below =
     nodePairs nodes n (suc level) (q / 2) ((nodes level (q / 2 * 2) ++ nodes level (q / 2 * 2 + 1)) ∷ below)
+
+-- the node at a start, its Merkle path, and the pairs along it
+abbrev pub nodeFrom : NodeSource → PathStart → List ℕ
+nodeFrom nodes start = nodes (start .level) (start .position)
+
+abbrev pub siblingsFrom : NodeSource → PathStart → List ℕ
+siblingsFrom nodes start = siblings nodes (start .levels) (start .level) (start .position)
+
+abbrev pub pairsFrom : NodeSource → PathStart → List (List ℕ) → List (List ℕ)
+pairsFrom nodes start below = nodePairs nodes (start .levels) (start .level) (start .position) below

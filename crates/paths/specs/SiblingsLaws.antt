@@ -1,7 +1,7 @@
--- A source that is a tree: its own paths lead to its top node, their strings are its pairs, and no sibling above the lowest level has
--- stray bits. Once over the height.
+-- A source that is a tree: its own paths lead to its top node, their strings are its pairs, and no sibling above the lowest
+-- level has stray bits. Once over the height.
 use mathlib.Core.Path.{_≡_, refl, sym, ap, ap₂, subst, _∙_}
-use mathlib.Core.Bool.{true}
+use mathlib.Core.Bool.{Bool, true}
 use Prim.Native.Nat.{ℕ, zero, suc, _+_, _-_, _*_, _/_, _%_, _^_, _<_}
 use native.Mathlib.Nat.{pow-suc}
 use native.Mathlib.Omega.{arith}
@@ -14,20 +14,26 @@ use Rattle.rules.specs.Choice.{choose}
 use Rattle.rules.specs.RefusalLaws.{and-both}
 use Rattle.node.specs.Node.{nodeHash, node-hash-clear}
 use Rattle.merkle.specs.Tree.{nodeAt}
+use Rattle.merkle.specs.NodeSource.{NodeSource, IsTree}
 use Rattle.merkle.specs.NodeSourceLaws.{run-tree}
 use Rattle.stray.specs.StrayBits.{clearNode, clearNodes, noStrayBits}
 use Rattle.stray.specs.StrayBitsLaws.{clear-node}
-use Rattle.paths.specs.Path.{pairOf, pathRoot}
-use Rattle.paths.specs.Strings.{pathStrings}
-use Rattle.merkle.specs.NodeSource.{NodeSource, IsTree}
-use Rattle.paths.specs.Siblings.{siblingOf, siblings, nodePairs}
+use Rattle.paths.specs.Start.{PathStart, pathStart, InTree}
+use Rattle.paths.specs.Path.{pairOf, pathRoot, rootFrom}
+use Rattle.paths.specs.Strings.{pathStrings, stringsFrom}
+use Rattle.paths.specs.Chain.{sidesFrom, Chain}
+use Rattle.paths.specs.PathLaws.{path-chain, SamePath, same-strings}
+use Rattle.paths.specs.Siblings.{siblingOf, siblings, nodePairs, nodeFrom, siblingsFrom, pairsFrom}
 
 -- a node and its sibling, in order
-pair-here : (nodes : NodeSource) (i q : ℕ) → pairOf q (nodes i q) (nodes i (siblingOf q)) ≡ nodes i (q / 2 * 2) ++ nodes i (q / 2 * 2 + 1)
+pair-here : (nodes : NodeSource) (i q : ℕ)
+    → pairOf q (nodes i q) (nodes i (siblingOf q)) ≡ nodes i (q / 2 * 2) ++ nodes i (q / 2 * 2 + 1)
 unfolding pairOf
 pair-here nodes i q = go (q % 2) refl
   where
-    go : (b : ℕ) → q % 2 ≡ b → choose (eqb (q % 2) 0) (nodes i q ++ nodes i (siblingOf q)) (nodes i (siblingOf q) ++ nodes i q) ≡ nodes i (q / 2 * 2) ++ nodes i (q / 2 * 2 + 1)
+    go : (b : ℕ) → q % 2 ≡ b
+        → choose (eqb (q % 2) 0) (nodes i q ++ nodes i (siblingOf q)) (nodes i (siblingOf q) ++ nodes i q)
+        ≡ nodes i (q / 2 * 2) ++ nodes i (q / 2 * 2 + 1)
     go zero z =
         let a : q ≡ q / 2 * 2 = omega arith in
         let b : siblingOf q ≡ q / 2 * 2 + 1 = omega arith in
@@ -38,74 +44,135 @@ pair-here nodes i q = go (q % 2) refl
         simp (ne-eqb (q % 2) 0 (λ e. omega arith)) (ap₂ (λ (m n : ℕ). nodes i m ++ nodes i n) b a)
 
 module _ (nodes : NodeSource) (run : List ℕ) (top : ℕ) (t : IsTree nodes run top) where
-  sibling-length : (n i q : ℕ) → i + suc n ≡ top → q < 2 ^ suc n → length (nodes i (siblingOf q)) ≡ 32
-  sibling-length n i q e h = let w = pow-suc 2 n in t .sized (suc n) i (siblingOf q) e (omega arith)
+  -- one level up along a path
+  above : {n i q : ℕ} → InTree top (pathStart (suc n) i q) → InTree top (pathStart n (suc i) (q / 2))
+  above {n} {i} {q} w =
+      let e : i + suc n ≡ top = w .up in
+      let h : q < 2 ^ suc n = w .among in
+      let p = pow-suc 2 n in
+      record { up = omega arith; among = omega arith }
 
-  half-in : (n q : ℕ) → q < 2 ^ suc n → q / 2 < 2 ^ n
-  half-in n q h = let w = pow-suc 2 n in omega arith
+  -- the sibling is a node of the tree
+  beside : {n i q : ℕ} → InTree top (pathStart (suc n) i q) → siblingOf q < 2 ^ suc n
+  beside {n} {i} {q} w =
+      let h : q < 2 ^ suc n = w .among in
+      let p = pow-suc 2 n in
+      omega arith
 
-  -- a path of n siblings has 32 * n bytes
-  pub path-length : (n i q : ℕ) → i + n ≡ top → q < 2 ^ n → length (siblings nodes n i q) ≡ 32 * n
+  sibling-length : (n i q : ℕ) → InTree top (pathStart (suc n) i q) → length (nodes i (siblingOf q)) ≡ 32
+  sibling-length n i q w = t .sized (suc n) i (siblingOf q) (w .up) (beside w)
+
+  -- a path has 32 bytes for each level
+  length-up : (n i q : ℕ) → InTree top (pathStart n i q) → length (siblings nodes n i q) ≡ 32 * n
   unfolding siblings
-  path-length zero i q e h = refl
-  path-length (suc n) i q e h =
-      let a = sibling-length n i q e h in
-      let r = path-length n (suc i) (q / 2) (omega arith) (half-in n q h) in
+  length-up zero i q w = refl
+  length-up (suc n) i q w =
+      let a = sibling-length n i q w in
+      let r = length-up n (suc i) (q / 2) (above w) in
       length-append (nodes i (siblingOf q)) (siblings nodes n (suc i) (q / 2)) ∙ omega arith
 
+  pub path-length : (start : PathStart) → InTree top start → length (siblingsFrom nodes start) ≡ 32 * start .levels
+  path-length start = length-up (start .levels) (start .level) (start .position)
+
   -- above the lowest level a sibling is a node hash, so that it has no stray bits
-  sibling-clear : (n i q : ℕ) → suc i + suc n ≡ top → q < 2 ^ suc n → clearNode (nodes (suc i) (siblingOf q)) ≡ true
-  sibling-clear n i q e h =
-      let w = pow-suc 2 n in
+  sibling-clear : (n i q : ℕ) → InTree top (pathStart (suc n) (suc i) q)
+      → clearNode (nodes (suc i) (siblingOf q)) ≡ true
+  sibling-clear n i q w =
       let s = siblingOf q in
       clear-node (nodes (suc i) s)
-      (subst (λ (x : List ℕ). getD x 31 0 < 64) (sym (t .split (suc n) i s e (omega arith))) (node-hash-clear (nodes i (s * 2) ++ nodes i (s * 2 + 1))))
+      (subst (λ (x : List ℕ). getD x 31 0 < 64) (sym (t .split (suc n) i s (w .up) (beside w)))
+      (node-hash-clear (nodes i (s * 2) ++ nodes i (s * 2 + 1))))
 
-  siblings-clear : (n i q : ℕ) → suc i + n ≡ top → q < 2 ^ n → clearNodes n (siblings nodes n (suc i) q) ≡ true
+  clear-up : (n i q : ℕ) → InTree top (pathStart n (suc i) q) → clearNodes n (siblings nodes n (suc i) q) ≡ true
   unfolding siblings clearNodes
-  siblings-clear zero i q e h = refl
-  siblings-clear (suc n) i q e h =
+  clear-up zero i q w = refl
+  clear-up (suc n) i q w =
       let a = nodes (suc i) (siblingOf q) in
       let r = siblings nodes n (suc (suc i)) (q / 2) in
-      let l = sibling-length n (suc i) q e h in
+      let l = sibling-length n (suc i) q w in
       and-both (clearNode (take 32 (a ++ r))) (clearNodes n (drop 32 (a ++ r)))
-      (ap clearNode (take-at a r 32 l) ∙ sibling-clear n i q e h)
-      (ap (clearNodes n) (drop-at a r 32 l) ∙ siblings-clear n (suc i) (q / 2) (omega arith) (half-in n q h))
+      (ap clearNode (take-at a r 32 l) ∙ sibling-clear n i q w)
+      (ap (clearNodes n) (drop-at a r 32 l) ∙ clear-up n (suc i) (q / 2) (above w))
 
-  pub path-clear : (n i q : ℕ) → suc i + n ≡ top → q < 2 ^ n → noStrayBits (siblings nodes n (suc i) q) ≡ true
-  path-clear n i q e h =
-      let l = path-length n (suc i) q e h in
+  path-clear-at : (n i q : ℕ) → 0 < i → InTree top (pathStart n i q) → noStrayBits (siblings nodes n i q) ≡ true
+  path-clear-at n zero q h w = absurd (omega arith)
+  path-clear-at n (suc i) q h w =
+      let l = length-up n (suc i) q w in
       let k : length (siblings nodes n (suc i) q) / 32 ≡ n = omega arith in
-      ap (λ (m : ℕ). clearNodes m (siblings nodes n (suc i) q)) k ∙ siblings-clear n i q e h
+      ap (λ (m : ℕ). clearNodes m (siblings nodes n (suc i) q)) k ∙ clear-up n i q w
+
+  pub path-clear : (start : PathStart) → 0 < start .level → InTree top start
+      → noStrayBits (siblingsFrom nodes start) ≡ true
+  path-clear start = path-clear-at (start .levels) (start .level) (start .position)
 
   -- one step along the source's own path
-  step : (n i q : ℕ) → i + suc n ≡ top → q < 2 ^ suc n → pairOf q (nodes i q) (take 32 (siblings nodes (suc n) i q)) ≡ nodes i (q / 2 * 2) ++ nodes i (q / 2 * 2 + 1)
+  step : (n i q : ℕ) → InTree top (pathStart (suc n) i q)
+      → pairOf q (nodes i q) (take 32 (siblings nodes (suc n) i q)) ≡ nodes i (q / 2 * 2) ++ nodes i (q / 2 * 2 + 1)
   unfolding siblings
-  step n i q e h = ap (pairOf q (nodes i q)) (take-at (nodes i (siblingOf q)) (siblings nodes n (suc i) (q / 2)) 32 (sibling-length n i q e h)) ∙ pair-here nodes i q
+  step n i q w =
+      let a = nodes i (siblingOf q) in
+      ap (pairOf q (nodes i q)) (take-at a (siblings nodes n (suc i) (q / 2)) 32 (sibling-length n i q w))
+      ∙ pair-here nodes i q
 
-  up : (n i q : ℕ) → i + suc n ≡ top → q < 2 ^ suc n → nodeHash (pairOf q (nodes i q) (take 32 (siblings nodes (suc n) i q))) ≡ nodes (suc i) (q / 2)
-  up n i q e h = ap nodeHash (step n i q e h) ∙ sym (t .split n i (q / 2) (omega arith) (half-in n q h))
+  up-one : (n i q : ℕ) → InTree top (pathStart (suc n) i q)
+      → nodeHash (pairOf q (nodes i q) (take 32 (siblings nodes (suc n) i q))) ≡ nodes (suc i) (q / 2)
+  up-one n i q w = ap nodeHash (step n i q w) ∙ sym (t .split n i (q / 2) (above w .up) (above w .among))
 
-  rest : (n i q : ℕ) → i + suc n ≡ top → q < 2 ^ suc n → drop 32 (siblings nodes (suc n) i q) ≡ siblings nodes n (suc i) (q / 2)
+  rest : (n i q : ℕ) → InTree top (pathStart (suc n) i q)
+      → drop 32 (siblings nodes (suc n) i q) ≡ siblings nodes n (suc i) (q / 2)
   unfolding siblings
-  rest n i q e h = drop-at (nodes i (siblingOf q)) (siblings nodes n (suc i) (q / 2)) 32 (sibling-length n i q e h)
+  rest n i q w = drop-at (nodes i (siblingOf q)) (siblings nodes n (suc i) (q / 2)) 32 (sibling-length n i q w)
 
-  -- the source's own path leads to its top node
-  pub own-leads : (n i q : ℕ) → i + n ≡ top → q < 2 ^ n → pathRoot n (nodes i q) q (siblings nodes n i q) ≡ nodes top 0
+  leads-up : (n i q : ℕ) → InTree top (pathStart n i q) → pathRoot n (nodes i q) q (siblings nodes n i q) ≡ nodes top 0
   unfolding pathRoot
-  own-leads zero i q e h = ap₂ nodes (omega arith) (omega arith)
-  own-leads (suc n) i q e h =
-      ap₂ (λ (x p : List ℕ). pathRoot n x (q / 2) p) (up n i q e h) (rest n i q e h)
-      ∙ own-leads n (suc i) (q / 2) (omega arith) (half-in n q h)
+  leads-up zero i q w =
+      let e : i + 0 ≡ top = w .up in
+      let h : q < 1 = w .among in
+      ap₂ nodes (omega arith) (omega arith)
+  leads-up (suc n) i q w =
+      ap₂ (λ (x p : List ℕ). pathRoot n x (q / 2) p) (up-one n i q w) (rest n i q w)
+      ∙ leads-up n (suc i) (q / 2) (above w)
 
-  -- and its strings are the source's own pairs
-  pub own-strings : (n i q : ℕ) (ws : List (List ℕ)) → i + n ≡ top → q < 2 ^ n → pathStrings n (nodes i q) q (siblings nodes n i q) ws ≡ nodePairs nodes n i q ws
+  strings-up : (n i q : ℕ) (ws : List (List ℕ)) → InTree top (pathStart n i q)
+      → pathStrings n (nodes i q) q (siblings nodes n i q) ws ≡ nodePairs nodes n i q ws
   unfolding pathStrings nodePairs
-  own-strings zero i q ws e h = refl
-  own-strings (suc n) i q ws e h =
-      (λ j. pathStrings n (up n i q e h j) (q / 2) (rest n i q e h j) (step n i q e h j ∷ ws))
-      ∙ own-strings n (suc i) (q / 2) ((nodes i (q / 2 * 2) ++ nodes i (q / 2 * 2 + 1)) ∷ ws) (omega arith) (half-in n q h)
+  strings-up zero i q ws w = refl
+  strings-up (suc n) i q ws w =
+      (λ j. pathStrings n (up-one n i q w j) (q / 2) (rest n i q w j) (step n i q w j ∷ ws))
+      ∙ strings-up n (suc i) (q / 2) ((nodes i (q / 2 * 2) ++ nodes i (q / 2 * 2 + 1)) ∷ ws) (above w)
+
+  module _ (start : PathStart) (w : InTree top start) where
+    pub node-length : length (nodeFrom nodes start) ≡ 32
+    node-length = t .sized (start .levels) (start .level) (start .position) (w .up) (w .among)
+
+    -- the source's own path leads to its top node
+    pub own-leads : rootFrom start (nodeFrom nodes start) (siblingsFrom nodes start) ≡ nodes top 0
+    own-leads = leads-up (start .levels) (start .level) (start .position) w
+
+    -- its strings are the source's own pairs
+    pub own-strings : (ws : List (List ℕ))
+        → stringsFrom start (nodeFrom nodes start) (siblingsFrom nodes start) ws ≡ pairsFrom nodes start ws
+    own-strings ws = strings-up (start .levels) (start .level) (start .position) ws w
+
+    -- the pairs are a chain from the top node
+    pub own-chain : (bs : List Bool) (ws : List (List ℕ)) → Chain (nodeFrom nodes start) bs ws
+        → Chain (nodes top 0) (sidesFrom start bs) (pairsFrom nodes start ws)
+    own-chain bs ws h =
+        subst (Chain (nodes top 0) (sidesFrom start bs)) (own-strings ws)
+        (path-chain start (nodeFrom nodes start) (siblingsFrom nodes start) bs ws node-length (path-length start w)
+        own-leads h)
+
+    -- a path whose strings are the pairs is the source's own
+    pub own-path : (x s : List ℕ) (vs ws : List (List ℕ)) → length x ≡ 32 → length s ≡ 32 * start .levels
+        → stringsFrom start x s vs ≡ pairsFrom nodes start ws
+        → SamePath (start .levels) x (nodeFrom nodes start) s (siblingsFrom nodes start) vs ws
+    own-path x s vs ws hx hs e =
+        same-strings start x (nodeFrom nodes start) s (siblingsFrom nodes start) vs ws hx node-length hs
+        (path-length start w) (e ∙ sym (own-strings ws))
 
 -- a Merkle path of a run has 32 bytes for each of its levels
-pub run-path-length : (run : List ℕ) (n level q : ℕ) → length run ≡ 32 * 2 ^ (level + n) → q < 2 ^ n → length (siblings (nodeAt run) n level q) ≡ 32 * n
-run-path-length run n level q e h = path-length (nodeAt run) run (level + n) (run-tree run (level + n) e) n level q refl h
+pub run-path-length : (run : List ℕ) (n level q : ℕ) → length run ≡ 32 * 2 ^ (level + n) → q < 2 ^ n
+    → length (siblings (nodeAt run) n level q) ≡ 32 * n
+run-path-length run n level q e h =
+    path-length (nodeAt run) run (level + n) (run-tree run (level + n) e) (pathStart n level q)
+    (record { up = refl; among = h })

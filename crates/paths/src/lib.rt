@@ -59,8 +59,8 @@ pub fn compare_above(seen: Compared, left: [u8; 64], right: [u8; 64]) -> Compare
     }
 }
 
-// Compares the strings of two paths, from nodes x and y at one position. They are met from the bottom up, so the last difference is the
-// first from the top. `seen` is the difference of what stands below.
+// Compares the strings of two paths, from nodes x and y at one position. They are met from the bottom up, so the last
+// difference is the first from the top. `seen` is the difference of what stands below.
 pub fn compare_paths(
     position: u64,
     x: [u8; 32],
@@ -70,7 +70,8 @@ pub fn compare_paths(
     seen: Compared,
 ) -> Compared
     requires { ⌜ length (now left) ≡ length (now right) ⌝ }
-    ensures { λ r. ⌜ r ≡ comparedUp (length (now (left .entry)) / 32) position x (now (left .entry)) y (now (right .entry)) seen ⌝ }
+    ensures { λ r. ⌜ r
+        ≡ comparedUp (length (now (left .entry)) / 32) position x (now (left .entry)) y (now (right .entry)) seen ⌝ }
 {
     let levels = left.len() / 32;
     let mut p = position;
@@ -109,8 +110,12 @@ pub fn write_path(
     out: &mut [u8],
     at: usize,
 )
-    requires { ⌜ (level + levels < 32) × (length (now run) ≡ 32 * 2 ^ (level + levels)) × (position < 2 ^ levels) × (at + 32 * levels ≤ length (now out)) ⌝ }
-    ensures { λ _. ⌜ now (out .exit) ≡ splice (now (out .entry)) at (siblings (nodeAt (now (run .entry))) levels level position) ⌝ }
+    requires { ⌜ (level + levels < 32)
+        × (length (now run) ≡ 32 * 2 ^ (level + levels))
+        × (position < 2 ^ levels)
+        × (at + 32 * levels ≤ length (now out)) ⌝ }
+    ensures { λ _. ⌜ now (out .exit)
+        ≡ splice (now (out .entry)) at (siblings (nodeAt (now (run .entry))) levels level position) ⌝ }
 {
     let mut p = position;
     let mut i: usize = 0;

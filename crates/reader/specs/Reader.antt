@@ -1,16 +1,18 @@
 -- The fields that the reader hands out (document 01, "The record": "Fields are read in turn, each answer being the field with the next place, or else
 -- the refusal", and "a reader that holds the lent record hands out the same fields").
-use Prim.Native.Nat.{ℕ, zero, suc}
+use Prim.Native.Nat.{ℕ, zero, suc, _-_}
 use mathlib.Core.List.{List, [], _∷_}
 use denote.Ref.{RefT, now}
 use lib.Dec.{eqb}
 use lib.ListN.{length, drop}
 use Rattle.rules.specs.Choice.{choose}
 use Rattle.octets.specs.Splice.{part}
-use Rattle.record.specs.Form.{FieldRule, layout, Contents, contents, malformed, addContent, Parsed, fieldsIn}
-use Rattle.record.specs.FieldAt.{fieldAt, asked}
-use Rattle.record.specs.declared.Field.{Field}
-use Rattle.record.specs.declared.Field.the-variants.{Content, Refused}
+use Rattle.fields.specs.Table.{Contents, contents, malformed, addContent}
+use Rattle.fields.specs.FieldAt.{fieldAt, asked}
+use Rattle.fields.specs.declared.FieldRule.{FieldRule}
+use Rattle.fields.specs.declared.Field.{Field}
+use Rattle.fields.specs.declared.Field.the-variants.{Content, Refused}
+use Rattle.record.specs.Form.{layout, Parsed, fieldsIn}
 use Rattle.reader.specs.declared.RecordReader.{RecordReader}
 
 -- the place after the field that was read at a place; after the refusal it is the same place
@@ -22,6 +24,11 @@ nextPlace Refused at = at
 unfoldable pub placeAfter : ℕ → List ℕ → ℕ → ℕ
 placeAfter zero r at = at
 placeAfter (suc n) r at = placeAfter n r (nextPlace (fieldAt r at) at)
+
+-- how many fields are left to pass after one: one less, and none after the refusal
+abbrev pub leftAfter : Field → ℕ → ℕ
+leftAfter (Content tag start n next) left = left - 1
+leftAfter Refused left = 0
 
 -- the reader of a lent record, at a place
 abbrev pub readerAt : RefT (List ℕ) → ℕ → RecordReader

@@ -10,17 +10,20 @@ use lib.ListN.{length, drop, getD}
 use borrow.Author.Tests.{eq-eqb}
 use Rattle.rules.specs.Choice.{choose}
 use Rattle.octets.specs.Splice.{part}
-use Rattle.record.specs.Form.{FieldRule, fieldRule, layout, taken, refused, takeField, Contents, addContent, onTaken, readContents, fieldsIn, parse}
-use Rattle.record.specs.FieldAt.{fieldAt, asked, fieldFor}
-use Rattle.record.specs.FieldAtLaws.{field-at, is-field}
-use Rattle.record.specs.declared.Field.{Field}
-use Rattle.record.specs.declared.Field.the-variants.{Content, Refused}
+use Rattle.fields.specs.Table.{lengthAllowed, fieldRule, taken, refused, takeField, Contents, addContent, onTaken, readContents}
+use Rattle.fields.specs.FieldAt.{fieldAt, asked, fieldFor}
+use Rattle.fields.specs.FieldAtLaws.{field-at, is-field}
+use Rattle.fields.specs.declared.LengthRule.the-variants.{Exactly}
+use Rattle.fields.specs.declared.FieldRule.{FieldRule}
+use Rattle.fields.specs.declared.Field.{Field}
+use Rattle.fields.specs.declared.Field.the-variants.{Content, Refused}
+use Rattle.record.specs.Form.{layout, fieldsIn, parse}
 use Rattle.reader.specs.Reader.{nextPlace, placeAfter, readerAt, handedOut, addField, contentsNamed, parsedBy}
 
 -- one field of both readings, where they agree from the next place on
 module _ (f : FieldRule) (r : List ℕ) (at : ℕ) (later : ℕ → Contents) (rest : List ℕ → Contents)
     (agree : (tag start n next : ℕ) → fieldAt r at ≡ Content tag start n next → later next ≡ rest (drop next r)) where
-  content-from : (tag start n next : ℕ) (b : Bool) → fieldAt r at ≡ Content tag start n next → (eqb tag (f .tag) && f .allowed n) ≡ b
+  content-from : (tag start n next : ℕ) (b : Bool) → fieldAt r at ≡ Content tag start n next → (eqb tag (f .tag) && lengthAllowed (f .length) n) ≡ b
       → addField r (choose b (Content tag start n next) Refused) later ≡ onTaken (takeField f (drop at r)) rest
   unfolding fieldFor
   content-from tag start n next true e q =
@@ -30,7 +33,7 @@ module _ (f : FieldRule) (r : List ℕ) (at : ℕ) (later : ℕ → Contents) (r
 
   field-from : (x : Field) → fieldAt r at ≡ x → addField r (asked f x) later ≡ onTaken (takeField f (drop at r)) rest
   unfolding fieldFor
-  field-from (Content tag start n next) e = content-from tag start n next (eqb tag (f .tag) && f .allowed n) e refl
+  field-from (Content tag start n next) e = content-from tag start n next (eqb tag (f .tag) && lengthAllowed (f .length) n) e refl
   field-from Refused e = let t : takeField f (drop at r) ≡ refused = rw e at (field-at f r at) in rw t
 
 -- the contents that the fields handed out name are those of the plain reading, for any table, from any place on
@@ -56,6 +59,6 @@ field-numbered (suc n) (suc k) bytes at h = field-numbered n k bytes (nextPlace 
 pub field-within : (r : List ℕ) (at tag start n next : ℕ) → fieldAt r at ≡ Content tag start n next → (next ≡ start + n) × (next ≤ length r)
 unfolding fieldFor
 field-within r at tag start n next e =
-    let f : FieldRule = fieldRule tag (λ _. true) in
-    let i = is-field f r at tag start n next (ap (asked f) e ∙ rw (eq-eqb tag tag refl)) in
+    let f : FieldRule = fieldRule tag (Exactly n) in
+    let i = is-field f r at tag start n next (ap (asked f) e ∙ rw (eq-eqb tag tag refl, eq-eqb n n refl)) in
     (i .next-is, i .within)

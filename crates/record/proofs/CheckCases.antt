@@ -1,19 +1,18 @@
 -- The ways through the check, one law for each answer of the code.
-use mathlib.Core.Path.{_≡_, ap, _∙_}
+use mathlib.Core.Path.{_≡_, sym, ap, _∙_}
 use mathlib.Core.Bool.{true, false}
 use Prim.Native.Nat.{ℕ, _+_, _-_}
 use mathlib.Core.List.{List}
 use lib.ListN.{length, take, drop}
 use borrow.Author.Tests.{eq-eqb, ne-eqb}
 use Rattle.rules.specs.Refusals.{firstRefusal}
-use Rattle.octets.specs.Splice.{part}
 use Rattle.octets.specs.SpliceLaws.{part-range}
 use Rattle.sizes.specs.Sizes.{dealSizeAllowed}
-use Rattle.record.specs.Form.{fields, parsed, broken, parse}
-use Rattle.record.specs.FieldAt.{placesOf, fieldsAt}
-use Rattle.record.specs.FieldAtLaws.{parse-places}
+use Rattle.record.specs.Form.{fields, parsed, parse}
+use Rattle.record.specs.ParsedRecord.{parsedRecord}
+use Rattle.record.specs.ParsedRecordLaws.{fieldsAt, record-read, not-read}
 use Rattle.record.specs.Check.{dealTerms, judgement, checkOf}
-use Rattle.record.specs.declared.Places.the-variants.{Fields as FieldPlaces, Malformed}
+use Rattle.record.specs.declared.ParsedRecord.{ParsedRecord}
 
 module _ (commitment : List ℕ) (d : ℕ) (r : List ℕ) where
   pub wrong-commitment : (length commitment ≡ 32 → ⊥) → 1 ≡ checkOf (dealTerms commitment d) r
@@ -26,19 +25,22 @@ module _ (commitment : List ℕ) (d : ℕ) (r : List ℕ) where
     wrong-deal-size e = rw (eq-eqb (length commitment) 32 l, e)
 
     module _ (s : dealSizeAllowed d ≡ true) where
-      pub malformed : placesOf r ≡ Malformed → 3 ≡ checkOf (dealTerms commitment d) r
+      pub malformed : {x : ParsedRecord} → x ≡ parsedRecord r → (x .code ≡ 0 → ⊥) → x .code ≡ checkOf (dealTerms commitment d) r
       unfolding checkOf
-      malformed e =
-          let p : parse r ≡ broken = parse-places r ∙ ap (fieldsAt r) e in
-          rw (eq-eqb (length commitment) 32 l, s, p)
+      malformed {x} e h =
+          let m = not-read r (λ z. h (ap (λ (y : ParsedRecord). y .code) e ∙ z)) in
+          ap (λ (y : ParsedRecord). y .code) e ∙ m .0 ∙ rw (eq-eqb (length commitment) 32 l, s, m .1)
 
-      -- the node and the two parts that are lent to the judgement are the record's fields
-      pub well-formed : {answer : ℕ} {segment : List ℕ} {o size p u un v vn : ℕ} → placesOf r ≡ FieldPlaces o size p u un v vn → segment ≡ part r 3 32
-          → answer ≡ firstRefusal (judgement (dealTerms commitment d) (parsed (fields segment o size p (take (u + un - u) (drop u r)) (take (v + vn - v) (drop v r)))))
+      -- the commitment and the two parts that are lent to the judgement are the record's fields
+      pub well-formed : {answer : ℕ} {x : ParsedRecord} → x ≡ parsedRecord r → x .code ≡ 0
+          → let u = x .«segment_path» in let v = x .«entry_path» in
+          answer ≡ firstRefusal (judgement (dealTerms commitment d) (parsed (fields (x .commitment) (x .offset) (x .size) (x .place)
+          (take (u + x .«segment_path_length» - u) (drop u r)) (take (v + x .«entry_path_length» - v) (drop v r)))))
           → answer ≡ checkOf (dealTerms commitment d) r
       unfolding checkOf
-      well-formed {o = o} {size} {p} {u} {un} {v} {vn} e n j =
-          let q : parse r ≡ parsed (fields (part r 3 32) o size p (part r u un) (part r v vn)) = parse-places r ∙ ap (fieldsAt r) e in
+      well-formed {x = x} e z j =
+          let q : parse r ≡ parsed (fieldsAt r x) = rw e (record-read r (ap (λ (y : ParsedRecord). y .code) (sym e) ∙ z)) in
           j
-          ∙ (λ i. firstRefusal (judgement (dealTerms commitment d) (parsed (fields (n i) o size p (part-range r u un i) (part-range r v vn i)))))
+          ∙ (λ i. firstRefusal (judgement (dealTerms commitment d) (parsed (fields (x .commitment) (x .offset) (x .size) (x .place)
+          (part-range r (x .«segment_path») (x .«segment_path_length») i) (part-range r (x .«entry_path») (x .«entry_path_length») i)))))
           ∙ rw (eq-eqb (length commitment) 32 l, s, q)

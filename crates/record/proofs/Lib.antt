@@ -1,4 +1,4 @@
 -- What the proofs of several functions use.
-pub mod FieldCases
 pub mod Tests
 pub mod CheckCases
+pub mod ParseLoop

@@ -1,6 +1,9 @@
 pub mod Form
-pub mod FieldAt
+pub mod FieldsOf
+pub mod ParsedRecord
 pub mod Check
 pub mod FormLaws
-pub mod FieldAtLaws
+pub mod ParsedRecordLaws
 pub mod CheckLaws
+pub mod FieldsOfLaws
+pub mod AcceptedLength

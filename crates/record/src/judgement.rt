@@ -12,7 +12,8 @@ ghost use Rattle.sizes.specs.Sizes.{dealSizeAllowed, segmentSizeAllowed, segmen
 ghost use Rattle.record.specs.Form.{fields, parsed};
 ghost use Rattle.record.specs.Check.{dealTerms, judgement};
 
-// Whether the paths' lengths are those that the record table asks: 32 times log2 (D / S), and 32 times log2 (D / 64).
+// Whether the paths have the lengths that the record table asks: 32 times log2 (D / A), where A is the area that the segment takes, and
+// 32 times log2 (D / 64).
 fn paths_sized(d: u64, size: u64, segment_path_length: usize, entry_path_length: usize) -> bool
     requires { ⌜ (dealSizeAllowed d ≡ true) × (segmentSizeAllowed d size ≡ true) ⌝ }
     ensures { λ r. ⌜ r ≡ (eqb «segment_path_length» (32 * segmentPathLevels d size) && eqb «entry_path_length» (32 * entryPathLevels d)) ⌝ }

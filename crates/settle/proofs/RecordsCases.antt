@@ -1,14 +1,18 @@
 -- The ways through settling two records, one law for each answer of the code.
-use mathlib.Core.Path.{_≡_, sym, ap, ap₂, _∙_}
+use mathlib.Core.Path.{_≡_, sym, ap, _∙_}
 use mathlib.Core.Bool.{true, false}
 use Prim.Native.Nat.{ℕ, _*_, _<_}
 use native.Mathlib.Omega.{arith}
-use mathlib.Core.List.{List}
+use mathlib.Core.List.{List, [], _∷_}
 use lib.ListN.{length}
 use borrow.Author.Tests.{eq-eqb, ne-eqb}
 use Rattle.octets.specs.Bytes.{Bytes}
+use Rattle.node.specs.Node.{nodeHash}
 use Rattle.paths.specs.Difference.{firstDifference}
 use Rattle.paths.specs.Compare.{compared}
+use Rattle.paths.specs.CompareLaws.{paths-compared, no-difference-same}
+use Rattle.paths.specs.Strings.{stringsFrom}
+use Rattle.paths.specs.DealStarts.{segmentStart, entryStart}
 use Rattle.paths.specs.declared.Compared.{Compared}
 use Rattle.sizes.specs.Sizes.{area, segmentPathLevels, segmentPosition, entryPosition}
 use Rattle.sizes.specs.SizesLaws.{deal-size, segment-size}
@@ -16,11 +20,11 @@ use Rattle.record.specs.Form.{Fields}
 use Rattle.record.specs.Check.{DealTerms, entryFor, checkOf}
 use Rattle.record.specs.CheckLaws.{Accepted, check-terms}
 use Rattle.settle.specs.Settle.{notSettled, entryStrings, segmentStrings, settleRecords}
-use Rattle.settle.specs.SettleLaws.{settledFrom, orCompared, settled-parts, no-difference-same, same-fields}
-use Rattle.settle.specs.FieldsOf.{fieldsOf}
-use Rattle.settle.specs.FieldsOfLaws.{place-of, accepted-parses, accepted-fields, accepted-sized}
-use Rattle.settle.specs.Comparing.{entryPathStrings, segmentPathStrings, entriesCompared, segmentsCompared}
-use Rattle.settle.specs.ComparingLaws.{entry-strings, segment-strings}
+use Rattle.settle.specs.SettleLaws.{settledFrom, orCompared, settled-parts, same-fields}
+use Rattle.record.specs.FieldsOf.{fieldsOf}
+use Rattle.record.specs.FieldsOfLaws.{accepted-parses, accepted-fields, accepted-sized}
+use Rattle.settle.specs.FieldsOfLaws.{place-of}
+use Rattle.settle.specs.Comparing.{entriesCompared, segmentsCompared}
 use Rattle.settle.specs.EntryStringsLaws.{entry-strings-length, same-entry}
 use Rattle.settle.proofs.Answers.{refused-with, entries-decide, segments-decide}
 
@@ -33,20 +37,30 @@ module _ (terms : DealTerms) (x y : Fields) where
   segmentsFound = compared (firstDifference (segmentStrings (terms .size) x) (segmentStrings (terms .size) y))
 
   module _ (ax : Accepted terms x) (ay : Accepted terms y) where
-    entries-found : x .place ≡ y .place → entriesCompared (entryPosition (x .place)) (entryFor x) (x .entryPath) (entryFor y) (y .entryPath) ≡ entriesFound
-    unfolding entriesFound
+    entries-found : x .place ≡ y .place
+        → entriesCompared (entryPosition (x .place)) (entryFor x) (x .entryPath) (entryFor y) (y .entryPath) ≡ entriesFound
+    unfolding entriesFound entryStrings
     entries-found at =
-        ap₂ (λ (v w : List (List ℕ)). compared (firstDifference v w))
-        (entry-strings (terms .size) x (ax .entry-path-length))
-        (ap (λ (p : ℕ). entryPathStrings (entryPosition p) (entryFor y) (y .entryPath)) at ∙ entry-strings (terms .size) y (ay .entry-path-length))
+        let e = entryFor x in
+        let f = entryFor y in
+        let start = entryStart (terms .size) in
+        paths-compared (nodeHash e) (x .entryPath) (e ∷ []) (nodeHash f) (y .entryPath) (f ∷ []) (start (x .place))
+        (ax .entry-path-length) (ay .entry-path-length)
+        ∙ (λ i. compared (firstDifference (entryStrings (terms .size) x)
+        (stringsFrom (start (at i)) (nodeHash f) (y .entryPath) (f ∷ []))))
 
     segments-found : x .offset ≡ y .offset → x .size ≡ y .size
-        → segmentsCompared (segmentPosition (x .offset) (x .size)) (x .commitment) (x .segmentPath) (y .commitment) (y .segmentPath) ≡ segmentsFound
-    unfolding segmentsFound
+        → segmentsCompared (segmentPosition (x .offset) (x .size)) (x .commitment) (x .segmentPath) (y .commitment)
+        (y .segmentPath)
+        ≡ segmentsFound
+    unfolding segmentsFound segmentStrings
     segments-found o z =
-        ap₂ (λ (v w : List (List ℕ)). compared (firstDifference v w))
-        (segment-strings (terms .size) x (ax .segment-path-length))
-        (ap₂ (λ (m n : ℕ). segmentPathStrings (segmentPosition m n) (y .commitment) (y .segmentPath)) o z ∙ segment-strings (terms .size) y (ay .segment-path-length))
+        let start = segmentStart (terms .size) in
+        paths-compared (x .commitment) (x .segmentPath) [] (y .commitment) (y .segmentPath) [] (start (x .offset) (x .size))
+        (ax .segment-path-length)
+        (ay .segment-path-length ∙ ap (λ (m : ℕ). 32 * segmentPathLevels (terms .size) m) (sym z))
+        ∙ (λ i. compared (firstDifference (segmentStrings (terms .size) x)
+        (stringsFrom (start (o i) (z i)) (y .commitment) (y .segmentPath) [])))
 
     -- no difference in the entry parts: the same entry
     same-entry-named : x .place ≡ y .place → entriesFound .differs ≡ false → entryFor x ≡ entryFor y

@@ -1,8 +1,6 @@
 pub mod Settle
-pub mod FieldsOf
 pub mod Comparing
 pub mod SettleLaws
 pub mod FieldsOfLaws
 pub mod ComparingLaws
 pub mod EntryStringsLaws
-pub mod DealStringsLaws

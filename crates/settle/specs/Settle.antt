@@ -5,15 +5,14 @@ use lib.ListN.{replicate}
 use lib.Dec.{eqb}
 use Rattle.rules.specs.Refusals.{rule, firstRefusal, unlessRefused}
 use Rattle.node.specs.Node.{nodeHash}
-use Rattle.stray.specs.StrayBits.{noStrayBits}
-use Rattle.paths.specs.Strings.{pathStrings}
+use Rattle.paths.specs.Strings.{stringsFrom}
 use Rattle.paths.specs.Difference.{Difference, same, differ, firstDifference}
-use Rattle.paths.specs.Siblings.{nodePairs}
-use Rattle.sizes.specs.Sizes.{lentSizeAllowed, segmentLevel, segmentPathLevels, entryPathLevels, segmentPosition, entryPosition}
+use Rattle.paths.specs.Siblings.{pairsFrom}
+use Rattle.paths.specs.DealStarts.{segmentStart, entryStart}
 use Rattle.index.specs.Slots.{entryAt}
 use Rattle.record.specs.Form.{Fields, Parsed, parsed, broken, parse}
 use Rattle.record.specs.Check.{DealTerms, entryFor, checkOf}
-use Rattle.lent.specs.LentDeal.{LentDeal, dealSize}
+use Rattle.lent.specs.LentDeal.{LentDeal, dealSize, dealRefusal}
 use Rattle.build.specs.Build.{termsOf}
 use Rattle.settle.specs.declared.Settled.{Settled}
 
@@ -27,10 +26,10 @@ settledBy (differ left right) = record { code = 17; left = left; right = right }
 
 -- a record's strings: those of the entry path from the top down, then the entry itself, then those of the segment path from the top
 unfoldable pub entryStrings : ℕ → Fields → List (List ℕ)
-entryStrings d x = pathStrings (entryPathLevels d) (nodeHash (entryFor x)) (entryPosition (x .place)) (x .entryPath) (entryFor x ∷ [])
+entryStrings d x = stringsFrom (entryStart d (x .place)) (nodeHash (entryFor x)) (x .entryPath) (entryFor x ∷ [])
 
 unfoldable pub segmentStrings : ℕ → Fields → List (List ℕ)
-segmentStrings d x = pathStrings (segmentPathLevels d (x .size)) (x .commitment) (segmentPosition (x .offset) (x .size)) (x .segmentPath) []
+segmentStrings d x = stringsFrom (segmentStart d (x .offset) (x .size)) (x .commitment) (x .segmentPath) []
 
 abbrev pub stringsOf : ℕ → Fields → List (List ℕ)
 stringsOf d x = entryStrings d x ++ segmentStrings d x
@@ -54,10 +53,11 @@ settleRecords terms r s =
 
 -- a deal's strings along the two paths of a record: its own pairs of nodes, and at the entry the 64 bytes at that place
 abbrev pub dealEntryStrings : LentDeal → Fields → List (List ℕ)
-dealEntryStrings deal x = nodePairs (deal .nodes) (entryPathLevels (dealSize deal)) 1 (entryPosition (x .place)) (entryAt (deal .bytes) (x .place) ∷ [])
+dealEntryStrings deal x =
+    pairsFrom (deal .nodes) (entryStart (dealSize deal) (x .place)) (entryAt (deal .bytes) (x .place) ∷ [])
 
 abbrev pub dealSegmentStrings : LentDeal → Fields → List (List ℕ)
-dealSegmentStrings deal x = nodePairs (deal .nodes) (segmentPathLevels (dealSize deal) (x .size)) (segmentLevel (x .size)) (segmentPosition (x .offset) (x .size)) []
+dealSegmentStrings deal x = pairsFrom (deal .nodes) (segmentStart (dealSize deal) (x .offset) (x .size)) []
 
 abbrev pub dealStrings : LentDeal → Fields → List (List ℕ)
 dealStrings deal x = dealEntryStrings deal x ++ dealSegmentStrings deal x
@@ -69,6 +69,6 @@ dealStringsIn deal broken = []
 -- a record with a deal: 2, 11, the check against the deal's own commitment and length, then 0 or 17
 unfoldable pub settleWithDeal : LentDeal → List ℕ → Settled
 settleWithDeal deal r =
-    unlessRefused (firstRefusal (rule (lentSizeAllowed (dealSize deal)) 2 ∷ rule (noStrayBits (deal .bytes)) 11 ∷ [])) notSettled
+    unlessRefused (dealRefusal (deal .bytes)) notSettled
     (unlessRefused (checkOf (termsOf deal) r) notSettled
     (settledBy (firstDifference (stringsIn (dealSize deal) (parse r)) (dealStringsIn deal (parse r)))))

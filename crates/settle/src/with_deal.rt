@@ -15,12 +15,12 @@ use paths::Compared;
 ghost use mathlib.Core.Path.{_≡_};
 ghost use mathlib.Core.Bool.{true};
 ghost use lib.ListN.{length};
-ghost use Rattle.sizes.specs.Sizes.{dealSizeAllowed, lentSizeAllowed, placeAllowed};
+ghost use Rattle.sizes.specs.Sizes.{dealSizeAllowed, placeAllowed};
 ghost use Rattle.record.specs.Check.{checkOf};
-ghost use Rattle.lent.specs.LentDeal.{lentDeal};
+ghost use Rattle.lent.specs.LentDeal.{lentDeal, dealRefusal};
 ghost use Rattle.build.specs.Build.{termsOf, entryPathOf};
 ghost use Rattle.settle.specs.Settle.{settleWithDeal};
-ghost use Rattle.settle.specs.FieldsOf.{fieldsOf};
+ghost use Rattle.record.specs.FieldsOf.{fieldsOf};
 ghost use Rattle.settle.specs.Comparing.{entryWithDeal, segmentWithDeal};
 
 // A lent deal has at most 2^19 nodes of 32 bytes, and its longest path is that of an entry, from level 1 up.
@@ -41,7 +41,7 @@ fn allowed_place(size: u64, record: &[u8]) -> u64
 
 // The deal's commitment: the node that its own entry path at an allowed place leads to.
 fn own_commitment(deal: &[u8], place: u64, own_path: &[u8]) -> [u8; 32]
-    requires { ⌜ (lentSizeAllowed (length (now deal)) ≡ true) × (placeAllowed (length (now deal)) place ≡ true) × (now «own_path» ≡ entryPathOf (lentDeal (now deal)) place) ⌝ }
+    requires { ⌜ (dealRefusal (now deal) ≡ 0) × (placeAllowed (length (now deal)) place ≡ true) × (now «own_path» ≡ entryPathOf (lentDeal (now deal)) place) ⌝ }
     ensures { λ r. ⌜ r ≡ termsOf (lentDeal (now (deal .entry))) .commitment ⌝ }
 {
     let own_entry = octets::pair_at(deal, place as usize);
@@ -51,7 +51,7 @@ fn own_commitment(deal: &[u8], place: u64, own_path: &[u8]) -> [u8; 32]
 // Compares the entry strings of an accepted record with those of the deal: the 64 bytes at the entry place, and the pairs of nodes above.
 // The deal's own entry path at that place is in hand.
 fn compare_deal_entry(deal: &[u8], own_path: &[u8], record: &[u8]) -> Compared
-    requires { ⌜ (lentSizeAllowed (length (now deal)) ≡ true) × (checkOf (termsOf (lentDeal (now deal))) (now «record») ≡ 0) × (now «own_path» ≡ entryPathOf (lentDeal (now deal)) (fieldsOf (now «record») .place)) ⌝ }
+    requires { ⌜ (dealRefusal (now deal) ≡ 0) × (checkOf (termsOf (lentDeal (now deal))) (now «record») ≡ 0) × (now «own_path» ≡ entryPathOf (lentDeal (now deal)) (fieldsOf (now «record») .place)) ⌝ }
     ensures { λ r. ⌜ r ≡ entryWithDeal (lentDeal (now (deal .entry))) (fieldsOf (now («record» .entry))) ⌝ }
 {
     let place = place_in(record);
@@ -63,7 +63,7 @@ fn compare_deal_entry(deal: &[u8], own_path: &[u8], record: &[u8]) -> Compared
 
 // Compares the segment strings of an accepted record with those of the deal: the pairs of nodes above the segment.
 fn compare_deal_segment(deal: &[u8], record: &[u8]) -> Compared
-    requires { ⌜ (lentSizeAllowed (length (now deal)) ≡ true) × (checkOf (termsOf (lentDeal (now deal))) (now «record») ≡ 0) ⌝ }
+    requires { ⌜ (dealRefusal (now deal) ≡ 0) × (checkOf (termsOf (lentDeal (now deal))) (now «record») ≡ 0) ⌝ }
     ensures { λ r. ⌜ r ≡ segmentWithDeal (lentDeal (now (deal .entry))) (fieldsOf (now («record» .entry))) ⌝ }
 {
     let size = size_in(record);
@@ -86,11 +86,9 @@ fn compare_deal_segment(deal: &[u8], record: &[u8]) -> Compared
 pub fn settle_with_deal(deal: &[u8], record: &[u8]) -> Settled
     ensures { λ r. ⌜ r ≡ settleWithDeal (lentDeal (now (deal .entry))) (now («record» .entry)) ⌝ }
 {
-    if !sizes::lent_size_allowed(deal.len()) {
-        return not_settled(2);
-    }
-    if !stray::no_stray_bits(deal) {
-        return not_settled(11);
+    let refusal = lent::refusal(deal);
+    if refusal != 0 {
+        return not_settled(refusal);
     }
     let size = deal.len() as u64;
     let place = allowed_place(size, record);

@@ -2,8 +2,8 @@
 ghost use Prim.Native.Nat.{_≤_};
 use crate::show;
 use entries::EntryKind;
+use fields::Field;
 use paths::Compared;
-use record::Field;
 use settle::Settled;
 use stream::Stream;
 
@@ -198,7 +198,7 @@ fn fields(record: &[u8]) {
             start,
             length,
             next,
-        } = record::read_field(record, place)
+        } = fields::read_field(record, place)
         else {
             break;
         };

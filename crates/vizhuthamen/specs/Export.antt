@@ -7,8 +7,8 @@ use lib.Dec.{eqb}
 use Rattle.rules.specs.Choice.{choose}
 use Rattle.index.specs.declared.SlotState.{SlotState}
 use Rattle.index.specs.declared.SlotState.the-variants.{Free, Standing, Kept}
-use Rattle.record.specs.declared.Field.{Field}
-use Rattle.record.specs.declared.Field.the-variants.{Content, Refused}
+use Rattle.fields.specs.declared.Field.{Field}
+use Rattle.fields.specs.declared.Field.the-variants.{Content, Refused}
 
 -- the code: 12, before all else, where an output has not its one length
 abbrev pub lentCode : ℕ → List ℕ → ℕ → ℕ
@@ -32,11 +32,7 @@ stateNumber Free = 0
 stateNumber Standing = 1
 stateNumber Kept = 2
 
--- the code of a field, 3 where none lies at the place, and its four numbers, 0 there
-abbrev pub fieldCode : Field → ℕ
-fieldCode (Content tag start n next) = 0
-fieldCode Refused = 3
-
+-- the four numbers of a field, 0 where none lies at the place
 abbrev pub fieldTag : Field → ℕ
 fieldTag (Content tag start n next) = tag
 fieldTag Refused = 0

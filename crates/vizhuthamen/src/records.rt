@@ -1,12 +1,12 @@
 // Inclusion records.
 use crate::output::write_u64;
-use record::Field;
+use fields::Field;
 ghost use mathlib.Core.Path.{_≡_};
 ghost use Rattle.record.specs.Check.{dealTerms, checkOf};
-ghost use Rattle.record.specs.FieldAt.{fieldAt};
+ghost use Rattle.fields.specs.FieldAt.{fieldAt, fieldCode};
 ghost use Rattle.lent.specs.LentDeal.{lentDeal};
 ghost use Rattle.build.specs.Build.{buildAnswer, buildOutput};
-ghost use Rattle.vizhuthamen.specs.Export.{lentOutput, fieldCode, fieldTag, fieldStart, fieldLength, fieldNext};
+ghost use Rattle.vizhuthamen.specs.Export.{lentOutput, fieldTag, fieldStart, fieldLength, fieldNext};
 
 // Builds the record of the kept entry at a place of a deal.
 #[no_mangle]
@@ -55,7 +55,7 @@ pub extern "C" fn vz_read_field(
         start: field_start,
         length: field_length,
         next: field_next,
-    } = record::read_field(record, place as usize)
+    } = fields::read_field(record, place as usize)
     else {
         return 3;
     };

@@ -13,7 +13,9 @@ use Rattle.paths.proofs.compare_paths.Tie as tie
 
 abbrev Inv-loop : tie.InvT-loop
 Inv-loop position left right levels p₀ a₀ b₀ last₀ i₀ p a b last i =
-    (i ≤ levels) × (comparedUp levels p₀ a₀ left b₀ right last₀ ≡ comparedUp (levels - i) p a (drop (i * 32) left) b (drop (i * 32) right) last)
+    (i ≤ levels)
+    × (comparedUp levels p₀ a₀ left b₀ right last₀
+    ≡ comparedUp (levels - i) p a (drop (i * 32) left) b (drop (i * 32) right) last)
 
 abbrev μ-loop : tie.MeasureT-loop
 μ-loop position left right levels p₀ a₀ b₀ last₀ i₀ p a b last i = levels - i
@@ -73,7 +75,8 @@ loop-again c =
         v .before .node-at .ensures,
       )
           (l .loop .inv .1
-          ∙ compare-next (length left / 32) (l .loop .i) (l .loop .p) (l .loop .a) left (l .loop .b) right (l .loop .last) (omega arith)),
+          ∙ compare-next (length left / 32) (l .loop .i) (l .loop .p) (l .loop .a) left (l .loop .b) right
+          (l .loop .last) (omega arith)),
     )
 
 returns : tie.Need-returns Inv-loop μ-loop
@@ -81,9 +84,10 @@ returns c =
     let l = c .before in
     let left = now (l .before .before .before .args .left) in
     let right = now (l .before .before .before .args .right) in
+    let i = l .loop .i in
     sym
     (l .loop .inv .1
-    ∙ compare-over (length left / 32) (l .loop .i) (l .loop .p) (l .loop .a) (drop (l .loop .i * 32) left) (l .loop .b) (drop (l .loop .i * 32) right)
+    ∙ compare-over (length left / 32) i (l .loop .p) (l .loop .a) (drop (i * 32) left) (l .loop .b) (drop (i * 32) right)
     (l .loop .last) (omega arith))
 
 pub compare-paths-spec : {M : Type 1} → statement M

@@ -12,7 +12,8 @@ use Rattle.paths.proofs.path_root.Statement.{statement}
 use Rattle.paths.proofs.path_root.Tie as tie
 
 abbrev Inv-loop : tie.InvT-loop
-Inv-loop position path levels running₀ p₀ i₀ running p i = (i ≤ levels) × (pathRoot levels running₀ p₀ path ≡ pathRoot (levels - i) running p (drop (i * 32) path))
+Inv-loop position path levels running₀ p₀ i₀ running p i =
+    (i ≤ levels) × (pathRoot levels running₀ p₀ path ≡ pathRoot (levels - i) running p (drop (i * 32) path))
 
 abbrev μ-loop : tie.MeasureT-loop
 μ-loop position path levels running₀ p₀ i₀ running p i = levels - i
@@ -46,14 +47,18 @@ loop-again c =
     let path = now (l .before .before .args .path) in (
       omega arith,
       simp (c .node-hash .ensures, w .pair .ensures, r .node-at .ensures)
-          (l .loop .inv .1 ∙ root-next (length path / 32) (l .loop .i) (l .loop .p) (l .loop .running) path (omega arith)),
+          (l .loop .inv .1
+          ∙ root-next (length path / 32) (l .loop .i) (l .loop .p) (l .loop .running) path (omega arith)),
     )
 
 returns : tie.Need-returns Inv-loop μ-loop
 returns c =
     let l = c .before in
     let path = now (l .before .before .args .path) in
-    sym (l .loop .inv .1 ∙ root-over (length path / 32) (l .loop .i) (l .loop .p) (l .loop .running) (drop (l .loop .i * 32) path) (omega arith))
+    let i = l .loop .i in
+    sym
+    (l .loop .inv .1
+    ∙ root-over (length path / 32) i (l .loop .p) (l .loop .running) (drop (i * 32) path) (omega arith))
 
 pub path-root-spec : {M : Type 1} → statement M
 path-root-spec =

@@ -19,7 +19,8 @@ Inv-loop run levels level position out₀ at p₀ i₀ out p i =
     (i ≤ levels)
     × (p < 2 ^ (levels - i))
     × (length out ≡ length out₀)
-    × (splice out₀ at (siblings (nodeAt run) levels level p₀) ≡ splice out (at + 32 * i) (siblings (nodeAt run) (levels - i) (level + i) p))
+    × (splice out₀ at (siblings (nodeAt run) levels level p₀)
+    ≡ splice out (at + 32 * i) (siblings (nodeAt run) (levels - i) (level + i) p))
 
 abbrev μ-loop : tie.MeasureT-loop
 μ-loop run levels level position out₀ at p₀ i₀ out p i = levels - i
@@ -27,8 +28,12 @@ abbrev μ-loop : tie.MeasureT-loop
 loop-holds : tie.Need-loop-holds Inv-loop μ-loop
 loop-holds c =
     let s = c .before .before in
-    let a = s .args in
-    (omega arith, simp sub-zero (s .pre .2), refl, write-start (nodeAt (now (a .run))) (now (a .out)) (a .at) (a .levels) (a .level) (a .position))
+    let a = s .args in (
+      omega arith,
+      simp sub-zero (s .pre .2),
+      refl,
+      write-start (nodeAt (now (a .run))) (now (a .out)) (a .at) (a .levels) (a .level) (a .position),
+    )
 
 add-node-at : tie.Need-add-node-at Inv-loop μ-loop
 add-node-at c = search needs
@@ -36,12 +41,20 @@ add-node-at c = search needs
 sibling-of-requires : tie.Need-sibling-of-requires Inv-loop μ-loop
 sibling-of-requires c κs = search needs
 
+-- the sibling of this turn stands in the run
+room : (l : tie.At-loop Inv-loop μ-loop)
+    → let a = l .before .before .before .args in
+    l .loop .i < a .levels → (siblingOf (l .loop .p) + 1) * (32 * 2 ^ (a .level + l .loop .i)) ≤ length (now (a .run))
+room l h =
+    let s = l .before .before .before in
+    let a = s .args in
+    sibling-within (now (a .run)) (a .levels) (l .loop .i) (a .level) (l .loop .p) h (l .loop .inv .1) (s .pre .1)
+
 node-at-requires : tie.Need-node-at-requires Inv-loop μ-loop
 node-at-requires c κs =
     let l = c .before .before in
     let s = l .before .before .before in
-    let a = s .args in
-    (omega (arith, s .pre .0), simp (c .sibling-of .ensures) (sibling-within (now (a .run)) (a .levels) (l .loop .i) (a .level) (l .loop .p) (omega arith) (l .loop .inv .1) (s .pre .1)))
+    (omega (arith, s .pre .0), simp (c .sibling-of .ensures) (room l (omega arith)))
 
 mul-put-node : tie.Need-mul-put-node Inv-loop μ-loop
 mul-put-node c = search needs
@@ -66,15 +79,14 @@ loop-again c =
     let l = f .before .before in
     let s = l .before .before .before in
     let a = s .args in
-    let k : l .loop .i < a .levels = f .before .loop-test .taken in
-    let room = sibling-within (now (a .run)) (a .levels) (l .loop .i) (a .level) (l .loop .p) k (l .loop .inv .1) (s .pre .1) in (
+    let k : l .loop .i < a .levels = f .before .loop-test .taken in (
       omega arith,
       half-below (a .levels) (l .loop .i) (l .loop .p) k (l .loop .inv .1),
       w .put-node .kept .0 ∙ l .loop .inv .2,
       simp (w .put-node .ensures .0, r .node-at .ensures, f .sibling-of .ensures)
           (l .loop .inv .3
           ∙ write-next (nodeAt (now (a .run))) (l .loop .out) (a .at) (a .levels) (l .loop .i) (a .level) (l .loop .p) k
-          (node-at-length (a .level + l .loop .i) (siblingOf (l .loop .p)) (now (a .run)) room)
+          (node-at-length (a .level + l .loop .i) (siblingOf (l .loop .p)) (now (a .run)) (room l k))
           (omega (arith, s .pre .3, l .loop .inv .2))),
     )
 
@@ -85,7 +97,11 @@ returns : tie.Need-returns Inv-loop μ-loop
 returns c =
     let l = c .before in
     let a = l .before .before .before .args in
-    sym (l .loop .inv .3 ∙ write-over (nodeAt (now (a .run))) (l .loop .out) (a .at + 32 * l .loop .i) (a .levels) (l .loop .i) (a .level + l .loop .i) (l .loop .p) (omega arith))
+    let i = l .loop .i in
+    sym
+    (l .loop .inv .3
+    ∙ write-over (nodeAt (now (a .run))) (l .loop .out) (a .at + 32 * i) (a .levels) i (a .level + i) (l .loop .p)
+    (omega arith))
 
 pub write-path-spec : {M : Type 1} → statement M
 write-path-spec =

@@ -1,22 +1,30 @@
 -- The refusals 1 to 3, then the judgement over the fields where the record has them.
-use mathlib.Core.Path.{sym, _∙_}
 use native.Mathlib.Omega.{arith}
+use mathlib.Core.Bool.{true}
 use mathlib.Core.List.{List}
+use mathlib.Core.Path.{_≡_, sym, subst}
 use Prim.Native.Nat.{ℕ}
 use denote.Ref.{now}
-use Rattle.record.specs.FieldAtLaws.{ArePlaces, places-are}
+use Rattle.sizes.specs.Sizes.{dealSizeAllowed}
+use Rattle.record.specs.ParsedRecordLaws.{Within, paths-within}
 use Rattle.record.proofs.Tests.{passed, failed}
 use Rattle.record.proofs.CheckCases.{wrong-commitment, wrong-deal-size, malformed, well-formed}
 use borrow.Author.Needs.{needs}
 use Rattle.record.proofs.check.Statement.{statement}
 use Rattle.record.proofs.check.Tie as tie
 
--- the lent record, once its places are known, and that they lie within it
-abbrev lent : tie.After-offset → List ℕ
-lent c = now (c .before .before .before .before .before .before .before .before .args .record)
+-- where the function starts, once the record is parsed; the lent record, and that its paths lie within it
+abbrev start : tie.After-parse → tie.Start
+start c = c .before .before .before .before .before .before
 
-within : (c : tie.After-offset) → let x = c .offset .given .0 .1 .1 .1 in ArePlaces (lent c) (x .0) (x .1 .0) (x .1 .1 .0) (x .1 .1 .1 .0)
-within c = places-are (lent c) (sym (c .before .before .places-of .ensures) ∙ c .offset .given .1)
+abbrev lent : tie.After-parse → List ℕ
+lent c = now (start c .args .record)
+
+within : (c : tie.After-parse) → Within (lent c) (c .parse .result)
+within c = subst (Within (lent c)) (sym (c .parse .ensures)) (paths-within (lent c))
+
+size-allowed : (c : tie.After-parse) → dealSizeAllowed (start c .args .size) ≡ true
+size-allowed c = passed (c .before .before .deal-size-allowed .ensures) (c .before .if2 .left)
 
 returns : tie.Need-returns
 returns c = let a = c .before .before .before .args in wrong-commitment (now (a .commitment)) (a .size) (now (a .record)) (c .if1 .taken)
@@ -29,30 +37,20 @@ returns-2 c =
     let a = c .before .before .before .before .before .args in
     wrong-deal-size (now (a .commitment)) (a .size) (now (a .record)) (c .before .before .if1 .left) (failed (c .before .deal-size-allowed .ensures) (c .if2 .taken))
 
-places-of-requires : tie.Need-places-of-requires
-places-of-requires c κs = search needs
-
-enum-known-offset : tie.Need-enum-known-offset
-enum-known-offset c = search needs
-
-enum-told : tie.Need-enum-told
-enum-told c = search needs
+parse-requires : tie.Need-parse-requires
+parse-requires c κs = search needs
 
 returns-3 : tie.Need-returns-3
 returns-3 c =
-    let t = c .before .before .before in
-    let a = t .before .before .before .before .before .args in
-    malformed (now (a .commitment)) (a .size) (now (a .record)) (t .before .before .if1 .left) (passed (t .before .deal-size-allowed .ensures) (t .if2 .left))
-    (sym (c .before .before .places-of .ensures) ∙ c .enum-told .given .1)
-
-node-at-requires : tie.Need-node-at-requires
-node-at-requires c κs = within (c .before) .commitment-within
+    let p = c .before .before in
+    let a = start p .args in
+    malformed (now (a .commitment)) (a .size) (lent p) (p .before .before .before .if1 .left) (size-allowed p) (p .parse .ensures) (c .if3 .taken)
 
 add-segment-path-end : tie.Need-add-segment-path-end
-add-segment-path-end c = let w = within (c .before .before) in omega arith
+add-segment-path-end c = let w = within (c .before .before .before .before) in omega arith
 
 add-entry-path-end : tie.Need-add-entry-path-end
-add-entry-path-end c = let w = within (c .before .before) in omega arith
+add-entry-path-end c = let w = within (c .before .before .before .before .before) in omega arith
 
 sub-judge : tie.Need-sub-judge
 sub-judge c = search needs
@@ -61,7 +59,7 @@ part-judge-start : tie.Need-part-judge-start
 part-judge-start c = search needs
 
 part-judge-end : tie.Need-part-judge-end
-part-judge-end c = let w = within (c .before .before) in omega arith
+part-judge-end c = within (c .before .before .before .before .before) .segment-path-within
 
 sub-judge-2 : tie.Need-sub-judge-2
 sub-judge-2 c = search needs
@@ -70,22 +68,17 @@ part-judge-start-2 : tie.Need-part-judge-start-2
 part-judge-start-2 c = search needs
 
 part-judge-end-2 : tie.Need-part-judge-end-2
-part-judge-end-2 c = let w = within (c .before .before .before) in omega arith
+part-judge-end-2 c = within (c .before .before .before .before .before .before) .entry-path-within
 
 judge-requires : tie.Need-judge-requires
-judge-requires c κs =
-    let t = c .before .before .before .before .before .before .before in
-    passed (t .before .deal-size-allowed .ensures) (t .if2 .left)
+judge-requires c κs = size-allowed (c .before .before .before .before .before .before .before)
 
 returns-4 : tie.Need-returns-4
 returns-4 c =
-    let p = c .before .before .before .before .before in
-    let t = p .before .before .before in
-    let a = t .before .before .before .before .before .args in
-    well-formed (now (a .commitment)) (a .size) (now (a .record)) (t .before .before .if1 .left) (passed (t .before .deal-size-allowed .ensures) (t .if2 .left))
-    (sym (p .before .before .places-of .ensures) ∙ p .offset .given .1)
-    (c .before .before .before .node-at .ensures)
-    (c .judge .ensures)
+    let t = c .before .before .before .before .before .before in
+    let p = t .before .before in
+    let a = start p .args in
+    well-formed (now (a .commitment)) (a .size) (lent p) (p .before .before .before .if1 .left) (size-allowed p) (p .parse .ensures) (t .if3 .left) (c .judge .ensures)
 
 pub check-spec : {M : Type 1} → statement M
 check-spec =
@@ -94,11 +87,8 @@ check-spec =
     returns
     deal-size-allowed-requires
     returns-2
-    places-of-requires
-    enum-known-offset
-    enum-told
+    parse-requires
     returns-3
-    node-at-requires
     add-segment-path-end
     add-entry-path-end
     sub-judge

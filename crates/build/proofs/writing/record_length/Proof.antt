@@ -1,5 +1,5 @@
 use borrow.Author.Needs.{needs}
-use Rattle.build.specs.Encode.{recordLength}
+use Rattle.record.specs.Form.{recordLength}
 use Rattle.build.proofs.writing.record_length.Statement.{statement}
 use Rattle.build.proofs.writing.record_length.Tie as tie
 

@@ -1,14 +1,56 @@
-use mathlib.Core.Path.{_∙_}
+-- Row by row, each field where the one before it ends.
+use mathlib.Core.Path.{_≡_, refl, _∙_}
+use Prim.Native.Nat.{ℕ, _+_, _-_, _*_}
+use native.Mathlib.Omega.{arith}
+use mathlib.Core.List.{List}
+use lib.ListN.{length}
 use denote.Ref.{now}
+use Rattle.octets.specs.LittleEndian.{bytesOf}
+use Rattle.octets.specs.LittleEndianLaws.{length-bytesOf}
+use Rattle.fields.specs.WrittenLaws.{wrote-field}
+use Rattle.record.specs.Form.{rowOf, recordLength}
+use Rattle.build.proofs.RecordWritten.{WorkedOut, segment-asked, entry-asked, segment-path-sized, entry-path-sized, SegmentPath, EntryPath, record-written}
 use borrow.Author.Needs.{needs}
-use Rattle.build.specs.Encode.{recordLength}
-use Rattle.build.proofs.RecordWritten.{WorkedOut, segment-asked, entry-asked, record-written}
 use Rattle.build.proofs.writing.write_record.Statement.{statement}
 use Rattle.build.proofs.writing.write_record.Tie as tie
 
--- where the function starts, before the levels and the position are worked out
+-- the field before each, and where the function starts, before the levels and the position are worked out
+abbrev four : tie.After-put-path → tie.After-put-number3
+four c = c .before .before .before .before .before
+
+abbrev three : tie.After-put-number3 → tie.After-put-number2
+three c = c .before .before .before .before .before
+
+abbrev two : tie.After-put-number2 → tie.After-put-number
+two c = c .before .before .before .before .before
+
+abbrev one : tie.After-put-number → tie.After-put-node
+one c = c .before .before .before .before .before
+
+abbrev position : tie.After-put-number3 → tie.After-segment-position
+position c = one (two (three c)) .before .before .before .before
+
 abbrev entered : tie.After-segment-position → tie.Start
 entered p = p .before .before .before .before .before
+
+-- the levels and the position
+worked-out : (p : tie.After-segment-position)
+    → WorkedOut (now (entered p .args .deal)) (entered p .args .entry) (entered p .args .place) (p .before .before .deal-level .result) (p .before .segment-level .result) (p .segment-position .result)
+worked-out p =
+    record {
+      within = entered p .pre .0;
+      top-is = p .before .before .deal-level .ensures;
+      level-is = p .before .segment-level .ensures;
+      position-is = p .segment-position .ensures;
+    }
+
+-- after the numbers: the output's length, and the place of the first path
+kept : (c : tie.After-put-number3) → length (c .put-number3 .last .0) ≡ length (now (entered (position c) .args .out))
+kept c = c .put-number3 .kept .0 ∙ three c .put-number2 .kept .0 ∙ two (three c) .put-number .kept .0 ∙ one (two (three c)) .put-node .kept .0
+
+after-numbers : (c : tie.After-put-number3) → c .put-number3 .result ≡ 68
+after-numbers c =
+    omega (arith, c .put-number3 .ensures .1, three c .put-number2 .ensures .1, two (three c) .put-number .ensures .1, one (two (three c)) .put-node .ensures .1)
 
 deal-level-requires : tie.Need-deal-level-requires
 deal-level-requires c κs = search needs
@@ -25,74 +67,98 @@ segment-position-requires c κs = search needs
 sub-entry-levels : tie.Need-sub-entry-levels
 sub-entry-levels c = search needs
 
-mul-entry-path-at : tie.Need-mul-entry-path-at
-mul-entry-path-at c = search needs
+row-requires : tie.Need-row-requires
+row-requires c κs = search needs
 
-add-entry-path-at : tie.Need-add-entry-path-at
-add-entry-path-at c = search needs
-
-put-node-field-requires : tie.Need-put-node-field-requires
+put-node-requires : tie.Need-put-node-requires
 unfolding recordLength
-put-node-field-requires c κs = search needs
+put-node-requires c κs = search needs
 
-put-number-field-requires : tie.Need-put-number-field-requires
+row-requires-2 : tie.Need-row-requires-2
+row-requires-2 c κs = search needs
+
+put-number-requires : tie.Need-put-number-requires
 unfolding recordLength
-put-number-field-requires c κs = search needs
+put-number-requires c κs = search needs
 
-put-number-field-requires-2 : tie.Need-put-number-field-requires-2
+row-requires-3 : tie.Need-row-requires-3
+row-requires-3 c κs = search needs
+
+put-number-requires-2 : tie.Need-put-number-requires-2
 unfolding recordLength
-put-number-field-requires-2 c κs = search needs
+put-number-requires-2 c κs = search needs
 
-put-number-field-requires-3 : tie.Need-put-number-field-requires-3
+row-requires-4 : tie.Need-row-requires-4
+row-requires-4 c κs = search needs
+
+put-number-requires-3 : tie.Need-put-number-requires-3
 unfolding recordLength
-put-number-field-requires-3 c κs = search needs
+put-number-requires-3 c κs =
+    let k = c .before .before .before .before in
+    let first = one (two k) in
+    let p = first .before .before .before .before in
+    let same = k .put-number2 .kept .0 ∙ two k .put-number .kept .0 ∙ first .put-node .kept .0 in
+    omega (arith, same, entered p .pre .1, k .put-number2 .ensures .1, two k .put-number .ensures .1, first .put-node .ensures .1)
 
--- the levels and the position
-worked-out : (p : tie.After-segment-position)
-    → WorkedOut (now (entered p .args .deal)) (entered p .args .entry) (entered p .args .place) (p .before .before .deal-level .result) (p .before .segment-level .result) (p .segment-position .result)
-worked-out p =
-    record {
-      within = entered p .pre .0;
-      top-is = p .before .before .deal-level .ensures;
-      level-is = p .before .segment-level .ensures;
-      position-is = p .segment-position .ensures;
-    }
+row-requires-5 : tie.Need-row-requires-5
+row-requires-5 c κs = search needs
 
-put-path-field-requires : tie.Need-put-path-field-requires
-put-path-field-requires c κs =
-    let four = c .before .before .before in
-    let three = four .before .before .before .before in
-    let two = three .before .before .before .before in
-    let one = two .before .before .before .before in
-    let p = one .before .before .before in
-    let kept = four .put-number-field3 .kept .0 ∙ three .put-number-field2 .kept .0 ∙ two .put-number-field .kept .0 ∙ one .put-node-field .kept .0 in
-    segment-asked (worked-out p) kept (entered p .pre .1)
+put-path-requires : tie.Need-put-path-requires
+put-path-requires c κs = let k = c .before .before .before .before in segment-asked (worked-out (position k)) (kept k) (entered (position k) .pre .1) (after-numbers k)
 
-put-path-field-requires-2 : tie.Need-put-path-field-requires-2
-put-path-field-requires-2 c κs =
-    let five = c .before .before .before in
-    let four = five .before .before .before .before in
-    let three = four .before .before .before .before in
-    let two = three .before .before .before .before in
-    let one = two .before .before .before .before in
-    let p = one .before .before .before in
-    let kept = five .put-path-field .kept .0 ∙ four .put-number-field3 .kept .0 ∙ three .put-number-field2 .kept .0 ∙ two .put-number-field .kept .0 ∙ one .put-node-field .kept .0 in
-    entry-asked (worked-out p) kept (entered p .pre .1)
+row-requires-6 : tie.Need-row-requires-6
+row-requires-6 c κs = search needs
+
+put-path-requires-2 : tie.Need-put-path-requires-2
+put-path-requires-2 c κs =
+    let f = c .before .before .before .before in
+    let k = four f in
+    entry-asked (worked-out (position k)) (f .put-path .kept .0 ∙ kept k) (entered (position k) .pre .1) (omega (arith, f .put-path .ensures .1, after-numbers k))
 
 same-length : tie.Need-same-length
-same-length c = search needs
+same-length c =
+    let last = c .before .before in
+    let path = last .before .before .before .before .before in
+    last .put-path2 .kept .0 ∙ path .put-path .kept .0 ∙ kept (four path)
 
 returns : tie.Need-returns
 returns c =
-    let six = c .before .before in
-    let five = six .before .before .before .before in
-    let four = five .before .before .before .before in
-    let three = four .before .before .before .before in
-    let two = three .before .before .before .before in
-    let one = two .before .before .before .before in
-    let p = one .before .before .before in
-    record-written (worked-out p) (now (entered p .args .out)) (one .put-node-field .ensures .1) (entered p .pre .1) (one .put-node-field .ensures .0) (two .put-number-field .ensures)
-    (three .put-number-field2 .ensures) (four .put-number-field3 .ensures) (five .put-path-field .ensures) (six .put-path-field2 .ensures)
+    let f6 = c .before .before in
+    let f5 = f6 .before .before .before .before .before in
+    let f4 = four f5 in
+    let f3 = three f4 in
+    let f2 = two f3 in
+    let f1 = one f2 in
+    let p = position f4 in
+    let a = entered p .args in
+    let w = worked-out p in
+    let size = f1 .put-node .ensures .2 in
+    record-written w (now (a .out)) size (entered p .pre .1) (
+      _,
+      _,
+      wrote-field (rowOf 0) (a .entry .commitment) (f1 .before .row .ensures) size (f1 .put-node .ensures .0) (f1 .put-node .ensures .1),
+      (
+        _,
+        _,
+        wrote-field (rowOf 1) (bytesOf 8 (a .entry .offset)) (f2 .before .row2 .ensures) (length-bytesOf 8 (a .entry .offset)) (f2 .put-number .ensures .0) (f2 .put-number .ensures .1),
+        (
+          _,
+          _,
+          wrote-field (rowOf 2) (bytesOf 8 (a .entry .size)) (f3 .before .row3 .ensures) (length-bytesOf 8 (a .entry .size)) (f3 .put-number2 .ensures .0) (f3 .put-number2 .ensures .1),
+          (
+            _,
+            _,
+            wrote-field (rowOf 3) (bytesOf 8 (a .place)) (f4 .before .row4 .ensures) (length-bytesOf 8 (a .place)) (f4 .put-number3 .ensures .0) (f4 .put-number3 .ensures .1),
+            (
+              _,
+              _,
+              wrote-field (rowOf 4) (SegmentPath w) (f5 .before .before .row5 .ensures) (segment-path-sized w) (f5 .put-path .ensures .0) (f5 .put-path .ensures .1),
+              (_, _, wrote-field (rowOf 5) (EntryPath w) (f6 .before .before .row6 .ensures) (entry-path-sized w) (f6 .put-path2 .ensures .0) (f6 .put-path2 .ensures .1), refl),
+            ),
+          ),
+        ),
+      ),
+    )
 
 pub write-record-spec : {M : Type 1} → statement M
 write-record-spec =
@@ -103,13 +169,17 @@ write-record-spec =
     sub-levels
     segment-position-requires
     sub-entry-levels
-    mul-entry-path-at
-    add-entry-path-at
-    put-node-field-requires
-    put-number-field-requires
-    put-number-field-requires-2
-    put-number-field-requires-3
-    put-path-field-requires
-    put-path-field-requires-2
+    row-requires
+    put-node-requires
+    row-requires-2
+    put-number-requires
+    row-requires-3
+    put-number-requires-2
+    row-requires-4
+    put-number-requires-3
+    row-requires-5
+    put-path-requires
+    row-requires-6
+    put-path-requires-2
     same-length
     returns)

@@ -24,7 +24,7 @@ returns c =
     let a = h .before .before .before .args in
     let size = w .put-node .ensures .1 in
     let middle = h .put-head .ensures .1 in
-    (field-written (now (a .out)) (a .node) (a .at) (a .tag) size (omega arith) (h .put-head .ensures .0) middle (w .put-node .ensures .0), omega arith, size)
+    (field-written (now (a .out)) (a .node) (a .at) (a .row .tag) size (omega arith) (h .put-head .ensures .0) middle (w .put-node .ensures .0), omega arith, size)
 
 pub put-node-spec : {M : Type 1} → statement M
 put-node-spec =

@@ -46,14 +46,15 @@ use denote.Triple.Entry.{Vals, onEntry}
 use denote.Triple.Spec.{Meets, tripleOf}
 use denote.Triple.Table.{entered, cited}
 use denote.Triple.Walked.{says, Stays, stay-ref, walkOf, goes-ref, Walks, ends-at, walked, walk-meets}
-use Rattle.record.specs.FieldAt.{fieldAt}
-use Rattle.record.specs.declared.Field.{Field}
-use Rattle.record.proofs.Field as S
-use Rattle.record.proofs.Field.Laws as S′
-use Rattle.record.proofs.read_field as read
-use Rattle.record.proofs.read_field.Symbol as read-def
-use Rattle.record.proofs.read_field.Symbol.{name as #record·read-field}
-use Rattle.record.proofs.read_field.Met as read-thm
+use Rattle.fields.specs.FieldAt.{fieldAt, fieldCode, fieldRules}
+use Rattle.rules.specs.Refusals.{firstRefusal}
+use Rattle.fields.specs.declared.Field.{Field}
+use Rattle.fields.proofs.Field as S
+use Rattle.fields.proofs.Field.Laws as S′
+use Rattle.fields.proofs.read_field as read
+use Rattle.fields.proofs.read_field.Symbol as read-def
+use Rattle.fields.proofs.read_field.Symbol.{name as #fields·read-field}
+use Rattle.fields.proofs.read_field.Met as read-thm
 use Rattle.reader.specs.Reader.{readerAt, nextPlace}
 use Rattle.reader.specs.declared.RecordReader.{RecordReader}
 use Rattle.reader.proofs.RecordReader as T
@@ -135,8 +136,11 @@ module _ {M : Type 1} (𝓤 : URA M) (H : Heap 𝓤) (A : Atoms 𝓤) (W : Given
   goes-read : ent 𝓤 (onEntry 𝓤 H A read.signature (κ′, tt) (q′, tt) (h .bytes, (h .place, tt)) passed) (ReadField 𝓤 H A at-mem run .pre to-read)
   goes-read = qed W ((‵ (flft κ′ q′) ⊛ ‵ ftrue) ∷ ‵ (owns (ShrSlice (named 0) κ′ u8 ∷ usize ∷ []) (h .bytes, (h .place, tt)) passed) ∷ []) ∵ join ! $ frame ! $ done !
 
-  read-said : (f : Field) → ent 𝓤 (ensured 𝓤 H A read.ended (read.clauses 𝓤 H A at-mem run) (κ′, tt) (h .bytes, (h .place, tt)) tt f) (fact 𝓤 (f ≡ found))
-  read-said f = exE 𝓤 _ (λ ws. snd∗ 𝓤 (sem 𝓤 H A (lasts read.ended (κ′, tt) (h .bytes, (h .place, tt)) ws)) (fact 𝓤 (f ≡ found)))
+  abbrev Said : Field → Type 0
+  Said f = (f ≡ found) × (fieldCode f ≡ firstRefusal (fieldRules (now (h .bytes)) (h .place)))
+
+  read-said : (f : Field) → ent 𝓤 (ensured 𝓤 H A read.ended (read.clauses 𝓤 H A at-mem run) (κ′, tt) (h .bytes, (h .place, tt)) tt f) (fact 𝓤 (Said f))
+  read-said f = exE 𝓤 _ (λ ws. snd∗ 𝓤 (sem 𝓤 H A (lasts read.ended (κ′, tt) (h .bytes, (h .place, tt)) ws)) (fact 𝓤 (Said f)))
 
   -- the call of `next_place`, at the field f with the machine value u
   abbrev to-after : Field → Val → NextPlace 𝓤 H A at-mem run .Ghost
@@ -159,7 +163,7 @@ module _ {M : Type 1} (𝓤 : URA M) (H : Heap 𝓤) (A : Atoms 𝓤) (W : Given
       suffices ! _ (ends-at 𝓤 H A next-field.ended stayed (next-field.clauses 𝓤 H A at-mem run) W (((κ, (κ′, tt)), (q, (q′, tt)), bounds, x, at), tt) u f (moved p, tt) (tt, tt)) $ says ! (e, ap moved (e′ ∙ ap (λ (g : Field). nextPlace g (h .place)) e)) $
       move ! (2 ∷ 4 ∷ []) $ join ! $ frame ! $ feqI ! (List Val) (vptr b o ∷ []) (vptr b o ∷ []) refl $ fjoin3 ! $ nothing ! $ move ! (1 ∷ 0 ∷ []) $ fjoin ! $ done !
 
-  module _ (C : Calls 𝓤 H) (Λ : Loops 𝓤 H) (fm : FmC 𝓤 H (W .laws) C) (known-read : Triple 𝓤 (C #record·read-field) (ReadField 𝓤 H A at-mem run)) (known-after : Triple 𝓤 (C #reader·next-place) (NextPlace 𝓤 H A at-mem run)) where
+  module _ (C : Calls 𝓤 H) (Λ : Loops 𝓤 H) (fm : FmC 𝓤 H (W .laws) C) (known-read : Triple 𝓤 (C #fields·read-field) (ReadField 𝓤 H A at-mem run)) (known-after : Triple 𝓤 (C #reader·next-place) (NextPlace 𝓤 H A at-mem run)) where
     walk : ent 𝓤 (onEntry 𝓤 H A next-field.signature (κ, (κ′, tt)) (q, (q′, tt)) x at) (WpFn 𝓤 H C Λ code.function (vptr b o ∷ []) Post)
     walk =
         qed W ((‵ (flft κ q) ⊛ ‵ (flft κ′ q′) ⊛ ‵ ftrue) ∷ ‵ (owns (MutRef (named 0) κ (B κ′) ∷ []) x at) ∷ []) ∵ enter ! C Λ code.function (vptr b o ∷ []) _ $
@@ -179,7 +183,7 @@ module _ {M : Type 1} (𝓤 : URA M) (H : Heap 𝓤) (A : Atoms 𝓤) (W : Given
         move ! (6 ∷ 0 ∷ []) $ use2 W (raw (ReadField 𝓤 H A at-mem run .pre to-read)) goes-read $
         calls-at ! fm (ReadField 𝓤 H A at-mem run) known-read to-read (and-then ! (load ! (from ! (stop !)) (look ! 10 refl)) (and-then ! (load ! (from ! (stop !)) (look ! 8 refl)) (no-more !))) (λ u.
         use1 W (later (some (λ (f : Field). ((‵ (flft κ′ q′) ⊛ ‵ ftrue) ⊛ ‵ (S.the-row .own f (u ∷ []))) ⊛ raw (ensured 𝓤 H A read.ended (read.clauses 𝓤 H A at-mem run) (κ′, tt) (h .bytes, (h .place, tt)) tt f)))) (id⊢ 𝓤 _) $ await ! tt $ pick ! (λ f.
-        split ! $ move ! (1 ∷ []) $ use1 W (raw (fact 𝓤 (f ≡ found))) (read-said f) $ heard ! (f ≡ found) (λ e. split ! $ move ! (1 ∷ []) $
+        split ! $ move ! (1 ∷ []) $ use1 W (raw (fact 𝓤 (Said f))) (read-said f) $ heard ! (Said f) (λ e. split ! $ move ! (1 ∷ []) $
         -- [the field; 'a's token; what the reader owns; its cell; the open borrow; obs; auth; _5; …; _4; …; _3; …; room for _2; …; _1; …; room for _0; …]
         peeks ! S.the-row (Is S.the-row) (shows 𝓤 H A S.the-row) f (u ∷ []) (λ is.
         land ! (from ! (stop !)) (init ! 13 refl (EL.lawful S.the-type S′.the-laws 𝓤 H A W tt .typed f _ is .0)) $
@@ -201,16 +205,16 @@ module _ {M : Type 1} (𝓤 : URA M) (H : Heap 𝓤) (A : Atoms 𝓤) (W : Given
         move ! (0 ∷ 1 ∷ 4 ∷ 5 ∷ 6 ∷ []) $ closes ! tt (B κ′) (moved p) (T′.lowered (moved p) ∷ []) b o $
         -- [obs; the borrow; the token; the field; 'a's token; _5; …; _4; …; _3; …; _2; …; _1; …; _0; …]
         returns ! (look ! 15 refl) $ forget ! 5 refl $ forget ! 7 refl $ forget ! 9 refl $ forget ! 11 refl $ forget ! 13 refl $ forget ! 15 refl $
-        move ! (15 ∷ 16 ∷ []) $ free1 ! $ move ! (13 ∷ 14 ∷ []) $ free1 ! $ move ! (11 ∷ 12 ∷ []) $ free1 ! $ move ! (9 ∷ 10 ∷ []) $ free1 ! $ move ! (7 ∷ 8 ∷ []) $ free1 ! $ move ! (5 ∷ 6 ∷ []) $ free1 ! $ free0 ! $ by ! (exits f u p e e′))))))))))))))))))
+        move ! (15 ∷ 16 ∷ []) $ free1 ! $ move ! (13 ∷ 14 ∷ []) $ free1 ! $ move ! (11 ∷ 12 ∷ []) $ free1 ! $ move ! (9 ∷ 10 ∷ []) $ free1 ! $ move ! (7 ∷ 8 ∷ []) $ free1 ! $ move ! (5 ∷ 6 ∷ []) $ free1 ! $ free0 ! $ by ! (exits f u p (e .0) e′))))))))))))))))))
 
 module _ {M : Type 1} (𝓤 : URA M) (H : Heap 𝓤) (A : Atoms 𝓤) (W : Given 𝓤 H A) (mem : Memory → SProp 𝓤) (run : Routine → Fun 𝓤) where
-  next-field-walks : (C : Calls 𝓤 H) (Λ : Loops 𝓤 H) → FmC 𝓤 H (W .laws) C → Triple 𝓤 (C #record·read-field) (ReadField 𝓤 H A mem run) → Triple 𝓤 (C #reader·next-place) (NextPlace 𝓤 H A mem run)
+  next-field-walks : (C : Calls 𝓤 H) (Λ : Loops 𝓤 H) → FmC 𝓤 H (W .laws) C → Triple 𝓤 (C #fields·read-field) (ReadField 𝓤 H A mem run) → Triple 𝓤 (C #reader·next-place) (NextPlace 𝓤 H A mem run)
       → Walks 𝓤 H A next-field.ended stayed (WpFn 𝓤 H C Λ code.function) (next-field.clauses 𝓤 H A mem run)
   next-field-walks C Λ fm known-read known-after = walked 𝓤 H A next-field.ended stayed (next-field.clauses 𝓤 H A mem run) (WpFn 𝓤 H C Λ code.function) (λ κs. (ptr-vals, tt)) (λ κs. (mut-tells (named 0) (κs .0) (B (κs .1 .0)), tt))
       (λ κs qs bounds a _ are. via 𝓤 _ (fst∗ 𝓤 _ (emp 𝓤)) (walk 𝓤 H A W mem run (κs .0) (κs .1 .0) (qs .0) (qs .1 .0) bounds (a .0 .ptr .0) (a .0 .ptr .1) (a .0 .name) (a .0 .now) C Λ fm known-read known-after))
 
 next-field-meets : {M : Type 1} (𝓤 : URA M) (H : Heap 𝓤) (A : Atoms 𝓤) (W : Given 𝓤 H A) (mem : Memory → SProp 𝓤) (run : Routine → Fun 𝓤) (𝓣 : Tables 𝓤 H)
-    → Triple 𝓤 (𝓣 .C #record·read-field) (ReadField 𝓤 H A mem run) → Triple 𝓤 (𝓣 .C #reader·next-place) (NextPlace 𝓤 H A mem run)
+    → Triple 𝓤 (𝓣 .C #fields·read-field) (ReadField 𝓤 H A mem run) → Triple 𝓤 (𝓣 .C #reader·next-place) (NextPlace 𝓤 H A mem run)
     → Meets 𝓤 H A next-field.signature (WpFn 𝓤 H (𝓣 .C) (𝓣 .Λ) code.function) (next-field.spec 𝓤 H A mem run)
 next-field-meets 𝓤 H A W mem run 𝓣 known-read known-after = walk-meets 𝓤 H A next-field.ended stayed W (goes-ref 𝓤 H A W 2 0 tt behind, tt) (next-field.clauses 𝓤 H A mem run) (WpFn 𝓤 H (𝓣 .C) (𝓣 .Λ) code.function) (WpFn-mono 𝓤 H (W .laws) 𝓣 code.function)
     (next-field-walks 𝓤 H A W mem run (𝓣 .C) (𝓣 .Λ) (fmOf 𝓤 H (W .laws) 𝓣) known-read known-after)
@@ -221,5 +225,5 @@ next-field-spec 𝓤 H 𝓜 𝓖 𝓡 =
     entered 𝓤 H (tripleOf 𝓤 H (𝓖 .A) next-field.signature (next-field.spec 𝓤 H (𝓖 .A) (𝓜 .mem) (𝓡 .run)))
     (tables 𝓤 H 𝓜 𝓡 code.env .C) (tables 𝓤 H 𝓜 𝓡 code.env .Λ) #reader·next-field code.function (code.unfolded 𝓤 H 𝓜 𝓡)
     (next-field-meets 𝓤 H (𝓖 .A) (givenOf 𝓤 H 𝓜 𝓖) (𝓜 .mem) (𝓡 .run) (tablesOf 𝓤 H 𝓜 (tables 𝓤 H 𝓜 𝓡 code.env))
-    (cited 𝓤 H (ReadField 𝓤 H (𝓖 .A) (𝓜 .mem) (𝓡 .run)) 𝓜 𝓡 code.env #record·read-field read-def.routine code.calls-record·read-field (read-thm.met 𝓤 H 𝓜 𝓖 𝓡))
+    (cited 𝓤 H (ReadField 𝓤 H (𝓖 .A) (𝓜 .mem) (𝓡 .run)) 𝓜 𝓡 code.env #fields·read-field read-def.routine code.calls-fields·read-field (read-thm.met 𝓤 H 𝓜 𝓖 𝓡))
     (cited 𝓤 H (NextPlace 𝓤 H (𝓖 .A) (𝓜 .mem) (𝓡 .run)) 𝓜 𝓡 code.env #reader·next-place after-def.routine code.calls-reader·next-place (after-thm.met 𝓤 H 𝓜 𝓖 𝓡)))

@@ -1,36 +1,22 @@
-use mathlib.Core.Path.{sym, ap, _∙_}
+use mathlib.Core.Path.{sym, ap, subst, _∙_}
 use native.Mathlib.Omega.{arith}
 use denote.Ref.{now}
 use Rattle.octets.specs.SpliceLaws.{part-range}
 use Rattle.record.specs.Form.{Fields}
-use Rattle.record.specs.FieldAtLaws.{places-are}
-use Rattle.settle.specs.FieldsOfLaws.{fields-at, no-fields}
+use Rattle.record.specs.ParsedRecordLaws.{fieldsAt, fields-read, Within, paths-within}
 use borrow.Author.Needs.{needs}
 use Rattle.settle.proofs.fields.segment_path_in.Statement.{statement}
 use Rattle.settle.proofs.fields.segment_path_in.Tie as tie
 
-places-of-requires : tie.Need-places-of-requires
-places-of-requires c κs = search needs
+-- the path lies within the record
+within : (c : tie.After-parse) → Within (now (c .before .before .args .record)) (c .parse .result)
+within c = subst (Within (now (c .before .before .args .record))) (sym (c .parse .ensures)) (paths-within (now (c .before .before .args .record)))
 
-enum-known-segment-path : tie.Need-enum-known-segment-path
-enum-known-segment-path c = search needs
-
-enum-told : tie.Need-enum-told
-enum-told c = search needs
-
-slice-aggregate-result : tie.Need-slice-aggregate-result
-slice-aggregate-result c = search needs
-
-returns : tie.Need-returns
-returns c =
-    let p = c .before .before .before in
-    sym (ap (λ (x : Fields). x .segmentPath) (no-fields (now (p .before .before .args .record)) (sym (p .places-of .ensures) ∙ c .before .enum-told .given .1)))
+parse-requires : tie.Need-parse-requires
+parse-requires c κs = search needs
 
 add-end : tie.Need-add-end
-add-end c =
-    let p = c .before .before .before in
-    let w = places-are (now (p .before .before .args .record)) (sym (p .places-of .ensures) ∙ c .before .segment-path .given .1) in
-    omega arith
+add-end c = let w = within (c .before) in omega arith
 
 sub-result : tie.Need-sub-result
 sub-result c = search needs
@@ -39,28 +25,14 @@ part-result-start : tie.Need-part-result-start
 part-result-start c = search needs
 
 part-result-end : tie.Need-part-result-end
-part-result-end c =
-    let p = c .before .before .before in
-    let w = places-are (now (p .before .before .args .record)) (sym (p .places-of .ensures) ∙ c .before .segment-path .given .1) in
-    omega arith
+part-result-end c = within (c .before) .segment-path-within
 
-returns-2 : tie.Need-returns-2
-returns-2 c =
-    let p = c .before .before .before .before in
+returns : tie.Need-returns
+returns c =
+    let p = c .before .before in
     let r = now (p .before .before .args .record) in
-    part-range r _ _ ∙ sym (ap (λ (x : Fields). x .segmentPath) (fields-at r (sym (p .places-of .ensures) ∙ c .before .before .segment-path .given .1)))
+    part-range r (p .parse .result .«segment_path») (p .parse .result .«segment_path_length»)
+    ∙ ap (λ (x : Fields). x .segmentPath) (ap (fieldsAt r) (p .parse .ensures) ∙ sym (fields-read r))
 
 pub segment-path-in-spec : {M : Type 1} → statement M
-segment-path-in-spec =
-    tie.close
-    (tie.spec
-    places-of-requires
-    enum-known-segment-path
-    enum-told
-    slice-aggregate-result
-    returns
-    add-end
-    sub-result
-    part-result-start
-    part-result-end
-    returns-2)
+segment-path-in-spec = tie.close (tie.spec parse-requires add-end sub-result part-result-start part-result-end returns)

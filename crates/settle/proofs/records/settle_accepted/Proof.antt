@@ -7,7 +7,7 @@ use denote.Ref.{now}
 use Rattle.octets.specs.Bytes.{bytes-of-slice}
 use Rattle.sizes.specs.Sizes.{segmentPosition, entryPosition}
 use Rattle.record.specs.Check.{entryFor}
-use Rattle.settle.specs.FieldsOf.{fieldsOf}
+use Rattle.record.specs.FieldsOf.{fieldsOf}
 use Rattle.settle.specs.Comparing.{entriesCompared, segmentsCompared}
 use Rattle.settle.proofs.RecordsCases.{other-place, entry-paths, area-there, entries-differ, segment-paths, entries-same}
 use borrow.Author.Needs.{needs}

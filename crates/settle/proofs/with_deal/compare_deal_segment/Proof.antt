@@ -1,19 +1,22 @@
 -- The record's segment path against the deal's own, written into a buffer.
-use mathlib.Core.Path.{_≡_, sym, ap, _∙_}
+use mathlib.Core.Path.{_≡_, sym, ap, _∙_, subst}
 use Prim.Native.Nat.{ℕ, _-_, _*_, _≤_}
 use native.Mathlib.Omega.{arith}
 use mathlib.Core.List.{List}
 use lib.ListN.{length, take}
 use denote.Ref.{now}
 use Rattle.merkle.specs.Tree.{nodeAt}
-use Rattle.paths.specs.Siblings.{siblings}
+use Rattle.paths.specs.Start.{PathStart, pathStart}
+use Rattle.paths.specs.Siblings.{nodeFrom, siblingsFrom}
+use Rattle.paths.specs.DealStarts.{segmentStart}
 use Rattle.sizes.specs.Sizes.{area, segmentLevel, segmentPosition}
 use Rattle.lent.specs.LentDeal.{lentDeal}
+use Rattle.lent.specs.LentDealLaws.{refusal-none}
 use Rattle.build.specs.Build.{segmentPathOf}
-use Rattle.build.specs.BuildLaws.{InDeal}
-use Rattle.settle.specs.FieldsOf.{fieldsOf}
+use Rattle.build.specs.BuildLaws.{InDeal, segment-start}
+use Rattle.record.specs.FieldsOf.{fieldsOf}
 use Rattle.settle.specs.Comparing.{segmentsCompared}
-use Rattle.settle.proofs.OwnPath.{OwnPath, same-among, path-room, node-room, path-written, written-length, written-fits}
+use Rattle.settle.proofs.OwnPath.{OwnPath, path-room, node-room, path-written, written-length, written-fits}
 use Rattle.settle.proofs.DealCases.{inside, segment-paths, segments-found}
 use borrow.Author.Needs.{needs}
 use Rattle.settle.proofs.with_deal.compare_deal_segment.Statement.{statement}
@@ -23,38 +26,45 @@ use Rattle.settle.proofs.with_deal.compare_deal_segment.Tie as tie
 abbrev deal : tie.Start → List ℕ
 deal s = now (s .args .deal)
 
-abbrev lent : tie.Start → List ℕ
-lent s = now (s .args .record)
+abbrev bytes : tie.Start → List ℕ
+bytes s = now (s .args .record)
 
-numbers : (s : tie.Start) → let x = fieldsOf (lent s) in InDeal (length (deal s)) (x .place) (x .offset) (x .size)
-numbers s = inside (deal s) (lent s) (s .pre .0) (s .pre .1)
+numbers : (s : tie.Start) → let x = fieldsOf (bytes s) in InDeal (length (deal s)) (x .place) (x .offset) (x .size)
+numbers s = inside (deal s) (bytes s) (s .pre .0) (s .pre .1)
 
 abbrev start : tie.After-segment-level → tie.Start
 start c = c .before .before .before .before
 
--- the segment's level and its position there
-level-is : (c : tie.After-segment-level) → c .segment-level .result ≡ segmentLevel (fieldsOf (lent (start c)) .size)
+level-is : (c : tie.After-segment-level) → c .segment-level .result ≡ segmentLevel (fieldsOf (bytes (start c)) .size)
 level-is c = c .segment-level .ensures ∙ ap segmentLevel (c .before .size-in .ensures)
 
-position-is : (c : tie.After-segment-position) → let x = fieldsOf (lent (start (c .before .before .before))) in c .segment-position .result ≡ segmentPosition (x .offset) (x .size)
-position-is c = c .segment-position .ensures ∙ (λ i. segmentPosition (c .before .offset-in .ensures i) (c .before .before .before .before .size-in .ensures i))
+-- the start of the deal's own path
+abbrev level : tie.After-segment-position → tie.After-segment-level
+level c = c .before .before .before
 
--- the levels above it, and the numbers of the deal's own path
-abbrev levels : tie.After-segment-position → ℕ
-levels c = c .before .before .deal-level .result - c .before .before .before .segment-level .result
+abbrev path-start : tie.After-segment-position → PathStart
+path-start c =
+    let l = level c .segment-level .result in
+    pathStart (c .before .before .deal-level .result - l) l (c .segment-position .result)
 
-own : (c : tie.After-segment-position) → let l = c .before .before .before in OwnPath (deal (start l)) (levels c) (l .segment-level .result) (c .segment-position .result)
+start-is : (c : tie.After-segment-position)
+    → let s = start (level c) in
+    let x = fieldsOf (bytes s) in
+    path-start c ≡ segmentStart (length (deal s)) (x .offset) (x .size)
+start-is c =
+    let l = level-is (level c) in
+    let d = c .before .before .deal-level .ensures in
+    let o = c .before .offset-in .ensures in
+    let z = level c .before .size-in .ensures in
+    let p = c .segment-position .ensures ∙ (λ i. segmentPosition (o i) (z i)) in
+    λ i. pathStart (d i - l i) (l i) (p i)
+
+own : (c : tie.After-segment-position) → OwnPath (deal (start (level c))) (path-start c)
 own c =
-    let l = c .before .before .before in
-    let s = start l in
+    let s = start (level c) in
     let low = numbers s .size-is .level-low in
-    let below = numbers s .size-is .below-deal in
-    record {
-      lent = s .pre .0;
-      up = omega (arith, level-is l, c .before .before .deal-level .ensures);
-      low = omega (arith, level-is l);
-      among = same-among (position-is c) (λ i. c .before .before .deal-level .ensures i - level-is l i) (numbers s .segment-is .position-in);
-    }
+    subst (OwnPath (deal s)) (sym (start-is c))
+    (record { lent = refusal-none (deal s) (s .pre .0) .0; inside = segment-start (numbers s); low = omega arith })
 
 -- the buffer that it was written into, and the path there
 abbrev out : tie.After-write-path → List ℕ
@@ -62,13 +72,12 @@ out c = c .write-path .last .1 .1 .1 .1 .0
 
 own-path : (c : tie.After-write-path)
     → let p = c .before .before in
-    let s = start (p .before .before .before) in
-    take (32 * levels p) (out c) ≡ segmentPathOf (lentDeal (deal s)) (fieldsOf (lent s) .offset) (fieldsOf (lent s) .size)
+    let s = start (level p) in
+    let x = fieldsOf (bytes s) in
+    take (32 * path-start p .levels) (out c) ≡ segmentPathOf (lentDeal (deal s)) (x .offset) (x .size)
 own-path c =
     let p = c .before .before in
-    let l = p .before .before .before in
-    path-written (own p) (out c) (c .write-path .ensures)
-    ∙ (λ i. siblings (nodeAt (deal (start l))) (p .before .before .deal-level .ensures i - level-is l i) (level-is l i) (position-is p i))
+    path-written (own p) (out c) (c .write-path .ensures) ∙ ap (siblingsFrom (nodeAt (deal (start (level p))))) (start-is p)
 
 size-in-requires : tie.Need-size-in-requires
 size-in-requires c κs = search needs
@@ -88,7 +97,7 @@ offset-in-requires c κs = search needs
 segment-position-requires : tie.Need-segment-position-requires
 segment-position-requires c κs =
     let l = c .before .before in
-    let z : 128 ≤ area (fieldsOf (lent (start l)) .size) = numbers (start l) .size-is .area-low in
+    let z : 128 ≤ area (fieldsOf (bytes (start l)) .size) = numbers (start l) .size-is .area-low in
     rw (l .before .size-in .ensures) (omega arith)
 
 slice-aggregate-write-path : tie.Need-slice-aggregate-write-path
@@ -118,8 +127,10 @@ segment-path-in-requires c κs = search needs
 compare-segments-requires : tie.Need-compare-segments-requires
 compare-segments-requires c κs =
     let w = c .before .before .before .before .before in
-    let s = start (w .before .before .before .before .before) in
-    ap length (c .segment-path-in .ensures) ∙ segment-paths (deal s) (lent s) (s .pre .0) (s .pre .1) ∙ sym (ap length (own-path w))
+    let s = start (level (w .before .before)) in
+    ap length (c .segment-path-in .ensures)
+    ∙ segment-paths (deal s) (bytes s) (s .pre .0) (s .pre .1)
+    ∙ sym (ap length (own-path w))
 
 returns : tie.Need-returns
 returns c =
@@ -128,11 +139,12 @@ returns c =
     let n = x .before in
     let w = n .before .before .before in
     let p = w .before .before in
-    let l = p .before .before .before in
-    let s = start l in
+    let s = start (level p) in
+    let node = n .node-at .ensures ∙ ap (nodeFrom (nodeAt (deal s))) (start-is p) in
     c .compare-segments .ensures
-    ∙ (λ i. segmentsCompared (position-is p i) (x .commitment-in .ensures i) (q .segment-path-in .ensures i) ((n .node-at .ensures ∙ (λ j. nodeAt (deal s) (level-is l j) (position-is p j))) i) (own-path w i))
-    ∙ segments-found (deal s) (lent s) (s .pre .0) (s .pre .1)
+    ∙ (λ i. segmentsCompared (start-is p i .position) (x .commitment-in .ensures i) (q .segment-path-in .ensures i) (node i)
+    (own-path w i))
+    ∙ segments-found (deal s) (bytes s) (s .pre .0) (s .pre .1)
 
 pub compare-deal-segment-spec : {M : Type 1} → statement M
 compare-deal-segment-spec =

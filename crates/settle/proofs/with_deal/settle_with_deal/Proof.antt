@@ -1,25 +1,25 @@
--- 2, 11, the check against the commitment that the deal's own entry path leads to; then the entry parts decide where they differ, and else the segment
--- parts.
-use mathlib.Core.Path.{_≡_, sym, ap, _∙_}
+-- 2, 11, the check against the commitment that the deal's own entry path leads to; then the entry parts decide where they differ, and else
+-- the segment parts.
+use mathlib.Core.Path.{_≡_, sym, ap, _∙_, subst}
 use mathlib.Core.Bool.{true}
 use Prim.Native.Nat.{ℕ, _-_, _*_}
 use native.Mathlib.Omega.{arith}
 use mathlib.Core.List.{List}
 use lib.ListN.{length, take}
 use denote.Ref.{now}
-use borrow.Author.Tests.{not-true, not-false}
 use Rattle.merkle.specs.Tree.{nodeAt}
-use Rattle.stray.specs.StrayBits.{noStrayBits}
-use Rattle.paths.specs.Siblings.{siblings}
-use Rattle.sizes.specs.Sizes.{lentSizeAllowed, entryPosition}
+use Rattle.paths.specs.Start.{PathStart, pathStart}
+use Rattle.paths.specs.Siblings.{siblingsFrom}
+use Rattle.paths.specs.DealStarts.{entryStart}
+use Rattle.sizes.specs.Sizes.{entryPosition}
 use Rattle.sizes.specs.SizesLaws.{lent-size}
 use Rattle.record.specs.Check.{dealTerms, checkOf}
-use Rattle.lent.specs.LentDeal.{lentDeal}
+use Rattle.lent.specs.LentDeal.{lentDeal, dealRefusal}
 use Rattle.build.specs.Build.{termsOf, entryPathOf}
-use Rattle.settle.specs.FieldsOf.{fieldsOf}
+use Rattle.record.specs.FieldsOf.{fieldsOf}
 use Rattle.settle.proofs.OwnPath.{OwnPath, path-room, path-written, written-length, written-fits}
 use Rattle.settle.proofs.OwnEntryPath.{entry-path}
-use Rattle.settle.proofs.DealCases.{size-refused, stray-refused, check-refused, accepted-place, entries-differ, entries-same}
+use Rattle.settle.proofs.DealCases.{deal-refused, lent, check-refused, accepted-place, entries-differ, entries-same}
 use borrow.Author.Needs.{needs}
 use Rattle.settle.proofs.with_deal.settle_with_deal.Statement.{statement}
 use Rattle.settle.proofs.with_deal.settle_with_deal.Tie as tie
@@ -28,97 +28,100 @@ use Rattle.settle.proofs.with_deal.settle_with_deal.Tie as tie
 abbrev deal : tie.Start → List ℕ
 deal s = now (s .args .deal)
 
-abbrev lent : tie.Start → List ℕ
-lent s = now (s .args .record)
+abbrev bytes : tie.Start → List ℕ
+bytes s = now (s .args .record)
 
+-- the deal is not refused
 abbrev start1 : tie.Else1 → tie.Start
 start1 c = c .before .before .before .before
 
-abbrev else1 : tie.Else2 → tie.Else1
+fine : (c : tie.Else1) → dealRefusal (deal (start1 c)) ≡ 0
+fine c = sym (c .before .refusal .ensures) ∙ c .if1 .left
+
+abbrev else1 : tie.After-deal-level → tie.Else1
 else1 c = c .before .before
 
--- the tests that were passed
-size-passed : (c : tie.Else1) → lentSizeAllowed (length (deal (start1 c))) ≡ true
-size-passed c = sym (c .before .lent-size-allowed .ensures) ∙ not-false _ (c .if1 .left)
-
-clear-passed : (c : tie.Else2) → noStrayBits (deal (start1 (else1 c))) ≡ true
-clear-passed c = sym (c .before .no-stray-bits .ensures) ∙ not-false _ (c .if2 .left)
-
-abbrev else2 : tie.After-deal-level → tie.Else2
-else2 c = c .before .before
-
 abbrev start : tie.After-deal-level → tie.Start
-start c = start1 (else1 (else2 c))
+start c = start1 (else1 c)
 
 -- the deal's own entry path at the allowed place, and the buffer that it was written into
 abbrev place : tie.After-deal-level → ℕ
 place c = c .before .allowed-place .result
 
-own : (c : tie.After-deal-level) → OwnPath (deal (start c)) (c .deal-level .result - 1) 1 (entryPosition (place c))
-own c = entry-path (deal (start c)) (size-passed (else1 (else2 c))) (place c) (c .before .allowed-place .ensures .0) (c .deal-level .ensures)
+abbrev path-start : tie.After-deal-level → PathStart
+path-start c = pathStart (c .deal-level .result - 1) 1 (entryPosition (place c))
+
+start-is : (c : tie.After-deal-level) → path-start c ≡ entryStart (length (deal (start c))) (place c)
+start-is c = λ i. pathStart (c .deal-level .ensures i - 1) 1 (entryPosition (place c))
+
+own : (c : tie.After-deal-level) → OwnPath (deal (start c)) (path-start c)
+own c =
+    let s = start c in
+    subst (OwnPath (deal s)) (sym (start-is c))
+    (entry-path (deal s) (lent (deal s) (bytes s) (fine (else1 c))) (place c) (c .before .allowed-place .ensures .0))
 
 abbrev out : tie.After-write-path → List ℕ
 out c = c .write-path .last .1 .1 .1 .1 .0
 
-own-path : (c : tie.After-write-path) → let k = c .before .before in take (32 * (k .deal-level .result - 1)) (out c) ≡ entryPathOf (lentDeal (deal (start k))) (place k)
+abbrev level1 : tie.After-write-path → tie.After-deal-level
+level1 c = c .before .before
+
+own-path : (c : tie.After-write-path)
+    → let k = level1 c in
+    take (32 * (k .deal-level .result - 1)) (out c) ≡ entryPathOf (lentDeal (deal (start k))) (place k)
 own-path c =
-    let k = c .before .before in
-    path-written (own k) (out c) (c .write-path .ensures) ∙ (λ i. siblings (nodeAt (deal (start k))) (k .deal-level .ensures i - 1) 1 (entryPosition (place k)))
+    let k = level1 c in
+    path-written (own k) (out c) (c .write-path .ensures) ∙ ap (siblingsFrom (nodeAt (deal (start k)))) (start-is k)
 
 -- the check against the deal's own terms
 abbrev written : tie.After-check → tie.After-write-path
 written c = c .before .before .before .before .before
 
 abbrev level : tie.After-check → tie.After-deal-level
-level c = written c .before .before
+level c = level1 (written c)
 
-checked : (c : tie.After-check) → let s = start (level c) in c .check .result ≡ checkOf (termsOf (lentDeal (deal s))) (lent s)
+checked : (c : tie.After-check)
+    → let s = start (level c) in
+    c .check .result ≡ checkOf (termsOf (lentDeal (deal s))) (bytes s)
 checked c =
     let s = start (level c) in
-    c .check .ensures ∙ ap (λ (node : List ℕ). checkOf (dealTerms node (length (deal s))) (lent s)) (c .before .before .own-commitment .ensures)
+    c .check .ensures
+    ∙ ap (λ (node : List ℕ). checkOf (dealTerms node (length (deal s))) (bytes s)) (c .before .before .own-commitment .ensures)
 
-accepted : (c : tie.Else3) → let s = start (level (c .before)) in checkOf (termsOf (lentDeal (deal s))) (lent s) ≡ 0
-accepted c = sym (checked (c .before)) ∙ c .if3 .left
+accepted : (c : tie.Else2) → let s = start (level (c .before)) in checkOf (termsOf (lentDeal (deal s))) (bytes s) ≡ 0
+accepted c = sym (checked (c .before)) ∙ c .if2 .left
 
 -- an accepted record's place is the one chosen
-place-is : (c : tie.Else3) → place (level (c .before)) ≡ fieldsOf (lent (start (level (c .before)))) .place
+place-is : (c : tie.Else2) → place (level (c .before)) ≡ fieldsOf (bytes (start (level (c .before)))) .place
 place-is c =
     let l = level (c .before) in
     let s = start l in
-    l .before .allowed-place .ensures .1 (accepted-place (deal s) (lent s) (size-passed (else1 (else2 l))) (accepted c))
+    l .before .allowed-place .ensures .1 (accepted-place (deal s) (bytes s) (fine (else1 l)) (accepted c))
 
-lent-size-allowed-requires : tie.Need-lent-size-allowed-requires
-lent-size-allowed-requires c κs = search needs
+refusal-requires : tie.Need-refusal-requires
+refusal-requires c κs = search needs
 
 not-settled-requires : tie.Need-not-settled-requires
 not-settled-requires c κs = search needs
 
 returns : tie.Need-returns
 returns c =
-    let z = c .before .before in
-    let s = z .before .before .before in
-    c .not-settled .ensures ∙ size-refused (deal s) (lent s) (sym (z .lent-size-allowed .ensures) ∙ not-true _ (c .before .if1 .taken))
-
-no-stray-bits-requires : tie.Need-no-stray-bits-requires
-no-stray-bits-requires c κs = search needs
-
-not-settled-requires-2 : tie.Need-not-settled-requires-2
-not-settled-requires-2 c κs = search needs
-
-returns-2 : tie.Need-returns-2
-returns-2 c =
-    let n = c .before .before in
-    let s = start1 (n .before) in
-    c .not-settled2 .ensures ∙ stray-refused (deal s) (lent s) (size-passed (n .before)) (sym (n .no-stray-bits .ensures) ∙ not-true _ (c .before .if2 .taken))
+    let f = c .before .before in
+    let s = f .before .before .before in
+    c .not-settled .ensures ∙ deal-refused (deal s) (bytes s) (f .refusal .ensures) (c .before .if1 .taken)
 
 allowed-place-requires : tie.Need-allowed-place-requires
-allowed-place-requires c κs = lent-size (length (deal (start1 (else1 c)))) (size-passed (else1 c)) .allowed
+allowed-place-requires c κs =
+    let s = start1 c in
+    lent-size (length (deal s)) (lent (deal s) (bytes s) (fine c)) .allowed
 
 deal-level-requires : tie.Need-deal-level-requires
-deal-level-requires c κs = let e = else1 (c .before) in lent-size (length (deal (start1 e))) (size-passed e) .allowed
+deal-level-requires c κs =
+    let s = start1 (c .before) in
+    lent-size (length (deal s)) (lent (deal s) (bytes s) (fine (c .before))) .allowed
 
 sub-levels : tie.Need-sub-levels
-sub-levels c = omega (arith, own c .up)
+sub-levels c = omega (arith, own c .inside .up)
 
 slice-aggregate-write-path : tie.Need-slice-aggregate-write-path
 slice-aggregate-write-path c = search needs
@@ -127,19 +130,19 @@ write-path-requires : tie.Need-write-path-requires
 write-path-requires c κs = path-room (own (c .before))
 
 mul-end : tie.Need-mul-end
-mul-end c = omega (arith, path-room (own (c .before .before .before)) .3)
+mul-end c = omega (arith, path-room (own (level1 (c .before))) .3)
 
 array-share-prefix-path : tie.Need-array-share-prefix-path
-array-share-prefix-path c = let w = c .before in written-fits (own (w .before .before)) (out w) (w .write-path .ensures)
+array-share-prefix-path c = let w = c .before in written-fits (own (level1 w)) (out w) (w .write-path .ensures)
 
 slice-aggregate-own-path : tie.Need-slice-aggregate-own-path
-slice-aggregate-own-path c = let w = c .before .before in written-length (own (w .before .before)) (out w) (w .write-path .ensures)
+slice-aggregate-own-path c = let w = c .before .before in written-length (own (level1 w)) (out w) (w .write-path .ensures)
 
 own-commitment-requires : tie.Need-own-commitment-requires
 own-commitment-requires c κs =
     let w = c .before .before in
-    let l = w .before .before in
-    (size-passed (else1 (else2 l)), l .before .allowed-place .ensures .0, own-path w)
+    let l = level1 w in
+    (fine (else1 l), l .before .allowed-place .ensures .0, own-path w)
 
 slice-aggregate-check : tie.Need-slice-aggregate-check
 slice-aggregate-check c = search needs
@@ -147,57 +150,59 @@ slice-aggregate-check c = search needs
 check-requires : tie.Need-check-requires
 check-requires c κs = search needs
 
-not-settled-requires-3 : tie.Need-not-settled-requires-3
-not-settled-requires-3 c κs = search needs
+not-settled-requires-2 : tie.Need-not-settled-requires-2
+not-settled-requires-2 c κs = search needs
 
-returns-3 : tie.Need-returns-3
-returns-3 c =
+returns-2 : tie.Need-returns-2
+returns-2 c =
     let k = c .before .before in
-    let e = else2 (level k) in
-    let s = start1 (else1 e) in
-    c .not-settled3 .ensures ∙ check-refused (deal s) (lent s) (size-passed (else1 e)) (clear-passed e) (checked k) (c .before .if3 .taken)
+    let e = else1 (level k) in
+    let s = start1 e in
+    c .not-settled2 .ensures ∙ check-refused (deal s) (bytes s) (fine e) (checked k) (c .before .if2 .taken)
 
 compare-deal-entry-requires : tie.Need-compare-deal-entry-requires
 compare-deal-entry-requires c κs =
     let l = level (c .before) in
-    (size-passed (else1 (else2 l)), accepted c, own-path (written (c .before)) ∙ ap (entryPathOf (lentDeal (deal (start l)))) (place-is c))
+    let p = own-path (written (c .before)) ∙ ap (entryPathOf (lentDeal (deal (start l)))) (place-is c) in
+    (fine (else1 l), accepted c, p)
 
 settled-from-requires : tie.Need-settled-from-requires
 settled-from-requires c κs = search needs
 
-returns-4 : tie.Need-returns-4
-returns-4 c =
+returns-3 : tie.Need-returns-3
+returns-3 c =
     let f = c .before .before in
-    let e = else2 (level (f .before .before)) in
-    let s = start1 (else1 e) in
+    let a = f .before in
+    let e = else1 (level (a .before)) in
+    let s = start1 e in
     c .settled-from .ensures
-    ∙ entries-differ (deal s) (lent s) (size-passed (else1 e)) (accepted (f .before)) (clear-passed e) (f .compare-deal-entry .result) (f .compare-deal-entry .ensures) (c .before .if4 .taken)
+    ∙ entries-differ (deal s) (bytes s) (fine e) (accepted a) (f .compare-deal-entry .result) (f .compare-deal-entry .ensures)
+    (c .before .if3 .taken)
 
 compare-deal-segment-requires : tie.Need-compare-deal-segment-requires
-compare-deal-segment-requires c κs = let k = c .before .before in (size-passed (else1 (else2 (level (k .before)))), accepted k)
+compare-deal-segment-requires c κs = let a = c .before .before in (fine (else1 (level (a .before))), accepted a)
 
 settled-from-requires-2 : tie.Need-settled-from-requires-2
 settled-from-requires-2 c κs = search needs
 
-returns-5 : tie.Need-returns-5
-returns-5 c =
+returns-4 : tie.Need-returns-4
+returns-4 c =
     let n = c .before .before in
     let f = n .before in
-    let e = else2 (level (f .before .before)) in
-    let s = start1 (else1 e) in
+    let a = f .before in
+    let e = else1 (level (a .before)) in
+    let s = start1 e in
     c .settled-from2 .ensures
-    ∙ entries-same (deal s) (lent s) (size-passed (else1 e)) (accepted (f .before)) (clear-passed e) (f .compare-deal-entry .result) (f .compare-deal-entry .ensures) (n .if4 .left) (c .before .compare-deal-segment .ensures)
+    ∙ entries-same (deal s) (bytes s) (fine e) (accepted a) (f .compare-deal-entry .result) (f .compare-deal-entry .ensures)
+    (n .if3 .left) (c .before .compare-deal-segment .ensures)
 
 pub settle-with-deal-spec : {M : Type 1} → statement M
 settle-with-deal-spec =
     tie.close
     (tie.spec
-    lent-size-allowed-requires
+    refusal-requires
     not-settled-requires
     returns
-    no-stray-bits-requires
-    not-settled-requires-2
-    returns-2
     allowed-place-requires
     deal-level-requires
     sub-levels
@@ -209,11 +214,11 @@ settle-with-deal-spec =
     own-commitment-requires
     slice-aggregate-check
     check-requires
-    not-settled-requires-3
-    returns-3
+    not-settled-requires-2
+    returns-2
     compare-deal-entry-requires
     settled-from-requires
-    returns-4
+    returns-3
     compare-deal-segment-requires
     settled-from-requires-2
-    returns-5)
+    returns-4)
