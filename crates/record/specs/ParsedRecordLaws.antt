@@ -34,12 +34,12 @@ module _ (r : List ℕ) where
       let l : length ss ≡ 6 = spans-counted layout r 0 ss ns q .0 in
       let at : (i : ℕ) → i < 6 → getD (partsOf r ss ns) i [] ≡ part r (getD ss i 0) (getD ns i 0) = λ i h. parts-at r ss ns i (omega arith) in
       λ i. parsed (fields
-        (at 0 (omega arith) i)
-        (numberOf (at 1 (omega arith) i))
-        (numberOf (at 2 (omega arith) i))
-        (numberOf (at 3 (omega arith) i))
-        (at 4 (omega arith) i)
-        (at 5 (omega arith) i))
+      (at 0 (omega arith) i)
+      (numberOf (at 1 (omega arith) i))
+      (numberOf (at 2 (omega arith) i))
+      (numberOf (at 3 (omega arith) i))
+      (at 4 (omega arith) i)
+      (at 5 (omega arith) i))
 
   -- with code 0 the bytes are a record, and the answer names its fields
   pub record-read : parsedRecord r .code ≡ 0 → parse r ≡ parsed (fieldsAt r (parsedRecord r))

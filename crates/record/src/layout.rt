@@ -9,11 +9,17 @@ ghost use Rattle.record.specs.Form.{wholeNodes, rowOf};
 
 // The rows of the table, in its order, and how many they are.
 pub const COMMITMENT: usize = 0;
+
 pub const OFFSET: usize = 1;
+
 pub const SIZE: usize = 2;
+
 pub const PLACE: usize = 3;
+
 pub const SEGMENT_PATH: usize = 4;
+
 pub const ENTRY_PATH: usize = 5;
+
 pub const ROWS: usize = 6;
 
 // The bytes of a record beside its two paths: a head for each row, the commitment and three numbers.

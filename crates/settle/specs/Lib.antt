@@ -1,7 +1,7 @@
 pub mod Settle
-pub mod FieldsOf
+pub mod AcceptedRecord
 pub mod Comparing
 pub mod SettleLaws
-pub mod FieldsOfLaws
+pub mod AcceptedRecordLaws
 pub mod ComparingLaws
 pub mod EntryStringsLaws

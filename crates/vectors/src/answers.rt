@@ -2,8 +2,8 @@
 ghost use Prim.Native.Nat.{_≤_};
 use crate::show;
 use entries::EntryKind;
-use paths::Compared;
 use fields::Field;
+use paths::Compared;
 use settle::Settled;
 use stream::Stream;
 

@@ -3,7 +3,6 @@ use mathlib.Core.Path.{_≡_, refl, sym, ap, _∙_}
 use Prim.Native.Nat.{_+_, _-_, _≤_}
 use native.Mathlib.Omega.{arith}
 use lib.ListN.{length, replicate, length-set}
-
 use denote.Ref.{now}
 use Rattle.fields.specs.FieldAt.{fieldFor}
 use Rattle.fields.specs.declared.FieldRule.{FieldRule}
@@ -70,9 +69,13 @@ loop-again c =
     let k = c .before .before in
     let t = k .before .before .before in
     let l = t .before .loop in
-    let r = now (t .before .before .before .args .record) in
-    (omega arith, simp length-set (l .inv .1), simp length-set (l .inv .2), next-row r (l .starts) (l .lengths) (l .at) (l .i) (l .i + 1) (l .inv .3) (omega arith) (t .loop-test .taken) (l .inv .1) (l .inv .2)
-    (sym (k .before .field-for .ensures .0 ∙ ap (λ (row : FieldRule). fieldFor row r (l .at)) (k .before .before .row .ensures)) ∙ c .before .start .given .1))
+    let r = now (t .before .before .before .args .record) in (
+      omega arith,
+      simp length-set (l .inv .1),
+      simp length-set (l .inv .2),
+      next-row r (l .starts) (l .lengths) (l .at) (l .i) (l .i + 1) (l .inv .3) (omega arith) (t .loop-test .taken) (l .inv .1) (l .inv .2)
+          (sym (k .before .field-for .ensures .0 ∙ ap (λ (row : FieldRule). fieldFor row r (l .at)) (k .before .before .row .ensures)) ∙ c .before .start .given .1),
+    )
 
 unread-with-requires-2 : tie.Need-unread-with-requires-2 Inv-loop μ-loop
 unread-with-requires-2 c κs = search needs
