@@ -1,7 +1,7 @@
 -- The ways through settling a record with a deal, one law for each answer of the code.
 use mathlib.Core.Path.{_≡_, sym, ap, _∙_}
 use mathlib.Core.Bool.{true, false}
-use Prim.Native.Nat.{ℕ, _+_}
+use Prim.Native.Nat.{ℕ}
 use mathlib.Core.List.{List, [], _∷_}
 use lib.ListN.{length}
 use Rattle.node.specs.Node.{nodeHash}
@@ -17,7 +17,7 @@ use Rattle.paths.specs.Compare.{compared}
 use Rattle.paths.specs.CompareLaws.{paths-compared}
 use Rattle.paths.specs.DealStarts.{segmentStart, entryStart}
 use Rattle.paths.specs.declared.Compared.{Compared}
-use Rattle.sizes.specs.Sizes.{lentSizeAllowed, dealLevel, segmentPosition, entryPosition}
+use Rattle.sizes.specs.Sizes.{lentSizeAllowed, dealLevel, entryPosition}
 use Rattle.sizes.specs.SizesLaws.{lent-size}
 use Rattle.index.specs.Slots.{entryAt}
 use Rattle.record.specs.Form.{Fields}

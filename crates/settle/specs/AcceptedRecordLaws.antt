@@ -3,7 +3,7 @@ use mathlib.Core.Path.{_≡_, sym, ap, _∙_, subst}
 use Prim.Native.Nat.{ℕ}
 use mathlib.Core.List.{List}
 use Rattle.octets.specs.Bytes.{Bytes}
-use Rattle.record.specs.Form.{Fields, parsed, parse}
+use Rattle.record.specs.Form.{parsed, parse}
 use Rattle.record.specs.FormLaws.{Sized, parse-canonical}
 use Rattle.record.specs.FieldsOf.{parsedFields, fieldsOf}
 use Rattle.record.specs.Check.{DealTerms}

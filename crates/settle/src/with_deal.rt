@@ -45,8 +45,8 @@ fn own_commitment(deal: &[u8], place: u64, own_path: &[u8]) -> [u8; 32]
     paths::path_root(node::node_hash(own_entry), place / 64, own_path)
 }
 
-// Compares the entry strings of an accepted record with those of the deal: the 64 bytes at the entry place, and the pairs of
-// nodes above. The deal's own entry path at that place is in hand.
+// Compares the entry strings of an accepted record with those of the deal: the 64 bytes at the entry place, and the
+// pairs of nodes above. The deal's own entry path at that place is in hand.
 fn compare_deal_entry(deal: &[u8], own_path: &[u8], record: &[u8], x: ParsedRecord) -> Compared
     requires { ⌜ (dealRefusal (now deal) ≡ 0)
         × AcceptedRecord (termsOf (lentDeal (now deal))) (now «record») x
@@ -78,10 +78,10 @@ fn compare_deal_segment(deal: &[u8], record: &[u8], x: ParsedRecord) -> Compared
     compare_segments(position, commitment, segment_path, own_node, own_path)
 }
 
-// Settles a record with a deal: 2 for a deal size that is not allowed, 11 for a deal with stray bits, the refusal of the check
-// against the deal's own commitment and length, then 0 where no string differs, else 17 and the two strings at the first
-// difference. The deal's own entry path is written once: it leads to the commitment, and for an accepted record it is the one
-// to compare.
+// Settles a record with a deal: 2 for a deal size that is not allowed, 11 for a deal with stray bits, the refusal of
+// the check against the deal's own commitment and length, then 0 where no string differs, else 17 and the two strings
+// at the first difference. The deal's own entry path is written once: it leads to the commitment, and for an accepted
+// record it is the one to compare.
 pub fn settle_with_deal(deal: &[u8], record: &[u8]) -> Settled
     ensures { λ r. ⌜ r ≡ settleWithDeal (lentDeal (now (deal .entry))) (now («record» .entry)) ⌝ }
 {

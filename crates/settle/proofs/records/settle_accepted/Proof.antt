@@ -1,7 +1,5 @@
 -- 18 for different places; then the entry parts decide where they differ, and else the segment parts.
 use mathlib.Core.Path.{_≡_, sym, ap, _∙_}
-use Prim.Native.Nat.{ℕ}
-use mathlib.Core.List.{List}
 use lib.ListN.{length}
 use denote.Ref.{now}
 use Rattle.octets.specs.Bytes.{Bytes, bytes-of-slice}
@@ -126,7 +124,8 @@ returns-3 c = λ terms a b.
     let x = one (start1 e) in
     let y = two (start1 e) in
     c .settled-from2 .ensures
-    ∙ entries-same a b (e .if1 .left) (f .compare-entries .result) (found-is f) (bytes-one e) (bytes-two e) (n .if2 .left)
+    ∙ entries-same a b (e .if1 .left) (f .compare-entries .result) (found-is f) (bytes-one e) (bytes-two e)
+    (n .if2 .left)
     (m .compare-segments .ensures
     ∙ (λ i. segmentsCompared (z .segment-position .ensures i) (x .commitment) (p .path-in3 .ensures i) (y .commitment)
     (q .path-in4 .ensures i)))

@@ -37,7 +37,9 @@ second-checked : (c : tie.Else2) → checkOf (terms (start2 c)) (two (start2 c))
 second-checked c = sym (c .before .check2 .ensures) ∙ c .if2 .left
 
 -- the two records are accepted, and parsed
-first-accepted : (c : tie.After-parse) → let s = start2 (c .before) in AcceptedRecord (terms s) (one s) (c .parse .result)
+first-accepted : (c : tie.After-parse)
+    → let s = start2 (c .before) in
+    AcceptedRecord (terms s) (one s) (c .parse .result)
 first-accepted c = record { parsed-is = c .parse .ensures; checked = first-checked (c .before .before .before) }
 
 second-accepted : (c : tie.After-parse2)

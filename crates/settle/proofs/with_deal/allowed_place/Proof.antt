@@ -1,9 +1,8 @@
 -- The place itself where it passes the test, else the place of slot 0.
-use mathlib.Core.Path.{sym, ap, _∙_}
+use mathlib.Core.Path.{refl, sym, ap, _∙_}
 use mathlib.Core.Bool.{true≢false}
 use Prim.Native.Nat.{_≤_, _<_}
 use native.Mathlib.Omega.{arith}
-use mathlib.Core.Path.{refl}
 use Rattle.sizes.specs.Sizes.{entryCount, placeAllowed}
 use Rattle.sizes.specs.SizesLaws.{DealSize, deal-size, index-area, slot-allowed}
 use borrow.Author.Needs.{needs}

@@ -1,5 +1,5 @@
--- 2, 11, the check against the commitment that the deal's own entry path leads to; then the entry parts decide where they
--- differ, and else the segment parts.
+-- 2, 11, the check against the commitment that the deal's own entry path leads to; then the entry parts decide where
+-- they differ, and else the segment parts.
 use mathlib.Core.Path.{_≡_, sym, ap, _∙_, subst}
 use Prim.Native.Nat.{ℕ, _-_, _*_}
 use native.Mathlib.Omega.{arith}
@@ -13,7 +13,6 @@ use Rattle.paths.specs.DealStarts.{entryStart}
 use Rattle.sizes.specs.Sizes.{entryPosition}
 use Rattle.sizes.specs.SizesLaws.{lent-size}
 use Rattle.record.specs.Check.{dealTerms, checkOf}
-use Rattle.record.specs.declared.ParsedRecord.{ParsedRecord}
 use Rattle.lent.specs.LentDeal.{lentDeal, dealRefusal}
 use Rattle.build.specs.Build.{termsOf, entryPathOf}
 use Rattle.settle.specs.AcceptedRecord.{AcceptedRecord}
@@ -188,8 +187,8 @@ returns-3 c =
     let a = f .before in
     let e = else1 (level2 a) in
     c .settled-from .ensures
-    ∙ entries-differ (deal (start1 e)) (fine e) (taken a) (f .compare-deal-entry .result) (f .compare-deal-entry .ensures)
-    (c .before .if3 .taken)
+    ∙ entries-differ (deal (start1 e)) (fine e) (taken a) (f .compare-deal-entry .result)
+    (f .compare-deal-entry .ensures) (c .before .if3 .taken)
 
 compare-deal-segment-requires : tie.Need-compare-deal-segment-requires
 compare-deal-segment-requires c κs = let a = c .before .before in (fine (else1 (level2 a)), taken a)
@@ -204,8 +203,8 @@ returns-4 c =
     let a = f .before in
     let e = else1 (level2 a) in
     c .settled-from2 .ensures
-    ∙ entries-same (deal (start1 e)) (fine e) (taken a) (f .compare-deal-entry .result) (f .compare-deal-entry .ensures)
-    (n .if3 .left) (c .before .compare-deal-segment .ensures)
+    ∙ entries-same (deal (start1 e)) (fine e) (taken a) (f .compare-deal-entry .result)
+    (f .compare-deal-entry .ensures) (n .if3 .left) (c .before .compare-deal-segment .ensures)
 
 pub settle-with-deal-spec : {M : Type 1} → statement M
 settle-with-deal-spec =
