@@ -1,11 +1,12 @@
--- Document 01, "Table to be proved (P1 to P12)". The lengths of records are those of `Rattle.build.specs.EncodeLaws.built-length`.
+-- Document 01, "Table to be proved (P1 to P12)". The lengths of records are those of
+-- `Rattle.record.specs.AcceptedLength.accepted-length`.
 use mathlib.Core.Path.{_≡_, refl}
 use Prim.Native.Nat.{ℕ, _^_}
 use mathlib.Core.List.{[], _∷_}
 use lib.Count.{ones, trailingZeros}
 use Rattle.rules.specs.Refusals.{rule, firstRefusal}
 use Rattle.sizes.specs.Sizes.{segmentSizeAllowed, area, doubledTo, entryCount, indexStart, offsetAllowed, placeAllowed, dealLevel, segmentLevel}
-use Rattle.build.specs.Encode.{recordLength}
+use Rattle.record.specs.Form.{recordLength}
 
 -- rules 4 to 6 of the check, for a deal size, a segment size and offset, and an entry place
 unfoldable pub numbersCode : ℕ → ℕ → ℕ → ℕ → ℕ

@@ -1,6 +1,6 @@
 -- The fields that the reader hands out (document 01, "The record": "Fields are read in turn, each answer being the field with the next place, or else
 -- the refusal", and "a reader that holds the lent record hands out the same fields").
-use Prim.Native.Nat.{ℕ, zero, suc}
+use Prim.Native.Nat.{ℕ, zero, suc, _-_}
 use mathlib.Core.List.{List, [], _∷_}
 use denote.Ref.{RefT, now}
 use lib.Dec.{eqb}
@@ -24,6 +24,11 @@ nextPlace Refused at = at
 unfoldable pub placeAfter : ℕ → List ℕ → ℕ → ℕ
 placeAfter zero r at = at
 placeAfter (suc n) r at = placeAfter n r (nextPlace (fieldAt r at) at)
+
+-- how many fields are left to pass after one: one less, and none after the refusal
+abbrev pub leftAfter : Field → ℕ → ℕ
+leftAfter (Content tag start n next) left = left - 1
+leftAfter Refused left = 0
 
 -- the reader of a lent record, at a place
 abbrev pub readerAt : RefT (List ℕ) → ℕ → RecordReader

@@ -2,7 +2,7 @@
 use fields::Field;
 ghost use mathlib.Core.Path.{_≡_};
 ghost use Rattle.fields.specs.FieldAt.{fieldAt};
-ghost use Rattle.reader.specs.Reader.{nextPlace, placeAfter, readerAt, movedOn};
+ghost use Rattle.reader.specs.Reader.{nextPlace, placeAfter, leftAfter, readerAt, movedOn};
 
 // A lent record, and the place where its next field is read.
 pub struct RecordReader<'a> {
@@ -45,7 +45,21 @@ impl<'a> RecordReader<'a> {
     }
 }
 
-// The field of this number, from 0, of a record. Its parameters are plain: a caller's proof has no reader in it.
+// How many fields are left to pass after one: one less, and none after the refusal, where every later field is that refusal.
+fn left_after(field: Field, left: usize) -> usize
+    ensures { λ r. ⌜ r ≡ leftAfter field left ⌝ }
+{
+    let Field::Content { .. } = field else {
+        return 0;
+    };
+    if left == 0 {
+        return 0;
+    }
+    left - 1
+}
+
+// The field of this number, from 0, of a record; the first refusal ends the reading. Its parameters are plain: a caller's proof has no
+// reader in it.
 pub fn field(bytes: &[u8], number: usize) -> Field
     ensures { λ r. ⌜ r ≡ fieldAt (now (bytes .entry)) (placeAfter number (now (bytes .entry)) 0) ⌝ }
 {
@@ -53,9 +67,10 @@ pub fn field(bytes: &[u8], number: usize) -> Field
     let mut left = number;
     loop {
         let field = reader.next_field();
+        let rest = left_after(field, left);
         if left == 0 {
             return field;
         }
-        left -= 1;
+        left = rest;
     }
 }

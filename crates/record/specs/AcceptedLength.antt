@@ -24,15 +24,15 @@ module _ (terms : DealTerms) (r : List ℕ) (b : Bytes r) (e : checkOf terms r �
   pub accepted-length : length r ≡ recordLength (terms .size) (fieldsOf r .size)
   unfolding recordLength
   accepted-length =
-      let a = accepted-fields terms r e in
-      sym (ap length (accepted-encodes terms r e b))
-      ∙ encode-length (fieldsOf r) (accepted-sized terms r e b .commitment-32)
+      let a = accepted-fields r terms e in
+      sym (ap length (accepted-encodes r terms e b))
+      ∙ encode-length (fieldsOf r) (accepted-sized r terms e b .commitment-32)
       ∙ ap₂ (λ (m n : ℕ). tableLength layout (m ∷ n ∷ [])) (a .segment-path-length) (a .entry-path-length)
 
   pub accepted-range : (202 ≤ length r) × (length r ≤ 1962)
   accepted-range =
       let t = deal-size (terms .size) (check-terms terms r e .1) in
-      let s = segment-size (terms .size) (fieldsOf r .size) t (accepted-fields terms r e .size-allowed) in
+      let s = segment-size (terms .size) (fieldsOf r .size) t (accepted-fields r terms e .size-allowed) in
       let k = length-range (terms .size) (fieldsOf r .size) t s in
       let l = accepted-length in
       (omega arith, omega arith)

@@ -9,7 +9,7 @@ use Rattle.record.specs.FieldsOf.{parsedFields, fieldsOf}
 use Rattle.record.specs.Check.{DealTerms, checkOf}
 use Rattle.record.specs.CheckLaws.{Accepted, check-means}
 
-module _ (terms : DealTerms) (r : List ℕ) (e : checkOf terms r ≡ 0) where
+module _ (r : List ℕ) (terms : DealTerms) (e : checkOf terms r ≡ 0) where
   fields-are : fieldsOf r ≡ check-means terms r e .0
   unfolding fieldsOf
   fields-are = ap parsedFields (check-means terms r e .1)
