@@ -21,6 +21,7 @@ use Rattle.paths.specs.Path.{rootFrom}
 use Rattle.paths.specs.Siblings.{nodeFrom}
 use Rattle.paths.specs.SiblingsLaws.{path-length, path-clear, own-leads}
 use Rattle.paths.specs.DealStarts.{segmentStart, entryStart}
+use Rattle.paths.specs.DealStartsLaws.{segment-in, entry-in}
 use Rattle.sizes.specs.Sizes.{lentSizeAllowed, segmentSizeAllowed, offsetAllowed, placeAllowed, area, indexStart}
 use Rattle.sizes.specs.Sizes.{dealLevel, segmentLevel, segmentPathLevels, entryPathLevels}
 use Rattle.sizes.specs.SizesLaws.{LentSize, lent-size, SegmentSize, segment-size, index-start-le}
@@ -33,7 +34,8 @@ use Rattle.record.specs.Form.{parsed, parse, encode}
 use Rattle.record.specs.FormLaws.{Sized, parse-encode}
 use Rattle.record.specs.CheckLaws.{Accepted}
 use Rattle.lent.specs.LentDeal.{LentDeal, dealSize}
-use Rattle.build.specs.Build.{termsOf, segmentPathOf, entryPathOf, fieldsFor, built, notBuilt, buildRules, recordAt}
+use Rattle.build.specs.Build.{termsOf, segmentPathOf, entryPathOf, fieldsFor}
+use Rattle.build.specs.Build.{built, notBuilt, buildRules, recordAt}
 
 -- what a record that was built is
 pub record Builds (deal : LentDeal) (place : ℕ) (r : List ℕ) : Type 0 where
@@ -97,10 +99,10 @@ in-deal d place offset size l q s f =
 -- the starts of the two paths in the deal's tree
 module _ {d place offset size : ℕ} (w : InDeal d place offset size) where
   pub segment-start : InTree (dealLevel d) (segmentStart d offset size)
-  segment-start = record { up = w .segment-up; among = w .segment-is .position-in }
+  segment-start = segment-in (w .size-is) (w .segment-is)
 
   pub entry-start : InTree (dealLevel d) (entryStart d place)
-  entry-start = record { up = w .entry-up; among = w .place-is .position-in }
+  entry-start = entry-in (w .lent-is .deal) (w .place-is)
 
 -- an entry of a deal without stray bits has a clear commitment
 entry-clear : (deal : List ℕ) (place : ℕ) → place ≡ 64 * (place / 64) → place + 64 ≤ length deal
@@ -112,8 +114,9 @@ entry-clear deal place e h k =
     ∙ clear-at (length deal / 32) (place / 64 * 2) deal k (omega arith)
 
 -- the node over the 64 bytes at a place
-pub entry-node : (nodes : NodeSource) (deal : List ℕ) (top place : ℕ) → IsTree nodes deal top → place ≡ 64 * (place / 64)
-    → 0 < top → place / 64 < 2 ^ (top - 1) → nodeHash (entryAt deal place) ≡ nodes 1 (place / 64)
+pub entry-node : (nodes : NodeSource) (deal : List ℕ) (top place : ℕ) → IsTree nodes deal top
+    → place ≡ 64 * (place / 64) → 0 < top → place / 64 < 2 ^ (top - 1)
+    → nodeHash (entryAt deal place) ≡ nodes 1 (place / 64)
 unfolding part
 entry-node nodes deal top place t e o h =
     let m = place / 64 in
@@ -135,7 +138,8 @@ module _ (deal : LentDeal) (t : IsTree (deal .nodes) (deal .bytes) (dealLevel (d
     pub segment-path-clear : noStrayBits (segmentPathOf deal offset size) ≡ true
     segment-path-clear =
         let low : 2 ≤ segmentLevel size = w .size-is .level-low in
-        path-clear (deal .nodes) (deal .bytes) _ t (segmentStart (dealSize deal) offset size) (omega arith) (segment-start w)
+        path-clear (deal .nodes) (deal .bytes) _ t (segmentStart (dealSize deal) offset size) (omega arith)
+        (segment-start w)
 
     pub entry-path-clear : noStrayBits (entryPathOf deal place) ≡ true
     entry-path-clear =
@@ -154,8 +158,8 @@ module _ (deal : LentDeal) (t : IsTree (deal .nodes) (deal .bytes) (dealLevel (d
     pub place-node : nodeHash (entryAt (deal .bytes) place) ≡ nodeFrom (deal .nodes) (entryStart (dealSize deal) place)
     place-node =
         let l : 4 ≤ dealLevel (dealSize deal) = w .lent-is .deal .level-low in
-        entry-node (deal .nodes) (deal .bytes) (dealLevel (dealSize deal)) place t (w .place-is .at-position) (omega arith)
-        (w .place-is .position-in)
+        entry-node (deal .nodes) (deal .bytes) (dealLevel (dealSize deal)) place t (w .place-is .at-position)
+        (omega arith) (w .place-is .position-in)
 
   pub commitment-length : length (termsOf deal .commitment) ≡ 32
   commitment-length = t .sized 0 (dealLevel (dealSize deal)) 0 (omega arith) (omega arith)
@@ -167,15 +171,16 @@ module _ (deal : LentDeal) (t : IsTree (deal .nodes) (deal .bytes) (dealLevel (d
     pub built-in-deal : InDeal (dealSize deal) place (offsetIn e) (sizeIn e)
     built-in-deal =
         let s = m .is-kept .is-standing in
-        in-deal (dealSize deal) place (offsetIn e) (sizeIn e) (m .lent) (m .place-allowed) (s .size-allowed) (s .offset-allowed)
+        in-deal (dealSize deal) place (offsetIn e) (sizeIn e) (m .lent) (m .place-allowed) (s .size-allowed)
+        (s .offset-allowed)
 
     -- the entry is the one that its fields make
     pub built-valid : entryOf (commitmentIn e) (offsetIn e) (sizeIn e) ≡ e
     built-valid =
-        valid-is e (part-length (deal .bytes) place 64 (built-in-deal .place-is .in-deal)) (bytes-part (deal .bytes) place 64 b)
-        (m .is-kept .is-standing .right)
+        valid-is e (part-length (deal .bytes) place 64 (built-in-deal .place-is .in-deal))
+        (bytes-part (deal .bytes) place 64 b) (m .is-kept .is-standing .right)
 
-    pub built-sized : Sized (fieldsFor deal e place)
+    built-sized : Sized (fieldsFor deal e place)
     unfolding fieldsFor commitmentIn
     built-sized =
         let w = built-in-deal in
@@ -217,7 +222,8 @@ module _ (deal : LentDeal) (t : IsTree (deal .nodes) (deal .bytes) (dealLevel (d
           place-allowed = m .place-allowed;
           segment-path-length = segment-path-length place o z w;
           entry-path-length = entry-path-length place o z w;
-          commitment-clear = entry-clear (deal .bytes) place (w .place-is .at-position) (w .place-is .in-deal) (m .clean);
+          commitment-clear =
+              entry-clear (deal .bytes) place (w .place-is .at-position) (w .place-is .in-deal) (m .clean);
           segment-path-clear = segment-path-clear place o z w;
           entry-path-clear = entry-path-clear place o z w;
           segment-path-leads =

@@ -1,4 +1,5 @@
--- The strings of an accepted record as chains from the deal's commitment, and the answer that follows when they are compared with others.
+-- The strings of an accepted record as chains from the deal's commitment, and the answer that follows when they are
+-- compared with others.
 use mathlib.Core.Path.{_≡_, refl, sym, ap, ap₂, _∙_}
 use mathlib.Core.Logic.{inl, inr}
 use mathlib.Core.Bool.{Bool, true}
@@ -63,19 +64,19 @@ module _ (terms : DealTerms) (x : Fields) (h : Sized x) (a : Accepted terms x) w
   pub entry-chain : Chain (terms .commitment) (entrySides (terms .size) (x .place)) (entryStrings (terms .size) x)
   unfolding entryStrings
   entry-chain =
-      path-chain (entryStart (terms .size) (x .place)) (nodeHash (entryFor x)) (x .entryPath) (true ∷ []) (entryFor x ∷ [])
-      (node-hash-length (entryFor x)) (a .entry-path-length) (a .entry-path-leads)
+      path-chain (entryStart (terms .size) (x .place)) (nodeHash (entryFor x)) (x .entryPath) (true ∷ [])
+      (entryFor x ∷ []) (node-hash-length (entryFor x)) (a .entry-path-length) (a .entry-path-leads)
       (entry-length (x .commitment) (x .offset) (x .size) (h .commitment-32), refl, tt)
 
   pub segment-chain :
       Chain (terms .commitment) (segmentSides (terms .size) (x .offset) (x .size)) (segmentStrings (terms .size) x)
   unfolding segmentStrings
   segment-chain =
-      path-chain (segmentStart (terms .size) (x .offset) (x .size)) (x .commitment) (x .segmentPath) [] [] (h .commitment-32)
-      (a .segment-path-length) (a .segment-path-leads) tt
+      path-chain (segmentStart (terms .size) (x .offset) (x .size)) (x .commitment) (x .segmentPath) [] []
+      (h .commitment-32) (a .segment-path-length) (a .segment-path-leads) tt
 
--- strings to hold against those of a record: chains from the same commitment along the same two ways. The segment part is asked for
--- only where the entry parts are the same
+-- strings to hold against those of a record: chains from the same commitment along the same two ways. The segment part
+-- is asked for only where the entry parts are the same
 pub record Beside (terms : DealTerms) (x : Fields) (us ts : List (List ℕ)) : Type 0 where
   pub entry : Chain (terms .commitment) (entrySides (terms .size) (x .place)) us
   pub segment : entryStrings (terms .size) x ≡ us
@@ -91,6 +92,7 @@ settles-beside terms x h a us ts b Same f g =
     let d = terms .size in
     let c = terms .commitment in
     let es = entrySides d (x .place) in
+    let ss = segmentSides d (x .offset) (x .size) in
     let e = entry-chain terms x h a in
     let l : length (entryStrings d x) ≡ length us =
     chain-length c es (entryStrings d x) e ∙ sym (chain-length c es us (b .entry)) in
@@ -98,4 +100,4 @@ settles-beside terms x h a us ts b Same f g =
     (λ q. let r = halves (entryStrings d x) us (segmentStrings d x) ts l q in f (r .0) (r .1))
     g
     (two-parts (entryStrings d x) (segmentStrings d x) us ts l (two-chains c es (entryStrings d x) us e (b .entry))
-    (λ q. two-chains c (segmentSides d (x .offset) (x .size)) (segmentStrings d x) ts (segment-chain terms x h a) (b .segment q)))
+    (λ q. two-chains c ss (segmentStrings d x) ts (segment-chain terms x h a) (b .segment q)))

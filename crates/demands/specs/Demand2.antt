@@ -1,4 +1,5 @@
--- Demand 2: whatever is built from a kept entry is accepted against its deal's commitment and size; a segment already kept is never booked again in that deal.
+-- Demand 2: whatever is built from a kept entry is accepted against its deal's commitment and size; a segment already
+-- kept is never booked again in that deal.
 use mathlib.Core.Path.{_≡_, refl, sym, ap, _∙_}
 use mathlib.Core.Bool.{Bool, true, false}
 use Prim.Native.Nat.{ℕ, zero, suc, _≤_}
@@ -24,19 +25,20 @@ use Rattle.rules.specs.Refusals.{firstRefusal, unlessRefused}
 use Rattle.record.specs.Form.{encode}
 use Rattle.build.specs.declared.BuildAnswer.{BuildAnswer}
 use Rattle.lent.specs.LentDeal.{LentDeal, lentDeal, dealSize}
-use Rattle.build.specs.Build.{buildRules, termsOf, fieldsFor, Building, built, notBuilt, recordAt, answerFor, outputFor, buildAnswer, buildOutput}
+use Rattle.build.specs.Build.{buildRules, termsOf, fieldsFor, Building, built, notBuilt, recordAt}
+use Rattle.build.specs.Build.{answerFor, outputFor, buildAnswer, buildOutput}
 use Rattle.booking.specs.Booking.{bookAnswer, bookedDeal}
 use Rattle.booking.specs.Run.{runBookings}
 use Rattle.booking.specs.NeverAgain.{never-again, kept-for-good}
 use Rattle.build.specs.BuildLaws.{build-means, commitment-length, built-parses, built-accepted}
 
 -- for any source of nodes that is a tree over the deal
-pub built-checks : (deal : LentDeal) → IsTree (deal .nodes) (deal .bytes) (dealLevel (dealSize deal)) → Bytes (deal .bytes) → (place : ℕ) (r : List ℕ)
-    → recordAt deal place ≡ built r → checkOf (termsOf deal) r ≡ 0
+pub built-checks : (deal : LentDeal) → IsTree (deal .nodes) (deal .bytes) (dealLevel (dealSize deal))
+    → Bytes (deal .bytes) → (place : ℕ) (r : List ℕ) → recordAt deal place ≡ built r → checkOf (termsOf deal) r ≡ 0
 built-checks deal t b place r e =
     let m = build-means deal place r e in
-    means-check (termsOf deal) r (fieldsFor deal (entryAt (deal .bytes) place) place) (commitment-length deal t) (lent-size (dealSize deal) (m .lent) .allowed)
-    (built-parses deal t b place r m) (built-accepted deal t b place r m)
+    means-check (termsOf deal) r (fieldsFor deal (entryAt (deal .bytes) place) place) (commitment-length deal t)
+    (lent-size (dealSize deal) (m .lent) .allowed) (built-parses deal t b place r m) (built-accepted deal t b place r m)
 
 -- building never refuses with 0
 no-zero : (code : ℕ) (r : List ℕ) → unlessRefused code notBuilt (built r) ≡ notBuilt 0 → ⊥
@@ -44,33 +46,47 @@ no-zero zero r e = let z : _≡_ {A = ℕ} 0 1 = cc in omega arith
 no-zero (suc code) r e = let z : suc code ≡ 0 = cc in omega arith
 
 -- what stands in the output after code 0 is the record
-written : (x : Building) (out : List ℕ) → (x ≡ notBuilt 0 → ⊥) → answerFor x out .code ≡ 0 → x ≡ built (part (outputFor x out) 0 (answerFor x out .length))
+written : (x : Building) (out : List ℕ) → (x ≡ notBuilt 0 → ⊥) → answerFor x out .code ≡ 0
+    → x ≡ built (part (outputFor x out) 0 (answerFor x out .length))
 written (notBuilt code) out n e = absurd (n (ap notBuilt e))
 written (built r) out n e = go (leb (length r) (length out)) refl e
   where
-    go : (b : Bool) → leb (length r) (length out) ≡ b → choose {A = BuildAnswer} b (record { code = 0; length = length r }) (record { code = 12; length = 0 }) .code ≡ 0
-        → built r ≡ built (part (choose b (splice out 0 r) out) 0 (choose {A = BuildAnswer} b (record { code = 0; length = length r }) (record { code = 12; length = 0 }) .length))
-    go true q f = ap built (sym (part-written out 0 r (let h : length r ≤ length out = leb-true (length r) (length out) q in omega arith)))
+    go : (b : Bool) → leb (length r) (length out) ≡ b
+        → let answer : BuildAnswer =
+        choose b (record { code = 0; length = length r }) (record { code = 12; length = 0 }) in
+        answer .code ≡ 0 → built r ≡ built (part (choose b (splice out 0 r) out) 0 (answer .length))
+    go true q f =
+        let h : length r ≤ length out = leb-true (length r) (length out) q in
+        ap built (sym (part-written out 0 r (omega arith)))
     go false q f = absurd (omega arith)
 
--- Demand 2. Where building at an entry place of a deal answers 0, the check accepts what it wrote, against the deal's commitment and size.
-pub built-is-accepted : (deal : List ℕ) → Bytes deal → (place : ℕ) (out : List ℕ) → buildAnswer (lentDeal deal) place out .code ≡ 0
-    → checkOf (dealTerms (commitmentOf (dealLevel (length deal)) deal) (length deal)) (part (buildOutput (lentDeal deal) place out) 0 (buildAnswer (lentDeal deal) place out .length)) ≡ 0
+-- Demand 2. Where building at an entry place of a deal answers 0, the check accepts what it wrote, against the deal's
+-- commitment and size.
+pub built-is-accepted : (deal : List ℕ) → Bytes deal → (place : ℕ) (out : List ℕ)
+    → let answer = buildAnswer (lentDeal deal) place out in
+    answer .code ≡ 0
+    → checkOf (dealTerms (commitmentOf (dealLevel (length deal)) deal) (length deal))
+    (part (buildOutput (lentDeal deal) place out) 0 (answer .length)) ≡ 0
 unfolding buildAnswer buildOutput recordAt
 built-is-accepted deal b place out e =
     let x = recordAt (lentDeal deal) place in
     let r = part (outputFor x out) 0 (answerFor x out .length) in
-    let w : x ≡ built r = written x out (no-zero (firstRefusal (buildRules (lentDeal deal) place)) (encode (fieldsFor (lentDeal deal) (entryAt deal place) place))) e in
+    let y = fieldsFor (lentDeal deal) (entryAt deal place) place in
+    let n = no-zero (firstRefusal (buildRules (lentDeal deal) place)) (encode y) in
+    let w : x ≡ built r = written x out n e in
     let m = build-means (lentDeal deal) place r w in
     let p = lent-size (length deal) (m .lent) .deal .is-power in
     ap (λ (c : List ℕ). checkOf (dealTerms c (length deal)) r) (sym (top-node deal (dealLevel (length deal)) p))
     ∙ built-checks (lentDeal deal) (run-tree deal (dealLevel (length deal)) p) b place r w
 
--- Demand 2. A segment that was booked with code 0 gets 15, with the same offset and entry place, whatever is booked in between.
+-- Demand 2. A segment that was booked with code 0 gets 15, with the same offset and entry place, whatever is booked in
+-- between.
 pub never-booked-again : (deal segment : List ℕ) → bookAnswer deal segment .code ≡ 0 → (later : List (List ℕ))
-    → bookAnswer (runBookings (bookedDeal deal segment) later) segment ≡ record { code = 15; offset = bookAnswer deal segment .offset; place = bookAnswer deal segment .place }
+    → bookAnswer (runBookings (bookedDeal deal segment) later) segment
+    ≡ record { code = 15; offset = bookAnswer deal segment .offset; place = bookAnswer deal segment .place }
 never-booked-again = never-again
 
 -- and one that a deal keeps to begin with goes on getting 15
-pub kept-never-booked : (deal segment : List ℕ) (later : List (List ℕ)) → bookAnswer deal segment .code ≡ 15 → bookAnswer (runBookings deal later) segment ≡ bookAnswer deal segment
+pub kept-never-booked : (deal segment : List ℕ) (later : List (List ℕ)) → bookAnswer deal segment .code ≡ 15
+    → bookAnswer (runBookings deal later) segment ≡ bookAnswer deal segment
 kept-never-booked = kept-for-good

@@ -22,25 +22,36 @@ use Rattle.demands.specs.BuildsExactlyLaws.{builds-exactly, exactly-buil
 use Rattle.demands.specs.TwoRecords.{two-records}
 use Rattle.demands.specs.WithDeal.{with-deal}
 
--- Demand 3, two records. For one deal commitment and size, two accepted records naming the same entry place settle to 0 exactly when they are the
--- same bytes; otherwise to 17, and the two strings of the answer are different, 64 bytes long and have one node hash.
+-- Demand 3, two records. For one deal commitment and size, two accepted records naming the same entry place settle to 0
+-- exactly when they are the same bytes; otherwise to 17, and the two strings of the answer are different, 64 bytes long
+-- and have one node hash.
 pub records-settle : (commitment : List ℕ) (size : ℕ) (r s : List ℕ) → Bytes r → Bytes s
-    → checkOf (dealTerms commitment size) r ≡ 0 → checkOf (dealTerms commitment size) s ≡ 0 → placeIn (parse r) ≡ placeIn (parse s)
+    → checkOf (dealTerms commitment size) r ≡ 0 → checkOf (dealTerms commitment size) s ≡ 0
+    → placeIn (parse r) ≡ placeIn (parse s)
     → Settles (r ≡ s) (settleRecords (dealTerms commitment size) r s)
 records-settle commitment size r s br bs cr cs at = two-records (dealTerms commitment size) r s br bs cr cs at
 
 -- a statement that holds exactly where another does is settled by the same answer
 same-statement : (P Q : Type 0) (a : Settled) → (P → Q) → (Q → P) → Settles P a → Settles Q a
 same-statement P Q a f g s =
-    record { code-is = s .code-is; zero-if = λ q. s .zero-if (g q); if-zero = λ e. f (s .if-zero e); else-pair = λ n. s .else-pair (λ p. n (f p)) }
+    record {
+      code-is = s .code-is;
+      zero-if = λ q. s .zero-if (g q);
+      if-zero = λ e. f (s .if-zero e);
+      else-pair = λ n. s .else-pair (λ p. n (f p));
+    }
 
--- Demand 3, a record with a deal in hand that gets neither 2 nor 11. A record accepted against the deal's commitment and size settles to 0 exactly when
--- building at its entry place, given enough output, answers 0 and writes exactly that record; otherwise to 17 and such a pair.
-pub record-settles-with-deal : (deal r : List ℕ) → Bytes deal → Bytes r → lentSizeAllowed (length deal) ≡ true → noStrayBits deal ≡ true
+-- Demand 3, a record with a deal in hand that gets neither 2 nor 11. A record accepted against the deal's commitment
+-- and size settles to 0 exactly when building at its entry place, given enough output, answers 0 and writes exactly
+-- that record; otherwise to 17 and such a pair.
+pub record-settles-with-deal : (deal r : List ℕ) → Bytes deal → Bytes r → lentSizeAllowed (length deal) ≡ true
+    → noStrayBits deal ≡ true
     → checkOf (dealTerms (commitmentOf (dealLevel (length deal)) deal) (length deal)) r ≡ 0
     → Settles (BuildsExactly (lentDeal deal) (placeIn (parse r)) r) (settleWithDeal (lentDeal deal) r)
 record-settles-with-deal deal r bd br l c k =
-    let p = lent-size (length deal) l .deal .is-power in
-    same-statement (recordAt (lentDeal deal) (placeIn (parse r)) ≡ built r) (BuildsExactly (lentDeal deal) (placeIn (parse r)) r) (settleWithDeal (lentDeal deal) r)
-    (builds-exactly (lentDeal deal) (placeIn (parse r)) r) (exactly-builds (lentDeal deal) (placeIn (parse r)) r)
-    (with-deal deal r bd l c br (ap (λ (z : List ℕ). checkOf (dealTerms z (length deal)) r) (top-node deal (dealLevel (length deal)) p) ∙ k))
+    let own = lentDeal deal in
+    let place = placeIn (parse r) in
+    let top = top-node deal (dealLevel (length deal)) (lent-size (length deal) l .deal .is-power) in
+    same-statement (recordAt own place ≡ built r) (BuildsExactly own place r) (settleWithDeal own r)
+    (builds-exactly own place r) (exactly-builds own place r)
+    (with-deal deal r bd l c br (ap (λ (z : List ℕ). checkOf (dealTerms z (length deal)) r) top ∙ k))

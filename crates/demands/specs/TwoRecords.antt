@@ -10,7 +10,7 @@ use Rattle.paths.specs.Chain.{Chain}
 use Rattle.paths.specs.PathLaws.{same-strings}
 use Rattle.paths.specs.DealStarts.{segmentStart}
 use Rattle.sizes.specs.Sizes.{segmentPathLevels}
-use Rattle.record.specs.Form.{Fields, parsed, parse, encode}
+use Rattle.record.specs.Form.{Fields, fields, parsed, parse, encode}
 use Rattle.record.specs.FormLaws.{Sized, parse-canonical}
 use Rattle.record.specs.Check.{DealTerms, checkOf}
 use Rattle.record.specs.CheckLaws.{Accepted, check-means}
@@ -20,12 +20,20 @@ use Rattle.settle.specs.EntryStringsLaws.{same-entry}
 use Rattle.demands.specs.Settles.{Settles}
 use Rattle.demands.specs.Chains.{entrySides, segmentSides, entry-chain, segment-chain, Beside, settles-beside}
 
-module _ (terms : DealTerms) (x y : Fields) (hx : Sized x) (hy : Sized y) (ax : Accepted terms x) (ay : Accepted terms y)
-    (at : x .place ≡ y .place) where
+module _ (terms : DealTerms) (x y : Fields) (hx : Sized x) (hy : Sized y) (ax : Accepted terms x)
+    (ay : Accepted terms y) (at : x .place ≡ y .place) where
   -- where the entry strings are the same, the two records name one segment
   named : entryStrings (terms .size) x ≡ entryStrings (terms .size) y
       → (x .commitment ≡ y .commitment) × (x .offset ≡ y .offset) × (x .size ≡ y .size)
   named e = same-fields x y hx hy (same-entry terms x y ax ay at e .1)
+
+  same-way : entryStrings (terms .size) x ≡ entryStrings (terms .size) y
+      → Chain (terms .commitment) (segmentSides (terms .size) (x .offset) (x .size)) (segmentStrings (terms .size) y)
+  same-way e =
+      let f = named e in
+      let d = terms .size in
+      subst (λ (bs : List Bool). Chain (terms .commitment) bs (segmentStrings d y))
+      (λ i. segmentSides d (sym (f .1) i) (sym (f .2) i)) (segment-chain terms y hy ay)
 
   beside : Beside terms x (entryStrings (terms .size) y) (segmentStrings (terms .size) y)
   beside =
@@ -33,10 +41,7 @@ module _ (terms : DealTerms) (x y : Fields) (hx : Sized x) (hy : Sized y) (ax : 
       let d = terms .size in
       record {
         entry = subst (λ (p : ℕ). Chain c (entrySides d p) (entryStrings d y)) (sym at) (entry-chain terms y hy ay);
-        segment = λ e.
-            let f = named e in
-            subst (λ (bs : List Bool). Chain c bs (segmentStrings d y)) (λ i. segmentSides d (sym (f .1) i) (sym (f .2) i))
-            (segment-chain terms y hy ay);
+        segment = same-way;
       }
 
   same-segment : entryStrings (terms .size) x ≡ entryStrings (terms .size) y
@@ -56,7 +61,7 @@ module _ (terms : DealTerms) (x y : Fields) (hx : Sized x) (hy : Sized y) (ax : 
       let f = named e in
       let s = same-segment e g in
       let t = same-entry terms x y ax ay at e .0 in
-      λ i. record { commitment = f .0 i; offset = f .1 i; size = f .2 i; place = at i; segmentPath = s i; entryPath = t i }
+      λ i. fields (f .0 i) (f .1 i) (f .2 i) (at i) (s i) (t i)
 
 pub two-records : (terms : DealTerms) (r s : List ℕ) → Bytes r → Bytes s → checkOf terms r ≡ 0 → checkOf terms s ≡ 0
     → placeIn (parse r) ≡ placeIn (parse s) → Settles (r ≡ s) (settleRecords terms r s)

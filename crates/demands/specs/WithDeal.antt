@@ -27,8 +27,8 @@ use Rattle.record.specs.CheckLaws.{Accepted, check-means}
 use Rattle.lent.specs.LentDeal.{LentDeal, lentDeal, dealSize}
 use Rattle.lent.specs.LentDealLaws.{none-refusal}
 use Rattle.build.specs.Build.{termsOf, segmentPathOf, entryPathOf, fieldsFor, built, recordAt}
-use Rattle.build.specs.BuildLaws.{Builds, build-means, means-build, InDeal, in-deal, segment-start, entry-start, place-node}
-use Rattle.build.specs.BuildLaws.{built-in-deal, built-valid, built-parses}
+use Rattle.build.specs.BuildLaws.{Builds, build-means, means-build, built-in-deal, built-valid, built-parses}
+use Rattle.build.specs.BuildLaws.{InDeal, in-deal, segment-start, entry-start, place-node}
 use Rattle.settle.specs.Settle.{entryStrings, segmentStrings, stringsOf, placeIn}
 use Rattle.settle.specs.Settle.{dealEntryStrings, dealSegmentStrings, dealStrings, settleWithDeal}
 use Rattle.settle.specs.SettleLaws.{named-commitment, named-offset, named-size}
@@ -47,12 +47,14 @@ made-fields deal x h s e =
     ap₂ (segmentPathOf deal) o z ∙ sym s in
     λ i. record { commitment = k i; offset = o i; size = z i; place = x .place; segmentPath = p i; entryPath = sym e i }
 
-module _ (deal : LentDeal) (t : IsTree (deal .nodes) (deal .bytes) (dealLevel (dealSize deal))) (bd : Bytes (deal .bytes))
-    (lent : lentSizeAllowed (dealSize deal) ≡ true) (clean : noStrayBits (deal .bytes) ≡ true) where
+module _ (deal : LentDeal) (t : IsTree (deal .nodes) (deal .bytes) (dealLevel (dealSize deal)))
+    (bd : Bytes (deal .bytes)) (lent : lentSizeAllowed (dealSize deal) ≡ true)
+    (clean : noStrayBits (deal .bytes) ≡ true) where
   module _ (x : Fields) (h : Sized x) (a : Accepted (termsOf deal) x) where
     w : InDeal (dealSize deal) (x .place) (x .offset) (x .size)
     w =
-        in-deal (dealSize deal) (x .place) (x .offset) (x .size) lent (a .place-allowed) (a .size-allowed) (a .offset-allowed)
+        in-deal (dealSize deal) (x .place) (x .offset) (x .size) lent (a .place-allowed) (a .size-allowed)
+        (a .offset-allowed)
 
     -- the deal's own strings are chains from its commitment
     beside : Beside (termsOf deal) x (dealEntryStrings deal x) (dealSegmentStrings deal x)
@@ -129,7 +131,8 @@ module _ (deal : LentDeal) (t : IsTree (deal .nodes) (deal .bytes) (dealLevel (d
       let px : parse r ≡ parsed x = m .1 in
       let k = parse-canonical r x br px in
       rw (none-refusal (deal .bytes) lent clean, cr, px)
-      (settles-beside (termsOf deal) x (k .1) (m .2) (dealEntryStrings deal x) (dealSegmentStrings deal x) (beside x (k .1) (m .2))
+      (settles-beside (termsOf deal) x (k .1) (m .2) (dealEntryStrings deal x) (dealSegmentStrings deal x)
+      (beside x (k .1) (m .2))
       (recordAt deal (x .place) ≡ built r)
       (same-builds x (k .1) (m .2) r (k .0))
       (λ e.
@@ -140,8 +143,8 @@ module _ (deal : LentDeal) (t : IsTree (deal .nodes) (deal .bytes) (dealLevel (d
       subst (λ (z : Fields). stringsOf (dealSize deal) z ≡ dealStrings deal z) (sym j) (built-strings (x .place) r b)))
 
 -- for the nodes worked out from the deal's bytes
-pub with-deal : (deal r : List ℕ) → Bytes deal → lentSizeAllowed (length deal) ≡ true → noStrayBits deal ≡ true → Bytes r
-    → checkOf (termsOf (lentDeal deal)) r ≡ 0
+pub with-deal : (deal r : List ℕ) → Bytes deal → lentSizeAllowed (length deal) ≡ true → noStrayBits deal ≡ true
+    → Bytes r → checkOf (termsOf (lentDeal deal)) r ≡ 0
     → Settles (recordAt (lentDeal deal) (placeIn (parse r)) ≡ built r) (settleWithDeal (lentDeal deal) r)
 with-deal deal r bd l c b k =
     let tree = run-tree deal (dealLevel (length deal)) (lent-size (length deal) l .deal .is-power) in

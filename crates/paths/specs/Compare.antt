@@ -1,5 +1,5 @@
--- Two paths from the same position, compared from the bottom up: what was last seen to differ is the first difference from
--- the top.
+-- Two paths from the same position, compared from the bottom up: what was last seen to differ is the first difference
+-- from the top.
 use mathlib.Core.Bool.{true, false}
 use Prim.Native.Nat.{ℕ, zero, suc, _/_}
 use mathlib.Core.List.{List}
@@ -35,8 +35,8 @@ comparedUp (suc n) p x s y t seen =
     comparedUp n (p / 2) (nodeHash (pairOf p x (take 32 s))) (drop 32 s) (nodeHash (pairOf p y (take 32 t))) (drop 32 t)
     (comparedAbove seen (pairOf p x (take 32 s)) (pairOf p y (take 32 t)))
 
--- the first difference of the strings of two paths from position p, whose lengths tell their levels, with what stands below
--- each
+-- the first difference of the strings of two paths from position p, whose lengths tell their levels, with what stands
+-- below each
 abbrev pub pathsCompared : ℕ → List ℕ → List ℕ → List (List ℕ) → List ℕ → List ℕ → List (List ℕ) → Compared
 pathsCompared p x s vs y t ws =
     compared (firstDifference (pathStrings (length s / 32) x p s vs) (pathStrings (length t / 32) y p t ws))

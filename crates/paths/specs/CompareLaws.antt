@@ -12,8 +12,8 @@ use Rattle.node.specs.Node.{nodeHash}
 use Rattle.paths.specs.Start.{PathStart}
 use Rattle.paths.specs.Path.{pairOf}
 use Rattle.paths.specs.Strings.{pathStrings, stringsFrom}
-use Rattle.paths.specs.Difference.{Difference, same, differ, firstDifference}
-use Rattle.paths.specs.Compare.{compared, equal, unequal, comparedAbove, comparedUp, pathsCompared}
+use Rattle.paths.specs.Difference.{Difference, differ, firstDifference}
+use Rattle.paths.specs.Compare.{compared, unequal, comparedAbove, comparedUp, pathsCompared}
 
 choose-compared : (b : Bool) (d : Difference) (v w : List ℕ)
     → compared (choose b d (differ v w)) ≡ choose b (compared d) (unequal v w)
@@ -55,11 +55,6 @@ module _ (x s : List ℕ) (vs : List (List ℕ)) (y t : List ℕ) (ws : List (Li
       let m : length s / 32 ≡ start .levels = omega arith in
       let n : length t / 32 ≡ start .levels = omega arith in
       ap₂ (λ (i j : ℕ). compared (firstDifference (pathStrings i x p s vs) (pathStrings j y p t ws))) m n
-
--- nothing to compare
-pub compared-none : compared (firstDifference [] []) ≡ equal
-unfolding firstDifference
-compared-none = refl
 
 -- no difference in two lists of one length: they are the same
 pub no-difference-same : (vs ws : List (List ℕ)) → length vs ≡ length ws

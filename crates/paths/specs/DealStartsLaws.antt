@@ -1,5 +1,4 @@
 -- The two starts lie in the deal's tree.
-use mathlib.Core.Path.{_≡_}
 use Prim.Native.Nat.{ℕ, _≤_, _<_}
 use native.Mathlib.Omega.{arith}
 use Rattle.sizes.specs.Sizes.{dealLevel, segmentLevel}

@@ -7,8 +7,8 @@ use Rattle.rules.specs.Choice.{choose}
 use Rattle.node.specs.Node.{nodeHash}
 use Rattle.paths.specs.Start.{PathStart}
 
--- the 64 bytes that are hashed for the running node at position p and its sibling: an even p puts the running node on the
--- left
+-- the 64 bytes that are hashed for the running node at position p and its sibling: an even p puts the running node on
+-- the left
 unfoldable pub pairOf : ℕ → List ℕ → List ℕ → List ℕ
 pairOf p node sibling = choose (eqb (p % 2) 0) (node ++ sibling) (sibling ++ node)
 

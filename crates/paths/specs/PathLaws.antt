@@ -72,8 +72,8 @@ pub strings-length : (start : PathStart) (x s : List ℕ) (ws : List (List ℕ))
     → length (stringsFrom start x s ws) ≡ start .levels + length ws
 strings-length start x s ws = length-strings (start .levels) (start .position) x s ws
 
--- what two paths with the same strings have in common: the siblings, what stands below, and, where there is a level, the
--- node
+-- what two paths with the same strings have in common: the siblings, what stands below, and, where there is a level,
+-- the node
 pub record SamePath (levels : ℕ) (x y s t : List ℕ) (vs ws : List (List ℕ)) : Type 0 where
   pub same-siblings : s ≡ t
   pub same-below : vs ≡ ws

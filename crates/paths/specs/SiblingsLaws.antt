@@ -1,5 +1,5 @@
--- A source that is a tree: its own paths lead to its top node, their strings are its pairs, and no sibling above the lowest
--- level has stray bits. Once over the height.
+-- A source that is a tree: its own paths lead to its top node, their strings are its pairs, and no sibling above the
+-- lowest level has stray bits. Once over the height.
 use mathlib.Core.Path.{_≡_, refl, sym, ap, ap₂, subst, _∙_}
 use mathlib.Core.Bool.{Bool, true}
 use Prim.Native.Nat.{ℕ, zero, suc, _+_, _-_, _*_, _/_, _%_, _^_, _<_}
@@ -142,7 +142,7 @@ module _ (nodes : NodeSource) (run : List ℕ) (top : ℕ) (t : IsTree nodes run
       ∙ strings-up n (suc i) (q / 2) ((nodes i (q / 2 * 2) ++ nodes i (q / 2 * 2 + 1)) ∷ ws) (above w)
 
   module _ (start : PathStart) (w : InTree top start) where
-    pub node-length : length (nodeFrom nodes start) ≡ 32
+    node-length : length (nodeFrom nodes start) ≡ 32
     node-length = t .sized (start .levels) (start .level) (start .position) (w .up) (w .among)
 
     -- the source's own path leads to its top node

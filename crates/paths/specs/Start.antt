@@ -1,5 +1,5 @@
--- Where a Merkle path starts (document 01, "Nodes and trees"): a node of a tree, by its level from the bottom and its position
--- there, and the number of levels above it, which is the number of siblings of the path.
+-- Where a Merkle path starts (document 01, "Nodes and trees"): a node of a tree, by its level from the bottom and its
+-- position there, and the number of levels above it, which is the number of siblings of the path.
 use mathlib.Core.Path.{_≡_}
 use Prim.Native.Nat.{ℕ, _+_, _^_, _<_}
 

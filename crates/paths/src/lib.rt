@@ -16,7 +16,7 @@ pub struct Compared {
 }
 
 // The 64 bytes that are hashed for a node and its sibling: an even position puts the node on the left.
-pub fn pair(position: u64, node: [u8; 32], sibling: [u8; 32]) -> [u8; 64]
+fn pair(position: u64, node: [u8; 32], sibling: [u8; 32]) -> [u8; 64]
     ensures { λ r. ⌜ r ≡ pairOf position node sibling ⌝ }
 {
     if position % 2 == 0 {
@@ -95,7 +95,7 @@ pub fn compare_paths(
 }
 
 // The sibling's position.
-pub fn sibling_of(position: usize) -> usize
+fn sibling_of(position: usize) -> usize
     ensures { λ r. ⌜ r ≡ siblingOf position ⌝ }
 {
     position ^ 1

@@ -8,7 +8,8 @@ use Rattle.settle.specs.SettleLaws.{settledFrom, orCompared}
 use Rattle.settle.specs.declared.Settled.{Settled}
 
 -- a code other than 0 is the answer's
-pub refused-with : {A : Type 0} (code : ℕ) (refused : ℕ → A) (done : A) → (code ≡ 0 → ⊥) → refused code ≡ unlessRefused code refused done
+pub refused-with : {A : Type 0} (code : ℕ) (refused : ℕ → A) (done : A) → (code ≡ 0 → ⊥)
+    → refused code ≡ unlessRefused code refused done
 refused-with zero refused done h = absurd (h refl)
 refused-with (suc code) refused done h = refl
 
@@ -20,7 +21,8 @@ module _ (entries segments : Compared) (answer : Settled) (e : settledFrom (orCo
       let q : orCompared entries segments ≡ entries = rw t in
       ap settledFrom (p ∙ sym q) ∙ e
 
-  pub segments-decide : (found : Compared) → found ≡ entries → found .differs ≡ false → {rest : Compared} → rest ≡ segments → settledFrom rest ≡ answer
+  pub segments-decide : (found : Compared) → found ≡ entries → found .differs ≡ false → {rest : Compared}
+      → rest ≡ segments → settledFrom rest ≡ answer
   segments-decide found p d r =
       let t : entries .differs ≡ false = sym (ap (λ (c : Compared). c .differs) p) ∙ d in
       let q : orCompared entries segments ≡ segments = rw t in

@@ -39,7 +39,8 @@ module _ (deal : List ℕ) (lent : lentSizeAllowed (length deal) ≡ true) (plac
   own-node : nodeHash (entryAt deal place) ≡ nodeAt deal 1 (entryPosition place)
   own-node =
       let high : 4 ≤ dealLevel (length deal) = lent-size (length deal) lent .deal .level-low in
-      entry-node (nodeAt deal) deal (dealLevel (length deal)) place tree (there .at-position) (omega arith) (there .position-in)
+      entry-node (nodeAt deal) deal (dealLevel (length deal)) place tree (there .at-position) (omega arith)
+      (there .position-in)
 
   -- it leads from the 64 bytes at the place to the deal's commitment
   pub entry-leads : (path : List ℕ) → path ≡ entryPathOf (lentDeal deal) place

@@ -1,5 +1,5 @@
--- What settling compares (document 01, "Booking, finding, building, settling": settle): the strings of two entry paths, or of two
--- segment paths, from one position.
+-- What settling compares (document 01, "Booking, finding, building, settling": settle): the strings of two entry paths,
+-- or of two segment paths, from one position.
 use Prim.Native.Nat.{ℕ}
 use mathlib.Core.List.{List, [], _∷_}
 use Rattle.node.specs.Node.{nodeHash}

@@ -1,4 +1,5 @@
--- The entry strings of two accepted records of one entry place: as many on each side, and where they are the same so are the entries.
+-- The entry strings of two accepted records of one entry place: as many on each side, and where they are the same so
+-- are the entries.
 use mathlib.Core.Path.{_≡_, sym, ap, _∙_}
 use Prim.Native.Nat.{ℕ}
 use mathlib.Core.List.{[], _∷_}
@@ -20,12 +21,13 @@ entry-strings-length d x y =
 
 -- the same strings: the same siblings and the same entry
 pub same-entry : (terms : DealTerms) (x y : Fields) → Accepted terms x → Accepted terms y → x .place ≡ y .place
-    → entryStrings (terms .size) x ≡ entryStrings (terms .size) y → (x .entryPath ≡ y .entryPath) × (entryFor x ≡ entryFor y)
+    → entryStrings (terms .size) x ≡ entryStrings (terms .size) y
+    → (x .entryPath ≡ y .entryPath) × (entryFor x ≡ entryFor y)
 unfolding entryStrings
 same-entry terms x y ax ay at e =
     let start = entryStart (terms .size) in
-    let r = same-strings (start (x .place)) (nodeHash (entryFor x)) (nodeHash (entryFor y)) (x .entryPath) (y .entryPath)
-    (entryFor x ∷ []) (entryFor y ∷ []) (node-hash-length (entryFor x)) (node-hash-length (entryFor y))
+    let r = same-strings (start (x .place)) (nodeHash (entryFor x)) (nodeHash (entryFor y)) (x .entryPath)
+    (y .entryPath) (entryFor x ∷ []) (entryFor y ∷ []) (node-hash-length (entryFor x)) (node-hash-length (entryFor y))
     (ax .entry-path-length) (ay .entry-path-length)
     (e ∙ ap (λ (p : ℕ). stringsFrom (start p) (nodeHash (entryFor y)) (y .entryPath) (entryFor y ∷ [])) (sym at)) in
     let q : entryFor x ∷ [] ≡ entryFor y ∷ [] = r .same-below in

@@ -1,6 +1,7 @@
 pub mod Settle
+pub mod AcceptedRecord
 pub mod Comparing
 pub mod SettleLaws
-pub mod FieldsOfLaws
+pub mod AcceptedRecordLaws
 pub mod ComparingLaws
 pub mod EntryStringsLaws

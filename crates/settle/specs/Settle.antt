@@ -24,7 +24,8 @@ abbrev pub settledBy : Difference → Settled
 settledBy same = notSettled 0
 settledBy (differ left right) = record { code = 17; left = left; right = right }
 
--- a record's strings: those of the entry path from the top down, then the entry itself, then those of the segment path from the top
+-- a record's strings: those of the entry path from the top down, then the entry itself, then those of the segment path
+-- from the top
 unfoldable pub entryStrings : ℕ → Fields → List (List ℕ)
 entryStrings d x = stringsFrom (entryStart d (x .place)) (nodeHash (entryFor x)) (x .entryPath) (entryFor x ∷ [])
 

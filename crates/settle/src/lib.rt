@@ -1,5 +1,5 @@
 // Settling two records, or a record with a deal.
-mod fields; // fields.rt: the fields of a lent record
+mod parsed; // parsed.rt: the entry and the paths of a parsed record
 mod records; // records.rt: two records
 mod strings; // strings.rt: the strings along two paths, compared
 mod with_deal; // with_deal.rt: a record with a deal

@@ -87,8 +87,8 @@ returns c =
     let i = l .loop .i in
     sym
     (l .loop .inv .1
-    ∙ compare-over (length left / 32) i (l .loop .p) (l .loop .a) (drop (i * 32) left) (l .loop .b) (drop (i * 32) right)
-    (l .loop .last) (omega arith))
+    ∙ compare-over (length left / 32) i (l .loop .p) (l .loop .a) (drop (i * 32) left) (l .loop .b)
+    (drop (i * 32) right) (l .loop .last) (omega arith))
 
 pub compare-paths-spec : {M : Type 1} → statement M
 compare-paths-spec =

@@ -27,7 +27,13 @@ returns c =
     let s = a .before .before .before .before in
     let left = now (s .args .left-path) in
     let right = now (s .args .right-path) in
-    simp (c .compare-paths .ensures, y .node-hash2 .ensures, x .node-hash .ensures, a .compare-above .ensures, a .before .no-difference .ensures)
+    simp (
+      c .compare-paths .ensures,
+      y .node-hash2 .ensures,
+      x .node-hash .ensures,
+      a .compare-above .ensures,
+      a .before .no-difference .ensures,
+    )
     (entries-up (s .args .position) left right (s .pre) (s .args .left) (s .args .right))
 
 pub compare-entries-spec : {M : Type 1} → statement M

@@ -14,7 +14,8 @@ returns : tie.Need-returns
 returns c =
     let s = c .before .before .before .before in
     simp (c .compare-paths .ensures, c .before .no-difference .ensures)
-    (segments-up (s .args .position) (now (s .args .left-path)) (now (s .args .right-path)) (s .pre) (s .args .left) (s .args .right))
+    (segments-up (s .args .position) (now (s .args .left-path)) (now (s .args .right-path)) (s .pre) (s .args .left)
+    (s .args .right))
 
 pub compare-segments-spec : {M : Type 1} → statement M
 compare-segments-spec = tie.close (tie.spec no-difference-requires compare-paths-requires returns)

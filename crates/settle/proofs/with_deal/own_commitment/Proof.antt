@@ -30,7 +30,8 @@ returns c =
     let s = e .before .before .before in
     let path = now (s .args .own-path) in
     c .path-root .ensures
-    ∙ ap (λ (node : List ℕ). pathRoot (length path / 32) node (s .args .place / 64) path) (h .node-hash .ensures ∙ ap nodeHash (e .pair-at .ensures))
+    ∙ ap (λ (node : List ℕ). pathRoot (length path / 32) node (s .args .place / 64) path)
+    (h .node-hash .ensures ∙ ap nodeHash (e .pair-at .ensures))
     ∙ entry-leads (now (s .args .deal)) (refusal-none _ (s .pre .0) .0) (s .args .place) (s .pre .1) path (s .pre .2)
 
 pub own-commitment-spec : {M : Type 1} → statement M

@@ -1,7 +1,6 @@
--- 2, 11, the check against the commitment that the deal's own entry path leads to; then the entry parts decide where they differ, and else
--- the segment parts.
+-- 2, 11, the check against the commitment that the deal's own entry path leads to; then the entry parts decide where
+-- they differ, and else the segment parts.
 use mathlib.Core.Path.{_≡_, sym, ap, _∙_, subst}
-use mathlib.Core.Bool.{true}
 use Prim.Native.Nat.{ℕ, _-_, _*_}
 use native.Mathlib.Omega.{arith}
 use mathlib.Core.List.{List}
@@ -16,15 +15,16 @@ use Rattle.sizes.specs.SizesLaws.{lent-size}
 use Rattle.record.specs.Check.{dealTerms, checkOf}
 use Rattle.lent.specs.LentDeal.{lentDeal, dealRefusal}
 use Rattle.build.specs.Build.{termsOf, entryPathOf}
-use Rattle.record.specs.FieldsOf.{fieldsOf}
+use Rattle.settle.specs.AcceptedRecord.{AcceptedRecord}
+use Rattle.settle.specs.AcceptedRecordLaws.{accepted}
 use Rattle.settle.proofs.OwnPath.{OwnPath, path-room, path-written, written-length, written-fits}
 use Rattle.settle.proofs.OwnEntryPath.{entry-path}
-use Rattle.settle.proofs.DealCases.{deal-refused, lent, check-refused, accepted-place, entries-differ, entries-same}
+use Rattle.settle.proofs.DealCases.{deal-refused, lent, check-refused, entries-differ, entries-same}
 use borrow.Author.Needs.{needs}
 use Rattle.settle.proofs.with_deal.settle_with_deal.Statement.{statement}
 use Rattle.settle.proofs.with_deal.settle_with_deal.Tie as tie
 
--- the deal and the record
+-- the deal and the record's bytes
 abbrev deal : tie.Start → List ℕ
 deal s = now (s .args .deal)
 
@@ -38,8 +38,11 @@ start1 c = c .before .before .before .before
 fine : (c : tie.Else1) → dealRefusal (deal (start1 c)) ≡ 0
 fine c = sym (c .before .refusal .ensures) ∙ c .if1 .left
 
+abbrev parsed : tie.After-deal-level → tie.After-parse
+parsed c = c .before .before
+
 abbrev else1 : tie.After-deal-level → tie.Else1
-else1 c = c .before .before
+else1 c = parsed c .before
 
 abbrev start : tie.After-deal-level → tie.Start
 start c = start1 (else1 c)
@@ -56,9 +59,9 @@ start-is c = λ i. pathStart (c .deal-level .ensures i - 1) 1 (entryPosition (pl
 
 own : (c : tie.After-deal-level) → OwnPath (deal (start c)) (path-start c)
 own c =
-    let s = start c in
-    subst (OwnPath (deal s)) (sym (start-is c))
-    (entry-path (deal s) (lent (deal s) (bytes s) (fine (else1 c))) (place c) (c .before .allowed-place .ensures .0))
+    let d = deal (start c) in
+    subst (OwnPath d) (sym (start-is c))
+    (entry-path d (lent d (fine (else1 c))) (place c) (c .before .allowed-place .ensures .0))
 
 abbrev out : tie.After-write-path → List ℕ
 out c = c .write-path .last .1 .1 .1 .1 .0
@@ -68,7 +71,7 @@ level1 c = c .before .before
 
 own-path : (c : tie.After-write-path)
     → let k = level1 c in
-    take (32 * (k .deal-level .result - 1)) (out c) ≡ entryPathOf (lentDeal (deal (start k))) (place k)
+    take (32 * path-start k .levels) (out c) ≡ entryPathOf (lentDeal (deal (start k))) (place k)
 own-path c =
     let k = level1 c in
     path-written (own k) (out c) (c .write-path .ensures) ∙ ap (siblingsFrom (nodeAt (deal (start k)))) (start-is k)
@@ -86,17 +89,20 @@ checked : (c : tie.After-check)
 checked c =
     let s = start (level c) in
     c .check .ensures
-    ∙ ap (λ (node : List ℕ). checkOf (dealTerms node (length (deal s))) (bytes s)) (c .before .before .own-commitment .ensures)
+    ∙ ap (λ (node : List ℕ). checkOf (dealTerms node (length (deal s))) (bytes s))
+    (c .before .before .own-commitment .ensures)
 
-accepted : (c : tie.Else2) → let s = start (level (c .before)) in checkOf (termsOf (lentDeal (deal s))) (bytes s) ≡ 0
-accepted c = sym (checked (c .before)) ∙ c .if2 .left
+-- the record is accepted, and its place is the one chosen
+abbrev level2 : tie.Else2 → tie.After-deal-level
+level2 c = level (c .before)
 
--- an accepted record's place is the one chosen
-place-is : (c : tie.Else2) → place (level (c .before)) ≡ fieldsOf (bytes (start (level (c .before)))) .place
-place-is c =
-    let l = level (c .before) in
-    let s = start l in
-    l .before .allowed-place .ensures .1 (accepted-place (deal s) (bytes s) (fine (else1 l)) (accepted c))
+taken : (c : tie.Else2)
+    → let l = level2 c in
+    AcceptedRecord (termsOf (lentDeal (deal (start l)))) (bytes (start l)) (parsed l .parse .result)
+taken c = record { parsed-is = parsed (level2 c) .parse .ensures; checked = sym (checked (c .before)) ∙ c .if2 .left }
+
+place-is : (c : tie.Else2) → let l = level2 c in place l ≡ parsed l .parse .result .place
+place-is c = level2 c .before .allowed-place .ensures .1 (accepted (taken c) .place-allowed)
 
 refusal-requires : tie.Need-refusal-requires
 refusal-requires c κs = search needs
@@ -110,15 +116,19 @@ returns c =
     let s = f .before .before .before in
     c .not-settled .ensures ∙ deal-refused (deal s) (bytes s) (f .refusal .ensures) (c .before .if1 .taken)
 
+parse-requires : tie.Need-parse-requires
+parse-requires c κs = search needs
+
 allowed-place-requires : tie.Need-allowed-place-requires
 allowed-place-requires c κs =
-    let s = start1 c in
-    lent-size (length (deal s)) (lent (deal s) (bytes s) (fine c)) .allowed
+    let d = deal (start1 (c .before)) in
+    lent-size (length d) (lent d (fine (c .before))) .allowed
 
 deal-level-requires : tie.Need-deal-level-requires
 deal-level-requires c κs =
-    let s = start1 (c .before) in
-    lent-size (length (deal s)) (lent (deal s) (bytes s) (fine (c .before))) .allowed
+    let e = c .before .before in
+    let d = deal (start1 e) in
+    lent-size (length d) (lent d (fine e)) .allowed
 
 sub-levels : tie.Need-sub-levels
 sub-levels c = omega (arith, own c .inside .up)
@@ -136,7 +146,9 @@ array-share-prefix-path : tie.Need-array-share-prefix-path
 array-share-prefix-path c = let w = c .before in written-fits (own (level1 w)) (out w) (w .write-path .ensures)
 
 slice-aggregate-own-path : tie.Need-slice-aggregate-own-path
-slice-aggregate-own-path c = let w = c .before .before in written-length (own (level1 w)) (out w) (w .write-path .ensures)
+slice-aggregate-own-path c =
+    let w = c .before .before in
+    written-length (own (level1 w)) (out w) (w .write-path .ensures)
 
 own-commitment-requires : tie.Need-own-commitment-requires
 own-commitment-requires c κs =
@@ -162,9 +174,9 @@ returns-2 c =
 
 compare-deal-entry-requires : tie.Need-compare-deal-entry-requires
 compare-deal-entry-requires c κs =
-    let l = level (c .before) in
+    let l = level2 c in
     let p = own-path (written (c .before)) ∙ ap (entryPathOf (lentDeal (deal (start l)))) (place-is c) in
-    (fine (else1 l), accepted c, p)
+    (fine (else1 l), taken c, p)
 
 settled-from-requires : tie.Need-settled-from-requires
 settled-from-requires c κs = search needs
@@ -173,14 +185,13 @@ returns-3 : tie.Need-returns-3
 returns-3 c =
     let f = c .before .before in
     let a = f .before in
-    let e = else1 (level (a .before)) in
-    let s = start1 e in
+    let e = else1 (level2 a) in
     c .settled-from .ensures
-    ∙ entries-differ (deal s) (bytes s) (fine e) (accepted a) (f .compare-deal-entry .result) (f .compare-deal-entry .ensures)
-    (c .before .if3 .taken)
+    ∙ entries-differ (deal (start1 e)) (fine e) (taken a) (f .compare-deal-entry .result)
+    (f .compare-deal-entry .ensures) (c .before .if3 .taken)
 
 compare-deal-segment-requires : tie.Need-compare-deal-segment-requires
-compare-deal-segment-requires c κs = let a = c .before .before in (fine (else1 (level (a .before))), accepted a)
+compare-deal-segment-requires c κs = let a = c .before .before in (fine (else1 (level2 a)), taken a)
 
 settled-from-requires-2 : tie.Need-settled-from-requires-2
 settled-from-requires-2 c κs = search needs
@@ -190,11 +201,10 @@ returns-4 c =
     let n = c .before .before in
     let f = n .before in
     let a = f .before in
-    let e = else1 (level (a .before)) in
-    let s = start1 e in
+    let e = else1 (level2 a) in
     c .settled-from2 .ensures
-    ∙ entries-same (deal s) (bytes s) (fine e) (accepted a) (f .compare-deal-entry .result) (f .compare-deal-entry .ensures)
-    (n .if3 .left) (c .before .compare-deal-segment .ensures)
+    ∙ entries-same (deal (start1 e)) (fine e) (taken a) (f .compare-deal-entry .result)
+    (f .compare-deal-entry .ensures) (n .if3 .left) (c .before .compare-deal-segment .ensures)
 
 pub settle-with-deal-spec : {M : Type 1} → statement M
 settle-with-deal-spec =
@@ -203,6 +213,7 @@ settle-with-deal-spec =
     refusal-requires
     not-settled-requires
     returns
+    parse-requires
     allowed-place-requires
     deal-level-requires
     sub-levels
