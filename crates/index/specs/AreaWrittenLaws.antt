@@ -1,5 +1,5 @@
--- A deal with bytes below its index replaced: they stand at their offset, and nothing else changes of the deal's length,
--- of the bytes elsewhere, of the slots and their rows, and of what is kept in areas apart from them.
+-- A deal with bytes below its index replaced: they stand at their offset, and nothing else changes of the deal's
+-- length, of the bytes elsewhere, of the slots and their rows, and of what is kept in areas apart from them.
 use mathlib.Core.Path.{_≡_, ap, ap₂, _∙_}
 use mathlib.Core.Bool.{true}
 use mathlib.Core.Logic.{_⊎_, ⊎-elim}

@@ -1,5 +1,5 @@
--- A deal with one slot replaced: that slot's row and whether it is kept are as the new bytes say, and nothing else changes
--- of the deal's length, of the bytes below the index, of the other slots' rows, and of what they keep.
+-- A deal with one slot replaced: that slot's row and whether it is kept are as the new bytes say, and nothing else
+-- changes of the deal's length, of the bytes below the index, of the other slots' rows, and of what they keep.
 use mathlib.Core.Path.{_≡_, sym, ap, ap₂, _∙_}
 use mathlib.Core.Bool.{true, _&&_}
 use mathlib.Core.Logic.{_≢_}
