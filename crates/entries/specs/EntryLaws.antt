@@ -76,8 +76,10 @@ unfolding entryOf entryBody commitmentIn offsetIn sizeIn checksumRight
 valid-is entry l b e =
     let o = bytes-of-number 8 (part entry 32 8) (part-length entry 32 8 (omega arith)) (bytes-part entry 32 8 b) in
     let z = bytes-of-number 8 (part entry 40 8) (part-length entry 40 8 (omega arith)) (bytes-part entry 40 8 b) in
-    let body : part entry 0 32 ++ (part entry 32 8 ++ part entry 40 8) ≡ part entry 0 48 = ap (λ (x : List ℕ). part entry 0 32 ++ x) (part-append entry 32 8 8) ∙ part-append entry 0 32 16 in
-    let s : checksumOf (part entry 0 48) ≡ part entry 48 16 = same-true (checksumOf (part entry 0 48)) (part entry 48 16) e in
+    let body : part entry 0 32 ++ (part entry 32 8 ++ part entry 40 8) ≡ part entry 0 48 =
+    ap (λ (x : List ℕ). part entry 0 32 ++ x) (part-append entry 32 8 8) ∙ part-append entry 0 32 16 in
+    let s : checksumOf (part entry 0 48) ≡ part entry 48 16 =
+    same-true (checksumOf (part entry 0 48)) (part entry 48 16) e in
     ap₂ (λ (x y : List ℕ). (part entry 0 32 ++ (x ++ y)) ++ checksumOf (part entry 0 32 ++ (x ++ y))) o z
     ∙ ap (λ (x : List ℕ). x ++ checksumOf x) body
     ∙ ap (λ (x : List ℕ). part entry 0 48 ++ x) s

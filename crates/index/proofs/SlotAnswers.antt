@@ -38,7 +38,9 @@ module _ (d : ℕ) (entry : List ℕ) where
 -- whether the node over an answer's segment is the commitment that it names
 abbrev pub nodeTest : NodeSource → Row → Bool
 nodeTest nodes answer =
-    sameBytes (nodes (segmentLevel (answer .size)) (segmentPosition (answer .offset) (answer .size))) (answer .commitment)
+    sameBytes
+    (nodes (segmentLevel (answer .size)) (segmentPosition (answer .offset) (answer .size)))
+    (answer .commitment)
 
 module _ (nodes : NodeSource) (d : ℕ) (entry : List ℕ) {answer : Row} (e : answer ≡ rowOf d entry) where
   -- an entry that does not stand is not kept

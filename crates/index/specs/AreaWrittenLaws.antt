@@ -1,6 +1,6 @@
--- A deal with bytes below its index replaced: they stand at their offset, and nothing else changes of the deal's length, of the bytes
--- elsewhere, of the slots and their rows, and of what is kept in areas apart from them.
-use mathlib.Core.Path.{_≡_, sym, ap, ap₂, _∙_}
+-- A deal with bytes below its index replaced: they stand at their offset, and nothing else changes of the deal's
+-- length, of the bytes elsewhere, of the slots and their rows, and of what is kept in areas apart from them.
+use mathlib.Core.Path.{_≡_, ap, ap₂, _∙_}
 use mathlib.Core.Bool.{true}
 use mathlib.Core.Logic.{_⊎_, ⊎-elim}
 use Prim.Native.Nat.{ℕ, _+_, _*_, _≤_, _<_}
@@ -46,15 +46,18 @@ module _ (deal : List ℕ) (offset : ℕ) (bytes : List ℕ) (t : DealSize (leng
       → part (withArea deal offset bytes) at n ≡ part deal at n
   unfolding withArea
   with-area-other at n k apart =
-      ⊎-elim (λ before. part-before deal offset bytes fits at n before) (λ after. part-after deal offset bytes fits at n after k)
+      ⊎-elim
+      (λ before. part-before deal offset bytes fits at n before)
+      (λ after. part-after deal offset bytes fits at n after k)
       apart
 
   -- slots and rows
   pub with-area-slot : (j : ℕ) → j < entryCount (length deal) → slotAt (withArea deal offset bytes) j ≡ slotAt deal j
   unfolding withArea slotPlace
   with-area-slot j g =
+      let within = slot-within (length deal) j t g in
       ap (λ (d : ℕ). part (withArea deal offset bytes) (slotPlace d j) 64) with-area-length
-      ∙ part-after deal offset bytes fits (slotPlace (length deal) j) 64 (omega (arith, h)) (slot-within (length deal) j t g)
+      ∙ part-after deal offset bytes fits (slotPlace (length deal) j) 64 (omega (arith, h)) within
 
   pub with-area-row : (j : ℕ) → j < entryCount (length deal) → rowAt (withArea deal offset bytes) j ≡ rowAt deal j
   with-area-row j g = ap₂ rowOf with-area-length (with-area-slot j g)
@@ -64,10 +67,12 @@ module _ (deal : List ℕ) (offset : ℕ) (bytes : List ℕ) (t : DealSize (leng
       → Apart (rowOffset (rowAt deal j)) (rowArea (rowAt deal j)) offset (length bytes)
       → keptAt (lentDeal (withArea deal offset bytes)) j ≡ keptAt (lentDeal deal) j
   with-area-kept j g apart =
-      let ends = row-ends (length deal) (slotAt deal j) t in
+      let row = rowAt deal j in
+      let ends : rowOffset row + rowArea row ≤ length deal =
+      omega (arith, row-ends (length deal) (slotAt deal j) t, index-start-le (length deal)) in
       ap₂ (kept (nodeAt (withArea deal offset bytes))) with-area-length (with-area-slot j g)
       ∙ kept-same (length deal) (slotAt deal j) t deal (withArea deal offset bytes)
-      (with-area-other (rowOffset (rowAt deal j)) (rowArea (rowAt deal j)) (omega (arith, ends, index-start-le (length deal))) apart)
+      (with-area-other (rowOffset row) (rowArea row) ends apart)
 
   -- stray bits: none come in but by the new bytes, where these are whole nodes
   pub with-area-clear : (q n : ℕ) → offset ≡ q * 32 → length bytes ≡ n * 32

@@ -1,5 +1,5 @@
--- Inspecting an entry place: whether the slot there is free, holds a standing entry, or a kept one (document 01, "Entries and
--- the index area").
+-- Inspecting an entry place: whether the slot there is free, holds a standing entry, or a kept one (document 01,
+-- "Entries and the index area").
 use Prim.Native.Nat.{ℕ}
 use mathlib.Core.List.{List, [], _∷_, _++_}
 use lib.ListN.{replicate}

@@ -12,9 +12,10 @@ use Rattle.merkle.specs.NodeSource.{NodeSource}
 use Rattle.sizes.specs.Sizes.{area, segmentLevel, segmentPosition}
 use Rattle.sizes.specs.SizesLaws.{SegmentSize, SegmentPlace}
 use Rattle.entries.specs.Entry.{commitmentIn, offsetIn, sizeIn}
-use Rattle.index.specs.Slots.{standing, kept, free, holds, rowOf}
+use Rattle.index.specs.Slots.{standing, nodeOver, kept, free, holds, rowOf}
 
-pub row-stands : (d : ℕ) (entry : List ℕ) → standing d entry ≡ true → rowOf d entry ≡ holds (commitmentIn entry) (offsetIn entry) (sizeIn entry)
+pub row-stands : (d : ℕ) (entry : List ℕ) → standing d entry ≡ true
+    → rowOf d entry ≡ holds (commitmentIn entry) (offsetIn entry) (sizeIn entry)
 unfolding rowOf
 row-stands d entry e = rw e
 
@@ -25,23 +26,24 @@ row-free d entry e = rw e
 -- a kept entry stands
 pub kept-stands : (nodes : NodeSource) (d : ℕ) (entry : List ℕ) → kept nodes d entry ≡ true → standing d entry ≡ true
 unfolding kept
-kept-stands nodes d entry e =
-    and-left (standing d entry) (sameBytes (nodes (segmentLevel (sizeIn entry)) (segmentPosition (offsetIn entry) (sizeIn entry))) (commitmentIn entry)) e
+kept-stands nodes d entry e = and-left (standing d entry) (sameBytes (nodeOver nodes entry) (commitmentIn entry)) e
 
 -- kept asks for one node alone, and only where the entry stands
 pub kept-cong : (nodes others : NodeSource) (d : ℕ) (entry : List ℕ)
-    → (standing d entry ≡ true
-    → nodes (segmentLevel (sizeIn entry)) (segmentPosition (offsetIn entry) (sizeIn entry)) ≡ others (segmentLevel (sizeIn entry)) (segmentPosition (offsetIn entry) (sizeIn entry)))
+    → (standing d entry ≡ true → nodeOver nodes entry ≡ nodeOver others entry)
     → kept nodes d entry ≡ kept others d entry
 unfolding kept
 kept-cong nodes others d entry f =
-    let level = segmentLevel (sizeIn entry) in
-    let q = segmentPosition (offsetIn entry) (sizeIn entry) in
-    and-same (standing d entry) (sameBytes (nodes level q) (commitmentIn entry)) (sameBytes (others level q) (commitmentIn entry)) (λ s. ap (λ (n : List ℕ). sameBytes n (commitmentIn entry)) (f s))
+    and-same (standing d entry) (sameBytes (nodeOver nodes entry) (commitmentIn entry))
+    (sameBytes (nodeOver others entry) (commitmentIn entry))
+    (λ s. ap (λ (n : List ℕ). sameBytes n (commitmentIn entry)) (f s))
 
 -- that node, worked out from a deal's bytes, is the commitment of the entry's area
 pub segment-node : (deal : List ℕ) (d offset size : ℕ) → SegmentSize d size → SegmentPlace d offset size
-    → nodeAt deal (segmentLevel size) (segmentPosition offset size) ≡ commitmentOf (segmentLevel size) (part deal offset (area size))
+    → nodeAt deal (segmentLevel size) (segmentPosition offset size)
+    ≡ commitmentOf (segmentLevel size) (part deal offset (area size))
 segment-node deal d offset size s p =
-    let at : segmentPosition offset size * (32 * 2 ^ segmentLevel size) ≡ offset = ap (λ (n : ℕ). segmentPosition offset size * n) (sym (s .area-is)) ∙ sym (p .at-position) in
-    node-part deal (segmentLevel size) (segmentPosition offset size) ∙ ap₂ (λ (m n : ℕ). commitmentOf (segmentLevel size) (part deal m n)) at (sym (s .area-is))
+    let at : segmentPosition offset size * (32 * 2 ^ segmentLevel size) ≡ offset =
+    ap (λ (n : ℕ). segmentPosition offset size * n) (sym (s .area-is)) ∙ sym (p .at-position) in
+    node-part deal (segmentLevel size) (segmentPosition offset size)
+    ∙ ap₂ (λ (m n : ℕ). commitmentOf (segmentLevel size) (part deal m n)) at (sym (s .area-is))

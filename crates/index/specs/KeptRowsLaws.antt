@@ -7,7 +7,8 @@ use mathlib.Core.List.{List}
 use Rattle.octets.specs.Equality.{sameBytes}
 use Rattle.merkle.specs.Tree.{nodeAt}
 use Rattle.sizes.specs.Sizes.{indexStart, entryCount, slotPlace}
-use Rattle.sizes.specs.SizesLaws.{DealSize, SegmentSize, SegmentPlace, segment-size, segment-place, slot-allowed, entry-place}
+use Rattle.sizes.specs.SizesLaws.{DealSize, SegmentSize, SegmentPlace}
+use Rattle.sizes.specs.SizesLaws.{segment-size, segment-place, slot-allowed, entry-place}
 use Rattle.entries.specs.Entry.{commitmentIn, offsetIn, sizeIn}
 use Rattle.index.specs.Slots.{standing, kept, holds, rowOf, rowOffset, rowArea}
 use Rattle.index.specs.SlotsLaws.{stands}

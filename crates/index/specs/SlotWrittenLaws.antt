@@ -1,5 +1,5 @@
--- A deal with one slot replaced: its length, that slot's row and whether it is kept change as the new bytes say, and nothing else of
--- the bytes below the index, of the other slots' rows, and of what they keep.
+-- A deal with one slot replaced: that slot's row and whether it is kept are as the new bytes say, and nothing else
+-- changes of the deal's length, of the bytes below the index, of the other slots' rows, and of what they keep.
 use mathlib.Core.Path.{_≡_, sym, ap, ap₂, _∙_}
 use mathlib.Core.Bool.{true, _&&_}
 use mathlib.Core.Logic.{_≢_}
@@ -55,7 +55,8 @@ module _ (deal : List ℕ) (i : ℕ) (entry : List ℕ) (t : DealSize (length de
   with-slot-bytes b c = bytes-splice deal (slotPlace (length deal) i) entry b c
 
   -- bytes below the index
-  pub with-slot-below : (at n : ℕ) → at + n ≤ indexStart (length deal) → part (withSlot deal i entry) at n ≡ part deal at n
+  pub with-slot-below : (at n : ℕ) → at + n ≤ indexStart (length deal)
+      → part (withSlot deal i entry) at n ≡ part deal at n
   unfolding withSlot slotPlace
   with-slot-below at n k = part-before deal (slotPlace (length deal) i) entry fits at n (omega arith)
 
@@ -67,7 +68,8 @@ module _ (deal : List ℕ) (i : ℕ) (entry : List ℕ) (t : DealSize (length de
       ∙ ap (part (withSlot deal i entry) (slotPlace (length deal) i)) (sym l)
       ∙ part-written deal (slotPlace (length deal) i) entry fits
 
-  pub with-slot-other : (j : ℕ) → j < entryCount (length deal) → j ≢ i → slotAt (withSlot deal i entry) j ≡ slotAt deal j
+  pub with-slot-other : (j : ℕ) → j < entryCount (length deal) → j ≢ i
+      → slotAt (withSlot deal i entry) j ≡ slotAt deal j
   unfolding withSlot slotPlace
   with-slot-other j g ne =
       let here = slotPlace (length deal) i in

@@ -30,8 +30,8 @@ standing d entry =
 abbrev pub nodeOver : NodeSource → List ℕ → List ℕ
 nodeOver nodes entry = nodes (segmentLevel (sizeIn entry)) (segmentPosition (offsetIn entry) (sizeIn entry))
 
--- kept: standing, and the commitment is that of the whole area at the offset. What stands there after the segment's size is not
--- asked to be zeros (docs/DECISIONS.md, request (iii))
+-- kept: standing, and the commitment is that of the whole area at the offset. What stands there after the segment's
+-- size is not asked to be zeros (docs/DECISIONS.md, request (iii))
 unfoldable pub kept : NodeSource → ℕ → List ℕ → Bool
 kept nodes d entry = standing d entry && sameBytes (nodeOver nodes entry) (commitmentIn entry)
 

@@ -1,6 +1,6 @@
 -- What standing and kept entries are, and what an all-zero slot is not.
 use mathlib.Core.Path.{_≡_, refl, sym, ap, ap₂, _∙_}
-use mathlib.Core.Bool.{Bool, true, false, _&&_, true≢false}
+use mathlib.Core.Bool.{Bool, true, false, _&&_}
 use Prim.Native.Nat.{ℕ, zero, suc, _+_, _^_, _<_}
 use native.Mathlib.Omega.{arith}
 use mathlib.Core.List.{List, _++_}
@@ -14,7 +14,8 @@ use Rattle.node.specs.Node.{node-hash-clear}
 use Rattle.merkle.specs.NodeSource.{NodeSource, IsTree}
 use Rattle.stray.specs.StrayBits.{clearNode}
 use Rattle.stray.specs.StrayBitsLaws.{clear-node}
-use Rattle.sizes.specs.Sizes.{segmentSizeAllowed, offsetAllowed, dealLevel, segmentLevel, segmentPathLevels, segmentPosition}
+use Rattle.sizes.specs.Sizes.{segmentSizeAllowed, offsetAllowed, dealLevel}
+use Rattle.sizes.specs.Sizes.{segmentLevel, segmentPathLevels, segmentPosition}
 use Rattle.sizes.specs.SizesLaws.{DealSize, segment-size, segment-place}
 use Rattle.entries.specs.Entry.{entryOf, commitmentIn, offsetIn, sizeIn, checksumRight, kindOf, kindNumber, isKind}
 use Rattle.entries.specs.EntryLaws.{made-right, commitment-back, offset-back, size-back}
@@ -44,8 +45,10 @@ module _ (d : ℕ) (entry : List ℕ) where
   unfolding segmentSizeAllowed
   zero-bounds z = rw (zero-size entry z)
 
-  pub standing-is : standing d entry
-      ≡ (checksumRight entry && (segmentSizeAllowed d (sizeIn entry) && offsetAllowed d (offsetIn entry) (sizeIn entry)))
+  pub standing-is :
+      standing d entry
+      ≡ (checksumRight entry
+      && (segmentSizeAllowed d (sizeIn entry) && offsetAllowed d (offsetIn entry) (sizeIn entry)))
   unfolding standing isKind kindOf
   standing-is = valid-bounds (allZero entry) (checksumRight entry) inBounds zero-bounds
 
@@ -69,7 +72,7 @@ stands d entry t =
 
 pub record Keeps (nodes : NodeSource) (d : ℕ) (entry : List ℕ) : Type 0 where
   pub is-standing : Stands d entry
-  pub node-is : nodes (segmentLevel (sizeIn entry)) (segmentPosition (offsetIn entry) (sizeIn entry)) ≡ commitmentIn entry
+  pub node-is : nodeOver nodes entry ≡ commitmentIn entry
 
 pub keeps : (nodes : NodeSource) (d : ℕ) (entry : List ℕ) → kept nodes d entry ≡ true → Keeps nodes d entry
 unfolding kept

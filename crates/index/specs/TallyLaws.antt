@@ -30,12 +30,13 @@ one-kind : (entry : List ℕ) → one (isKind Blank entry) + one (isKind Damaged
 unfolding isKind
 one-kind entry = by (kindOf entry)
   where
-    by : (kind : EntryKind) → one (eqb (kindNumber kind) 0) + one (eqb (kindNumber kind) 1) + one (eqb (kindNumber kind) 2) ≡ 1
+    by : (kind : EntryKind) → let k = kindNumber kind in one (eqb k 0) + one (eqb k 1) + one (eqb k 2) ≡ 1
     by Blank = refl
     by Damaged = refl
     by Valid = refl
 
-counts-total : (deal : List ℕ) → countOf Blank deal + countOf Damaged deal + countOf Valid deal ≡ entryCount (length deal)
+counts-total : (deal : List ℕ)
+    → countOf Blank deal + countOf Damaged deal + countOf Valid deal ≡ entryCount (length deal)
 unfolding countOf
 counts-total deal =
     let of : EntryKind → ℕ → Bool = λ kind i. isKind kind (slotAt deal i) in

@@ -1,5 +1,5 @@
--- A deal in which one slot is replaced, or bytes below the index. What changes with them, and what not: SlotWrittenLaws and
--- AreaWrittenLaws.
+-- A deal in which one slot is replaced, or bytes below the index. What changes with them, and what not: SlotWrittenLaws
+-- and AreaWrittenLaws.
 use Prim.Native.Nat.{ℕ, _-_, _/_}
 use mathlib.Core.List.{List}
 use lib.ListN.{length}

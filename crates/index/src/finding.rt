@@ -70,7 +70,8 @@ fn lowest_with_commitment(deal: &[u8], commitment: &[u8]) -> FoundSegment
 }
 
 // Where a segment with this commitment is kept in a lent deal: offset, size and entry place of the lowest slot. 1 for a
-// commitment that is not 32 bytes long, 2 for a deal size that is not allowed, 11 for a deal with stray bits, 16 for no such slot.
+// commitment that is not 32 bytes long, 2 for a deal size that is not allowed, 11 for a deal with stray bits, 16 for no
+// such slot.
 pub fn find_numbers(deal: &[u8], commitment: &[u8]) -> FoundSegment
     ensures { λ r. ⌜ r ≡ findNumbers (lentDeal (now (deal .entry))) (now (commitment .entry)) ⌝ }
 {
@@ -84,7 +85,7 @@ pub fn find_numbers(deal: &[u8], commitment: &[u8]) -> FoundSegment
     lowest_with_commitment(deal, commitment)
 }
 
-// The bytes of that segment: the part of the lent deal itself, at the offset that was found and of the size that was found; empty on
+// The bytes of that segment: the part of the lent deal itself, at the offset and of the size that were found; empty on
 // every refusal.
 pub fn find<'d, 'c>(deal: &'d [u8], commitment: &'c [u8]) -> &'d [u8]
     ensures { λ r. ⌜ now r ≡ findView (lentDeal (now (deal .entry))) (now (commitment .entry)) ⌝ }

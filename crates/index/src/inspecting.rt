@@ -58,8 +58,8 @@ fn slot_holds(deal: &[u8], place: usize) -> Inspected
     inspected_row(SlotState::Kept, row)
 }
 
-// What stands at an entry place of a lent deal, with its commitment, offset and size. 2 for a deal size that is not allowed, 11 for
-// a deal with stray bits, 6 for a place that is not allowed.
+// What stands at an entry place of a lent deal, with its commitment, offset and size. 2 for a deal size that is not
+// allowed, 11 for a deal with stray bits, 6 for a place that is not allowed.
 pub fn inspect(deal: &[u8], place: u64) -> Inspected
     ensures { λ r. ⌜ r ≡ inspectAnswer (lentDeal (now (deal .entry))) place ⌝ }
 {

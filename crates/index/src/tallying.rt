@@ -49,8 +49,8 @@ fn counts_of(deal: &[u8]) -> Tallied
     }
 }
 
-// How many slots of a lent deal's index are blank, damaged and valid. 2 for a deal size that is not allowed, 11 for a deal with
-// stray bits.
+// How many slots of a lent deal's index are blank, damaged and valid. 2 for a deal size that is not allowed, 11 for a
+// deal with stray bits.
 pub fn tally(deal: &[u8]) -> Tallied
     ensures { λ r. ⌜ r ≡ tallyAnswer (now (deal .entry)) ⌝ }
 {

@@ -1,5 +1,5 @@
--- A deal that is lent, with the source of its nodes, and the two refusals that routines over a lent deal start with (document 01, "Codes and
--- their order").
+-- A deal that is lent, with the source of its nodes, and the two refusals that routines over a lent deal start with
+-- (document 01, "Codes and their order").
 use Prim.Native.Nat.{ℕ}
 use mathlib.Core.List.{List, [], _∷_}
 use lib.ListN.{length}

@@ -11,7 +11,8 @@ lent-size-allowed-requires c κs = search needs
 returns : tie.Need-returns
 returns c =
     let z = c .before in
-    sym (refusal-size (z .before .before .args .deal .now) (sym (z .lent-size-allowed .ensures) ∙ not-true _ (c .if1 .taken)))
+    sym (refusal-size (z .before .before .args .deal .now)
+    (sym (z .lent-size-allowed .ensures) ∙ not-true _ (c .if1 .taken)))
 
 no-stray-bits-requires : tie.Need-no-stray-bits-requires
 no-stray-bits-requires c κs = search needs

@@ -59,8 +59,8 @@ returns-2 c =
     let i = m .before .before .before in
     let s = start (read i) in
     c .free-row .ensures
-    ∙ keeping-other-name (deal s) (commitment s) (s .args .place) (read i .standing-at .ensures) (stood i) (m .same .ensures)
-    (not-true _ (c .before .if2 .taken))
+    ∙ keeping-other-name (deal s) (commitment s) (s .args .place) (read i .standing-at .ensures) (stood i)
+    (m .same .ensures) (not-true _ (c .before .if2 .taken))
 
 segment-has-requires : tie.Need-segment-has-requires
 segment-has-requires c κs =

@@ -20,7 +20,8 @@ use Rattle.index.proofs.finding.lowest_with_commitment.Tie as tie
 abbrev Inv-loop : tie.InvT-loop
 Inv-loop deal commitment deal-size count i₀ i =
     (i ≤ count)
-    × (lowestWithCommitment (lentDeal deal) commitment ≡ lowest (keepsCommitment (lentDeal deal) commitment) i (count - i))
+    × (lowestWithCommitment (lentDeal deal) commitment
+    ≡ lowest (keepsCommitment (lentDeal deal) commitment) i (count - i))
 
 abbrev μ-loop : tie.MeasureT-loop
 μ-loop deal commitment deal-size count i₀ i = count - i
@@ -74,9 +75,10 @@ returns c =
     let l = k .before .before .before in
     let s = start k in
     let i = l .loop .i in
-    let here = lowest-here (keeps s) (l .before .entry-count .result) i (omega arith) (sym (slot-kept k) ∙ c .if1 .taken) in
-    answer-found (lentDeal (deal s)) (now (s .args .commitment)) i (k .before .slot-place .ensures) (k .keeping-at .ensures)
-    (c .if1 .taken)
+    let n = l .before .entry-count .result in
+    let here = lowest-here (keeps s) n i (omega arith) (sym (slot-kept k) ∙ c .if1 .taken) in
+    answer-found (lentDeal (deal s)) (now (s .args .commitment)) i (k .before .slot-place .ensures)
+    (k .keeping-at .ensures) (c .if1 .taken)
     ∙ ap (foundIn (deal s)) (sym (l .loop .inv .1 ∙ here))
 
 add-i : tie.Need-add-i Inv-loop μ-loop

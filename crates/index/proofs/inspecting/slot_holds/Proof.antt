@@ -44,7 +44,8 @@ returns : tie.Need-returns
 returns c =
     let k = c .before .before .before in
     c .inspected-row .ensures
-    ∙ state-free (nodes (start k)) (d (start k)) (entry (start k)) (k .standing-at .ensures) (not-true _ (c .before .if1 .taken))
+    ∙ state-free (nodes (start k)) (d (start k)) (entry (start k)) (k .standing-at .ensures)
+    (not-true _ (c .before .if1 .taken))
 
 segment-has-requires : tie.Need-segment-has-requires
 segment-has-requires c κs =

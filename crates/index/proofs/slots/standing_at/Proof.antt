@@ -29,7 +29,8 @@ abbrev entry : tie.Start → List ℕ
 entry s = take (s .args .place + 64 - s .args .place) (drop (s .args .place) (deal s))
 
 -- which are the 64 bytes at the place
-at-place : (s : tie.Start) {row : Row} → row ≡ rowOf (d s) (entry s) → row ≡ rowOf (d s) (entryAt (deal s) (s .args .place))
+at-place : (s : tie.Start) {row : Row} → row ≡ rowOf (d s) (entry s)
+    → row ≡ rowOf (d s) (entryAt (deal s) (s .args .place))
 at-place s e = e ∙ ap (rowOf (d s)) (part-range (deal s) (s .args .place) 64)
 
 -- the tests that were passed
@@ -90,7 +91,8 @@ returns-2 c =
     let r = z .before in
     let s = start (r .before) in
     let size = sym (z .segment-size-allowed .ensures) ∙ not-true _ (c .before .if1 .taken) in
-    at-place s (c .free-row2 .ensures ∙ row-size-refused (d s) (entry s) (valid (r .before)) (r .read-u64 .ensures) size)
+    at-place s
+    (c .free-row2 .ensures ∙ row-size-refused (d s) (entry s) (valid (r .before)) (r .read-u64 .ensures) size)
 
 read-u64-requires-2 : tie.Need-read-u64-requires-2
 read-u64-requires-2 c κs = search needs
