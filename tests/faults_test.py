@@ -8,9 +8,10 @@ writes is run once for every call of it and every way in which that call can go 
   error    the call fails with ENOSPC, EIO, EINTR, EXDEV or EACCES, or writes too little;
   pause    the process is stopped before the call, another one books into the same deal, and the first goes on.
 
-All of it is done with unnamed files and without them (`plain`), as on a system that has none. Then processes are killed at random moments, and 2 to 8
-processes book into one deal at once, undisturbed and while others of them are killed. Afterwards every booking that was answered with 0
-must be in the deal where it was told to be, every deal must be a whole one, and no file may be there that nobody asked for.
+All of it is done with unnamed files and without them (`plain`), as on a system that has none. Then processes are killed at random
+moments, and 2 to 8 processes book into one deal at once, undisturbed and while others of them are killed. Afterwards every booking that
+was answered with 0 must be in the deal where it was told to be, every deal must be a whole one, and no file may be there that nobody
+asked for.
 """
 import argparse
 import errno
@@ -40,8 +41,8 @@ SIGNALS = (signal.SIGINT, signal.SIGTERM, signal.SIGHUP)
 # Functions of the C library that the program uses and that need no fault: they do not go to the system, or only at the start, or their
 # failure is not the program's to handle (memory, threads, time).
 PLAIN = set("""_ITM_deregisterTMCloneTable _ITM_registerTMCloneTable __cxa_finalize __cxa_thread_atexit_impl __errno_location __gmon_start__
-__libc_start_main __tls_get_addr __xpg_strerror_r abort bcmp calloc clock_gettime clock_nanosleep dl_iterate_phdr dlsym free getauxval getenv
-getrandom gettid isatty malloc memcpy memmove memset memchr memcmp mmap64 mprotect munmap pause poll posix_memalign realloc sched_yield
+__libc_start_main __tls_get_addr __xpg_strerror_r abort bcmp calloc clock_gettime clock_nanosleep dl_iterate_phdr dlsym free getauxval
+getenv getrandom gettid isatty malloc memcpy memmove memset memchr memcmp mmap64 mprotect munmap pause poll posix_memalign realloc sched_yield
 sigaction sigaltstack signal sigpending strlen syscall sysconf getpid nanosleep""".split())
 
 
