@@ -5,7 +5,7 @@ writes is run once for every call of it and every way in which that call can go 
 
   kill     the process is killed before the call, and later calls must find the old state or the new one, nothing between;
   signal   SIGINT, SIGTERM or SIGHUP comes before the call, and nothing may be left behind, without any later call;
-  error    the call fails with ENOSPC, EIO, EINTR, EXDEV or EACCES, or writes too little;
+  error    the call fails with ENOSPC, EIO, EINTR, EXDEV or EACCES, or writes too little; or it and all later ones that write fail;
   pause    the process is stopped before the call, another one books into the same deal, and the first goes on.
 
 All of it is done with unnamed files and without them (`plain`), as on a system that has none. Then processes are killed at random
@@ -105,7 +105,11 @@ class Place:
 
     def run(self, words, **options):
         call = self.start(words, **options)
-        out, err = call.communicate(timeout=120)
+        try:
+            out, err = call.communicate(timeout=60)
+        except subprocess.TimeoutExpired:
+            call.kill()
+            raise Wrong(f"{words} {options}: no end") from None
         check(b"panicked" not in err, words, err)
         return call.returncode, out, err
 
@@ -240,7 +244,7 @@ class Faults:
         names = self.place.calls_of(scene, plain)
         for what in [*(f"error {n}" for n in numbers), "short"]:
             for at, name in enumerate(names, 1):
-                if name in ("fcntl", "close") or what == "short" and name != "write":
+                if name == "fcntl" or what == "short" and name != "write":
                     continue
                 self.place.put(scene.before)
                 status, _, err = self.place.run(scene.words, fault=fault(at, what), plain=plain)
@@ -257,6 +261,23 @@ class Faults:
                 self.counts["errors"] += 1
                 self.after(scene, plain)
 
+    def breakdowns(self, scene, plain):
+        """From one call on nothing can be written any more: what is there is whole, and all can be done later."""
+        names = self.place.calls_of(scene, plain)
+        for number in (errno.EIO, errno.EROFS):
+            for at, name in enumerate(names, 1):
+                if name not in ("write", "fsync", "ftruncate64", "linkat", "rename", "renameat2", "unlink"):
+                    continue
+                self.place.put(scene.before)
+                status, _, err = self.place.run(scene.words, fault=fault(at, f"errors {number}"), plain=plain)
+                state = self.place.state()
+                scene.whole(state)
+                made = all(state.get(n) == scene.after[n] for n in scene.changed)
+                check(status == IO or status == 0 and made, scene.name, at, name, number, status, err)
+                check(b"nothing is changed" not in err or not made, scene.name, at, name, number, err)
+                self.counts["errors"] += 1
+                self.after(scene, plain)
+
     def recoveries(self, scene, plain, every):
         """Killed after a change of several files was decided; then whoever ends it is killed before each of its calls."""
         decided = []
@@ -269,13 +290,14 @@ class Faults:
         check(decided, scene.name, "no journal was seen")
         for at, begun in decided if every else decided[:1]:
             self.place.put(begun)
-            for again in range(1, len(self.place.calls(("fsck", "deal"), plain)) + 1):
+            calls = len(self.place.calls(("fsck", "deal"), plain))
+            for what, again in ((what, n) for what in ("kill 9", f"error {errno.EIO}") for n in range(1, calls + 1)):
                 self.place.put(begun)
-                self.place.run(("fsck", "deal"), fault=fault(again, "kill 9"), plain=plain)
+                self.place.run(("fsck", "deal"), fault=fault(again, what), plain=plain)
                 scene.whole(self.place.state())
-                self.counts["kills"] += 1
+                self.counts["kills" if what == "kill 9" else "errors"] += 1
                 self.place.run(("fsck", "deal"), plain=plain)
-                check(scene.together(self.place.state()), scene.name, at, again, "a decided change was not made")
+                check(scene.together(self.place.state()), scene.name, at, again, what, "a decided change was not made")
                 self.after(scene, plain)
 
     def pauses(self, scene, plain, other):
@@ -490,6 +512,7 @@ def disturb(place, rng, name, plain, options):
     faults.signals(scene, plain, SIGNALS if options.large else (rng.choice(SIGNALS),))
     every = options.large or scene.name.startswith("book") and plain < 2
     faults.errors(scene, plain, ERRORS if every else (errno.ENOSPC, errno.EIO))
+    faults.breakdowns(scene, plain)
     if scene.name in ("book, nothing known", "repair"):
         faults.recoveries(scene, plain, options.large)
     if scene.name == "book" and plain:
