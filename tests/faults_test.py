@@ -5,7 +5,8 @@ writes is run once for every call of it and every way in which that call can go 
 
   kill     the process is killed before the call, and later calls must find the old state or the new one, nothing between;
   signal   SIGINT, SIGTERM or SIGHUP comes before the call, and nothing may be left behind, without any later call;
-  error    the call fails with ENOSPC, EIO, EINTR, EXDEV or EACCES, or writes too little; or it and all later ones that write fail;
+  error    the call fails with ENOSPC, EIO, EINTR, EXDEV or EACCES, writes too little, or says that it failed when it did not; or it and
+           all later ones that write fail;
   pause    the process is stopped before the call, another one books into the same deal, and the first goes on.
 
 All of it is done with unnamed files and without them (`plain`), as on a system that has none. Then processes are killed at random
@@ -242,9 +243,10 @@ class Faults:
     def errors(self, scene, plain, numbers):
         """Each call fails: with exit status 0 all is done, with another one all or nothing is, and it says which."""
         names = self.place.calls_of(scene, plain)
-        for what in [*(f"error {n}" for n in numbers), "short"]:
+        naming = ("linkat", "rename", "renameat2", "unlink")
+        for what in [*(f"error {n}" for n in numbers), "short", f"late {errno.EIO}", f"late {errno.EEXIST}"]:
             for at, name in enumerate(names, 1):
-                if name == "fcntl" or what == "short" and name != "write":
+                if name == "fcntl" or what == "short" and name != "write" or what.startswith("late") and name not in naming:
                     continue
                 self.place.put(scene.before)
                 status, _, err = self.place.run(scene.words, fault=fault(at, what), plain=plain)

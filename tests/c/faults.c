@@ -3,6 +3,7 @@
  *
  *   FAULT_AT     the number of that call, from 1
  *   FAULT_DO     kill N: signal N is sent to the process before the call; error N: the call fails with that error number;
+ *                late N: it is made, and answers that it failed;
  *                errors N: it and every later one that writes fail with that error number; short: a write writes one byte only
  *   FAULT_LOG    a file to which the name of every call is added
  *   FAULT_PLAIN  1: the system has no unnamed files; 2: nor can it rename to a name that must not be taken
@@ -25,7 +26,7 @@ long syscall(long number, ...);
 enum { O_TMPFILE_BIT = 020000000, O_APPEND_CREATE = 02101 };
 
 static int at, number, error_number, plain, ready;
-static int is_short, lasting;
+static int is_short, lasting, late;
 static int log_fd = -1;
 
 static void start(void) {
@@ -37,6 +38,7 @@ static void start(void) {
     at = atoi(where);
     if (!strncmp(what, "kill ", 5)) number = atoi(what + 5);
     if (!strncmp(what, "error ", 6)) error_number = atoi(what + 6);
+    if (!strncmp(what, "late ", 5)) late = atoi(what + 5);
     if (!strncmp(what, "errors ", 7)) lasting = atoi(what + 7);
     is_short = !strcmp(what, "short");
 }
@@ -78,7 +80,10 @@ static long call(const char *name, function *real, long failure, long a, long b,
         errno = EINVAL;
         return -1;
     }
-    return (*real)(a, b, c, d, e, f);
+    long result = (*real)(a, b, c, d, e, f);
+    if (turn != at || !late) return result;
+    errno = late;
+    return failure;
 }
 
 #define PASS(name, failure)                                                                    \
