@@ -272,7 +272,8 @@ class Sidecar(Deals):
     def test_a_sidecar_that_cannot_be_understood(self):
         deal, *_ = self.deal_of(1024, (128,))
         self.put("segment", self.segment())
-        for text in (b"", b"\xff", b"vizhuthamen deal 2\nsize 1024\n", b"vizhuthamen deal 1\n", b"vizhuthamen deal 1\nsize 1024\nsize 512\n"):
+        for text in (b"", b"\xff", b"vizhuthamen deal 2\nsize 1024\n", b"vizhuthamen deal 1\n",
+                     b"vizhuthamen deal 1\nsize 1024\nsize 512\n"):
             self.put("deal.vz", text)
             self.assertIn("deal.vz cannot be understood", self.failed(DATA, "book", "deal", "segment"))
         self.put("deal.vz", b"vizhuthamen deal 1\nlater word\nsize 1024\n")
@@ -570,6 +571,34 @@ class Replacing(Deals):
         self.assertEqual(ran.returncode, IO, ran.stderr)
         self.assertIn(b"mount its folder", ran.stderr)
         self.assertEqual((self.get("deal"), self.files()), (deal, ["deal", "point", "segment"]))
+
+    def mounted(self, options, script):
+        """Runs a script of the shell in a mount of its own; the test is left out where there can be none."""
+        self.path("mount").mkdir()
+        whole = f'mount -t tmpfs {options} none mount && cp deal segment mount && cd mount && {script}'
+        ran = subprocess.run(["unshare", "-m", "sh", "-c", whole, self.program], cwd=self.folder, capture_output=True, text=True)
+        if "mount:" in ran.stderr or "unshare:" in ran.stderr:
+            self.skipTest("no mounts here")
+        return ran
+
+    @unittest.skipIf(os.getuid() != 0 or not shutil.which("unshare"), "needs a mount of its own")
+    def test_a_full_disk(self):
+        self.deal_of(1 << 16, (128,))
+        self.put("segment", self.segment())
+        ran = self.mounted("-o size=128k", '"$0" book deal segment; echo $?; cmp deal ../deal && ls -A')
+        self.assertEqual(ran.stdout, "74\ndeal\nsegment\n", ran.stderr)
+        self.assertRegex(ran.stderr, "No space left on device.*nothing is changed")
+
+    @unittest.skipIf(os.getuid() != 0 or not shutil.which("unshare"), "needs a mount of its own")
+    def test_a_read_only_disk(self):
+        self.deal_of(1024, (128,))
+        self.put("segment", self.segment())
+        self.path("deal").chmod(0o666)
+        script = 'mount -o remount,ro none . && { "$0" book deal segment; "$0" new other 512; "$0" pad segment -o out; "$0" list deal; }'
+        ran = self.mounted("", script)
+        self.assertEqual(ran.stderr.count("Read-only file system"), 3, ran.stderr)
+        self.assertEqual(ran.stderr.count("is read-only"), 2, ran.stderr)
+        self.assertIn("kept", ran.stdout)
 
     def test_names_in_messages_stay_on_one_line(self):
         name = "a\nb\x1b[31m\u202e"

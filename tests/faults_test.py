@@ -5,12 +5,14 @@ writes is run once for every call of it and every way in which that call can go 
 
   kill     the process is killed before the call, and later calls must find the old state or the new one, nothing between;
   signal   SIGINT, SIGTERM or SIGHUP comes before the call, and nothing may be left behind, without any later call;
-  error    the call fails with ENOSPC, EIO, EINTR, EXDEV or EACCES, or writes too little;
+  error    the call fails with ENOSPC, EIO, EINTR, EXDEV or EACCES, writes too little, or says that it failed when it did not; or it and
+           all later ones that write fail;
   pause    the process is stopped before the call, another one books into the same deal, and the first goes on.
 
-All of it is done with unnamed files and without them (`plain`), as on a system that has none. Then processes are killed at random moments, and 2 to 8
-processes book into one deal at once, undisturbed and while others of them are killed. Afterwards every booking that was answered with 0
-must be in the deal where it was told to be, every deal must be a whole one, and no file may be there that nobody asked for.
+All of it is done with unnamed files and without them (`plain`), as on a system that has none. Then processes are killed at random
+moments, and 2 to 8 processes book into one deal at once, undisturbed and while others of them are killed. Afterwards every booking that
+was answered with 0 must be in the deal where it was told to be, every deal must be a whole one, and no file may be there that nobody
+asked for.
 """
 import argparse
 import errno
@@ -40,8 +42,8 @@ SIGNALS = (signal.SIGINT, signal.SIGTERM, signal.SIGHUP)
 # Functions of the C library that the program uses and that need no fault: they do not go to the system, or only at the start, or their
 # failure is not the program's to handle (memory, threads, time).
 PLAIN = set("""_ITM_deregisterTMCloneTable _ITM_registerTMCloneTable __cxa_finalize __cxa_thread_atexit_impl __errno_location __gmon_start__
-__libc_start_main __tls_get_addr __xpg_strerror_r abort bcmp calloc clock_gettime clock_nanosleep dl_iterate_phdr dlsym free getauxval getenv
-getrandom gettid isatty malloc memcpy memmove memset memchr memcmp mmap64 mprotect munmap pause poll posix_memalign realloc sched_yield
+__libc_start_main __tls_get_addr __xpg_strerror_r abort bcmp calloc clock_gettime clock_nanosleep dl_iterate_phdr dlsym free getauxval
+getenv getrandom gettid isatty malloc memcpy memmove memset memchr memcmp mmap64 mprotect munmap pause poll posix_memalign realloc sched_yield
 sigaction sigaltstack signal sigpending strlen syscall sysconf getpid nanosleep""".split())
 
 
@@ -104,7 +106,11 @@ class Place:
 
     def run(self, words, **options):
         call = self.start(words, **options)
-        out, err = call.communicate(timeout=120)
+        try:
+            out, err = call.communicate(timeout=60)
+        except subprocess.TimeoutExpired:
+            call.kill()
+            raise Wrong(f"{words} {options}: no end") from None
         check(b"panicked" not in err, words, err)
         return call.returncode, out, err
 
@@ -237,9 +243,10 @@ class Faults:
     def errors(self, scene, plain, numbers):
         """Each call fails: with exit status 0 all is done, with another one all or nothing is, and it says which."""
         names = self.place.calls_of(scene, plain)
-        for what in [*(f"error {n}" for n in numbers), "short"]:
+        naming = ("linkat", "rename", "renameat2", "unlink")
+        for what in [*(f"error {n}" for n in numbers), "short", f"late {errno.EIO}", f"late {errno.EEXIST}"]:
             for at, name in enumerate(names, 1):
-                if name in ("fcntl", "close") or what == "short" and name != "write":
+                if name == "fcntl" or what == "short" and name != "write" or what.startswith("late") and name not in naming:
                     continue
                 self.place.put(scene.before)
                 status, _, err = self.place.run(scene.words, fault=fault(at, what), plain=plain)
@@ -256,6 +263,23 @@ class Faults:
                 self.counts["errors"] += 1
                 self.after(scene, plain)
 
+    def breakdowns(self, scene, plain):
+        """From one call on nothing can be written any more: what is there is whole, and all can be done later."""
+        names = self.place.calls_of(scene, plain)
+        for number in (errno.EIO, errno.EROFS):
+            for at, name in enumerate(names, 1):
+                if name not in ("write", "fsync", "ftruncate64", "linkat", "rename", "renameat2", "unlink"):
+                    continue
+                self.place.put(scene.before)
+                status, _, err = self.place.run(scene.words, fault=fault(at, f"errors {number}"), plain=plain)
+                state = self.place.state()
+                scene.whole(state)
+                made = all(state.get(n) == scene.after[n] for n in scene.changed)
+                check(status == IO or status == 0 and made, scene.name, at, name, number, status, err)
+                check(b"nothing is changed" not in err or not made, scene.name, at, name, number, err)
+                self.counts["errors"] += 1
+                self.after(scene, plain)
+
     def recoveries(self, scene, plain, every):
         """Killed after a change of several files was decided; then whoever ends it is killed before each of its calls."""
         decided = []
@@ -268,13 +292,14 @@ class Faults:
         check(decided, scene.name, "no journal was seen")
         for at, begun in decided if every else decided[:1]:
             self.place.put(begun)
-            for again in range(1, len(self.place.calls(("fsck", "deal"), plain)) + 1):
+            calls = len(self.place.calls(("fsck", "deal"), plain))
+            for what, again in ((what, n) for what in ("kill 9", f"error {errno.EIO}") for n in range(1, calls + 1)):
                 self.place.put(begun)
-                self.place.run(("fsck", "deal"), fault=fault(again, "kill 9"), plain=plain)
+                self.place.run(("fsck", "deal"), fault=fault(again, what), plain=plain)
                 scene.whole(self.place.state())
-                self.counts["kills"] += 1
+                self.counts["kills" if what == "kill 9" else "errors"] += 1
                 self.place.run(("fsck", "deal"), plain=plain)
-                check(scene.together(self.place.state()), scene.name, at, again, "a decided change was not made")
+                check(scene.together(self.place.state()), scene.name, at, again, what, "a decided change was not made")
                 self.after(scene, plain)
 
     def pauses(self, scene, plain, other):
@@ -489,6 +514,7 @@ def disturb(place, rng, name, plain, options):
     faults.signals(scene, plain, SIGNALS if options.large else (rng.choice(SIGNALS),))
     every = options.large or scene.name.startswith("book") and plain < 2
     faults.errors(scene, plain, ERRORS if every else (errno.ENOSPC, errno.EIO))
+    faults.breakdowns(scene, plain)
     if scene.name in ("book, nothing known", "repair"):
         faults.recoveries(scene, plain, options.large)
     if scene.name == "book" and plain:

@@ -3,7 +3,8 @@
  *
  *   FAULT_AT     the number of that call, from 1
  *   FAULT_DO     kill N: signal N is sent to the process before the call; error N: the call fails with that error number;
- *                short: a write writes one byte only
+ *                late N: it is made, and answers that it failed;
+ *                errors N: it and every later one that writes fail with that error number; short: a write writes one byte only
  *   FAULT_LOG    a file to which the name of every call is added
  *   FAULT_PLAIN  1: the system has no unnamed files; 2: nor can it rename to a name that must not be taken
  *
@@ -25,7 +26,7 @@ long syscall(long number, ...);
 enum { O_TMPFILE_BIT = 020000000, O_APPEND_CREATE = 02101 };
 
 static int at, number, error_number, plain, ready;
-static int is_short;
+static int is_short, lasting, late;
 static int log_fd = -1;
 
 static void start(void) {
@@ -37,7 +38,17 @@ static void start(void) {
     at = atoi(where);
     if (!strncmp(what, "kill ", 5)) number = atoi(what + 5);
     if (!strncmp(what, "error ", 6)) error_number = atoi(what + 6);
+    if (!strncmp(what, "late ", 5)) late = atoi(what + 5);
+    if (!strncmp(what, "errors ", 7)) lasting = atoi(what + 7);
     is_short = !strcmp(what, "short");
+}
+
+static int writes(const char *name) {
+    static const char *const names[] = {"write", "writev", "fsync", "ftruncate64", "fchmod", "fchown", "fsetxattr", "link",
+                                        "linkat", "rename", "renameat2", "unlink", "mkdir"};
+    for (size_t i = 0; i < sizeof names / sizeof *names; i++)
+        if (!strcmp(name, names[i])) return 1;
+    return 0;
 }
 
 static long call(const char *name, function *real, long failure, long a, long b, long c, long d, long e, long f) {
@@ -51,7 +62,13 @@ static long call(const char *name, function *real, long failure, long a, long b,
     }
     if (turn == at && number) syscall(SYS_kill, syscall(SYS_getpid), number);
     if (turn == at && error_number) {
+        /* A descriptor is closed whatever close answers. */
+        if (!strcmp(name, "close")) (*real)(a, b, c, d, e, f);
         errno = error_number;
+        return failure;
+    }
+    if (lasting && turn >= at && writes(name)) {
+        errno = lasting;
         return failure;
     }
     if (turn == at && is_short && !strcmp(name, "write") && c > 1) c = 1;
@@ -63,7 +80,10 @@ static long call(const char *name, function *real, long failure, long a, long b,
         errno = EINVAL;
         return -1;
     }
-    return (*real)(a, b, c, d, e, f);
+    long result = (*real)(a, b, c, d, e, f);
+    if (turn != at || !late) return result;
+    errno = late;
+    return failure;
 }
 
 #define PASS(name, failure)                                                                    \

@@ -1,5 +1,7 @@
 //! The commands: each reads its files, asks the library, and gives an answer.
+mod book;
 mod fsck;
+mod list;
 mod repair;
 mod salvage;
 
@@ -9,14 +11,10 @@ use super::failure::{self, Failure};
 use super::files::{self, Content};
 use super::json::Json;
 use super::progress::Progress;
-use super::store::names::shown;
-use super::store::{self, Access, DealFile};
-use super::survey::{self, Slot, State};
+use super::store;
 use super::table::{table, Column};
 use std::path::Path;
-use vizhuthamen::{
-    hex, Booking, Entry, Field, Node, Position, ReadEntry, Refusal, Settled, Streaming, MAX_DEAL, MAX_RAW, MAX_STREAM,
-};
+use vizhuthamen::{hex, Field, Node, Refusal, Settled, Streaming, MAX_DEAL, MAX_RAW, MAX_STREAM};
 
 /// Runs a command.
 pub fn run(command: Command) -> Result<Answer, Failure> {
@@ -26,8 +24,8 @@ pub fn run(command: Command) -> Result<Answer, Failure> {
         Command::CommitStream { file } => commit_stream(&file),
         Command::Pad { raw, output } => pad(&raw, output),
         Command::Unpad { raw_length, segment, output } => unpad(raw_length, &segment, output),
-        Command::Book { deal, segment, force, access } => book(&deal, &segment, force, access),
-        Command::List { deal } => list(&deal),
+        Command::Book { deal, segment, force, access } => book::book(&deal, &segment, force, access),
+        Command::List { deal } => list::list(&deal),
         Command::Tally { deal } => tally(&deal),
         Command::Find { deal, commitment, output } => find(&deal, &commitment, output),
         Command::Build { deal, place, output } => build(&deal, place, output),
@@ -168,167 +166,6 @@ fn unpad_refused(refusal: Refusal, raw_length: u64, segment: &Content) -> Answer
         _ => format!("an archive has from 1 to {MAX_RAW} bytes"),
     };
     Answer::refused(refusal).with_note(note)
-}
-
-fn book(deal: &Stream, segment: &Stream, force: bool, access: Access) -> Result<Answer, Failure> {
-    let path = path_of(deal)?;
-    // The segment first: it may come from a pipe, and nobody is kept waiting for that.
-    let segment = files::read(segment)?;
-    let mut old = DealFile::open(path, access)?;
-    let progress = Progress::start("booking", old.content.bytes.len());
-    let before = old.content.bytes.clone();
-    let booking = vizhuthamen::book(&mut old.content.bytes, &segment.bytes);
-    let (answer, position) = match booking {
-        Ok(Booking::Booked(position)) => (Answer::done("done").writing(), position),
-        Ok(Booking::AlreadyKept(position)) => (Answer::refused(Refusal::ALREADY_KEPT), position),
-        Err(Refusal::SEGMENT_SIZE) => {
-            let half = before.len() / 2;
-            let note = format!("{}; a segment here has 1 to {half} bytes", segment.described());
-            return Ok(Answer::refused(Refusal::SEGMENT_SIZE).with_note(note));
-        }
-        // Which of the two has the stray bits is not said by the code.
-        Err(Refusal::STRAY_BITS) if survey::stray(&before).is_empty() => {
-            let note = format!("{} has stray bits: a segment is padded first (vizhuthamen pad)", segment.name);
-            return Ok(Answer::refused(Refusal::STRAY_BITS).with_note(note));
-        }
-        Err(refusal) => return Ok(refused(refusal, &old.content)),
-    };
-    if matches!(booking, Ok(Booking::Booked(_))) {
-        if !force {
-            overwrites(&before, &old.content.bytes, position, &shown(path))?;
-        }
-        old.replace(&old.content.bytes, vec![])?;
-    }
-    drop(progress);
-    Ok(positioned(answer, position, &old.content.bytes))
-}
-
-/// Refuses a booking that takes a slot that is not blank, or bytes that may be those of a damaged slot's segment.
-fn overwrites(before: &[u8], after: &[u8], position: Position, name: &str) -> Result<(), Failure> {
-    let numbers = vizhuthamen::index_numbers(before.len() as u64).map_err(failure::data)?;
-    let kind = |place| vizhuthamen::read_entry(survey::slot_bytes(before, place)).map_err(failure::data);
-    let advice = format!("see: vizhuthamen fsck {name}, vizhuthamen repair {name}; --force books all the same");
-    let slot = (position.place - numbers.start) / survey::ENTRY as u64;
-    let held = match kind(position.place)? {
-        ReadEntry::Blank => None,
-        ReadEntry::Damaged => Some("is damaged"),
-        ReadEntry::Valid(_) => Some("holds an entry that does not stand"),
-    };
-    if let Some(held) = held {
-        let place = position.place;
-        let message = format!(
-            "slot {slot} (place {place}) {held}, and the booking would overwrite it; nothing is changed; {advice}"
-        );
-        return Err(failure::data(message));
-    }
-    let ReadEntry::Valid(booked) =
-        vizhuthamen::read_entry(survey::slot_bytes(after, position.place)).map_err(failure::data)?
-    else {
-        return Ok(());
-    };
-    let (start, length) = (booked.offset as usize, survey::area(booked.size) as usize);
-    if before[start..start + length].iter().all(|byte| *byte == 0) {
-        return Ok(());
-    }
-    for other in 0..numbers.entries {
-        let place = numbers.start + survey::ENTRY as u64 * other;
-        if kind(place)? == ReadEntry::Damaged {
-            return Err(failure::data(format!(
-                "slot {other} (place {place}) is damaged, and the booking would overwrite bytes at offset {start} that may be its \
-                 segment's; nothing is changed; {advice}"
-            )));
-        }
-    }
-    Ok(())
-}
-
-/// Adds where a booked segment is, and its size and commitment as its entry in the deal says them.
-fn positioned(answer: Answer, position: Position, deal: &[u8]) -> Answer {
-    let answer =
-        answer.with_value("offset", Json::Number(position.offset)).with_value("place", Json::Number(position.place));
-    match vizhuthamen::read_entry(survey::slot_bytes(deal, position.place)) {
-        Ok(ReadEntry::Valid(entry)) => {
-            answer.with_value("size", Json::Number(entry.size)).with_value("commitment", text(entry.commitment))
-        }
-        _ => answer,
-    }
-}
-
-fn list(deal: &Stream) -> Result<Answer, Failure> {
-    let deal = files::read_deal(deal)?;
-    // The library judges size and stray bits.
-    if let Err(refusal) = vizhuthamen::tally(&deal.bytes) {
-        return Ok(refused(refusal, &deal));
-    }
-    let progress = Progress::start("reading slots", deal.bytes.len());
-    let survey = match survey::survey(&deal.bytes) {
-        Ok(survey) => survey,
-        Err(refusal) => return Ok(refused(refusal, &deal)),
-    };
-    drop(progress);
-    let rows: Vec<_> = survey.slots.iter().map(|slot| slot_row(slot, state(slot))).collect();
-    let slots = survey.slots.iter().map(|slot| Json::Object(slot_members(slot, state(slot)))).collect();
-    let size = Json::Number(deal.bytes.len() as u64);
-    let members = vec![("size", size), ("start", Json::Number(survey.numbers.start)), ("slots", Json::List(slots))];
-    Ok(Answer::done("done").with_text(table(&SLOT_COLUMNS, &rows), members))
-}
-
-/// What a slot holds, in a word.
-fn state(slot: &Slot) -> &'static str {
-    match slot.state {
-        State::Blank => "blank",
-        State::Damaged => "damaged",
-        State::Valid(_) => "valid",
-        State::Standing { kept: false, .. } => "standing",
-        State::Standing { kept: true, .. } => "kept",
-    }
-}
-
-/// The columns of a table of slots.
-const SLOT_COLUMNS: [Column; 6] = [
-    Column("slot", true),
-    Column("place", true),
-    Column("state", false),
-    Column("offset", true),
-    Column("size", true),
-    Column("commitment", false),
-];
-
-/// A slot as a row of a table.
-fn slot_row(slot: &Slot, state: &str) -> Vec<String> {
-    let entry = slot.entry();
-    let cell = |value: Option<String>| value.unwrap_or_else(|| "-".to_string());
-    vec![
-        slot.number.to_string(),
-        slot.place.to_string(),
-        state.to_string(),
-        cell(entry.map(|entry| entry.offset.to_string())),
-        cell(entry.map(|entry| entry.size.to_string())),
-        cell(entry.map(|entry| entry.commitment.to_string())),
-    ]
-}
-
-/// A slot for JSON.
-fn slot_members(slot: &Slot, state: &str) -> Vec<(&'static str, Json)> {
-    let mut members =
-        vec![("slot", Json::Number(slot.number)), ("place", Json::Number(slot.place)), ("state", text(state))];
-    if let Some(entry) = slot.entry() {
-        members.extend([("offset", Json::Number(entry.offset)), ("size", Json::Number(entry.size))]);
-        members.push(("commitment", text(entry.commitment)));
-    }
-    members
-}
-
-/// What was done to a slot, with its entry, for JSON.
-fn slot_entry(what: Json, slot: u64, place: u64, entry: &Entry) -> Vec<(&'static str, Json)> {
-    vec![
-        ("what", what),
-        ("slot", Json::Number(slot)),
-        ("place", Json::Number(place)),
-        ("offset", Json::Number(entry.offset)),
-        ("size", Json::Number(entry.size)),
-        ("commitment", text(entry.commitment)),
-    ]
 }
 
 fn tally(deal: &Stream) -> Result<Answer, Failure> {

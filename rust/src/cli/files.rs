@@ -167,6 +167,7 @@ fn same_file(file: &Metadata, read: &Content) -> bool {
 pub fn make(path: &Path, bytes: &[u8]) -> Result<bool, Failure> {
     let failed = |error: String| failure::io(format!("cannot write {}: {error}", shown(path)));
     let (home, held) = (Home::of(path), Held::start());
+    remove_dead(&home.part(0)).map_err(failed)?;
     let mut aside = Aside::write(&home, 0, Fill::Bytes(bytes), None, &held).map_err(failed)?;
     let made = aside.make(path, &held).map_err(failed)?;
     if made {

@@ -1,5 +1,6 @@
 //! Mending a deal in memory: what can be told for certain, and nothing else.
-use super::survey::{self, allowed, area, overlap, Slot, State, Stray, Survey, ENTRY};
+use super::survey::{self, allowed, area, overlap, Slot, State, Stray, Survey, Tree, ENTRY};
+use std::cell::OnceCell;
 use vizhuthamen::{Entry, IndexNumbers, Node, ReadEntry, Refusal};
 
 /// Two checksums of 126 bits that differ in no more bits than this are one checksum with damaged bits: two of different entries
@@ -48,7 +49,7 @@ pub fn mend(deal: &[u8], hand: Option<&Hand>, place: Option<u64>) -> Result<Mend
     if place.is_some_and(|place| before.slots.iter().all(|slot| slot.place != place)) {
         return Err(Refusal::PLACE);
     }
-    let mut mending = Mending { bytes: deal.to_vec(), numbers: before.numbers, steps: vec![] };
+    let mut mending = Mending { bytes: deal.to_vec(), numbers: before.numbers, steps: vec![], tree: OnceCell::new() };
     mending.clear(&before.stray);
     let mut now = survey::survey(&mending.bytes)?;
     if let Some(hand) = hand {
@@ -72,10 +73,13 @@ pub fn mend(deal: &[u8], hand: Option<&Hand>, place: Option<u64>) -> Result<Mend
     Ok(Mended { bytes: mending.bytes, steps: mending.steps, survey: now })
 }
 
+/// A deal that is being mended.
 struct Mending {
     bytes: Vec<u8>,
     numbers: IndexNumbers,
     steps: Vec<Step>,
+    /// Made when it is first asked, after which no byte below the index is changed.
+    tree: OnceCell<Tree>,
 }
 
 impl Mending {
@@ -105,7 +109,7 @@ impl Mending {
 
     /// Writes an entry, unless its area overlaps that of another.
     fn write_entry(&mut self, slot: &Slot, entry: Entry) -> Result<(), Refusal> {
-        if alone(&survey::survey(&self.bytes)?.slots, slot, &entry) {
+        if alone(&survey::slots(&self.bytes, &self.numbers)?, slot, &entry) {
             let made = vizhuthamen::make_entry(entry.commitment.as_ref(), entry.offset, entry.size)?;
             self.bytes[slot.place as usize..][..ENTRY].copy_from_slice(&made);
             self.steps.push(Step::Entry { slot: slot.number, place: slot.place, entry });
@@ -148,7 +152,7 @@ impl Mending {
     fn by_search(&self, bytes: &[u8]) -> Option<Entry> {
         let commitment = Node(bytes[..32].try_into().ok()?);
         let size = number(bytes, 40);
-        let areas = survey::search(&self.bytes, &self.numbers, &commitment);
+        let areas = self.tree().search(&self.numbers, &commitment);
         let fitting = areas.into_iter().filter(|(offset, found)| self.allowed(*offset, size) && area(size) == *found);
         let mut entries = fitting.map(|(offset, _)| Entry { commitment, offset, size });
         entries.find(|entry| checksum_apart(entry, bytes) == Some(0))
@@ -167,7 +171,7 @@ impl Mending {
         };
         let bytes = survey::slot_bytes(&self.bytes, slot.place);
         let size = hand.segment.as_ref().map_or(number(bytes, 40), |(size, _)| *size);
-        let areas = survey::search(&self.bytes, &self.numbers, &hand.commitment);
+        let areas = self.tree().search(&self.numbers, &hand.commitment);
         let certain = |entry: &Entry| {
             hand.segment.is_some() || checksum_apart(entry, bytes).is_some_and(|apart| apart <= FEW_BITS)
         };
@@ -188,7 +192,11 @@ impl Mending {
     /// The commitment of the area that an offset and a size name.
     fn commitment(&self, offset: u64, size: u64) -> Option<Node> {
         self.allowed(offset, size).then_some(())?;
-        vizhuthamen::commitment(&self.bytes[offset as usize..][..area(size) as usize]).ok()
+        self.tree().commitment(offset, area(size))
+    }
+
+    fn tree(&self) -> &Tree {
+        self.tree.get_or_init(|| Tree::of(&self.bytes))
     }
 }
 

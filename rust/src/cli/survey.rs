@@ -113,24 +113,30 @@ pub fn slot_bytes(deal: &[u8], place: u64) -> &[u8] {
     &deal[place as usize..][..ENTRY]
 }
 
-/// What every slot of a deal holds. Refusals: 2.
+/// What every slot of a deal holds, and its stray bits. Refusals: 2.
 pub fn survey(deal: &[u8]) -> Result<Survey, Refusal> {
     let numbers = numbers(deal)?;
-    let mut slots = vec![];
-    for number in 0..numbers.entries {
-        let place = numbers.start + ENTRY as u64 * number;
-        let state = match vizhuthamen::read_entry(slot_bytes(deal, place))? {
-            ReadEntry::Blank => State::Blank,
-            ReadEntry::Damaged => State::Damaged,
-            ReadEntry::Valid(entry) if allowed(deal, &numbers, entry.offset, entry.size) => {
-                State::Standing { entry, kept: false, overlaps: None }
-            }
-            ReadEntry::Valid(entry) => State::Valid(entry),
-        };
-        slots.push(Slot { number, place, state });
-    }
+    let mut slots = slots(deal, &numbers)?;
     judge(deal, &mut slots);
     Ok(Survey { numbers, stray: stray(deal), slots })
+}
+
+/// The slots by their own bytes, without hashing: of an entry that stands nothing else is said. Refusals: 2.
+pub fn slots(deal: &[u8], numbers: &IndexNumbers) -> Result<Vec<Slot>, Refusal> {
+    (0..numbers.entries)
+        .map(|number| {
+            let place = numbers.start + ENTRY as u64 * number;
+            let state = match vizhuthamen::read_entry(slot_bytes(deal, place))? {
+                ReadEntry::Blank => State::Blank,
+                ReadEntry::Damaged => State::Damaged,
+                ReadEntry::Valid(entry) if allowed(deal, numbers, entry.offset, entry.size) => {
+                    State::Standing { entry, kept: false, overlaps: None }
+                }
+                ReadEntry::Valid(entry) => State::Valid(entry),
+            };
+            Ok(Slot { number, place, state })
+        })
+        .collect()
 }
 
 /// Fills in which entries are kept and which overlap.
@@ -183,19 +189,37 @@ fn above(left: Option<Node>, right: Option<Node>) -> Option<Node> {
     vizhuthamen::commitment(&[left?.0, right?.0].concat()).ok()
 }
 
-/// The areas below the index that have a commitment: offset and area, by rising area and offset.
-pub fn search(deal: &[u8], numbers: &IndexNumbers, wanted: &Node) -> Vec<(u64, u64)> {
-    let mut area = 128;
-    let mut level: Vec<Option<Node>> = deal.chunks(area).map(|bytes| vizhuthamen::commitment(bytes).ok()).collect();
-    let mut found = vec![];
-    while area <= deal.len() / 2 {
-        let here = level.iter().enumerate().filter(|(_, node)| node.as_ref() == Some(wanted));
-        let offsets = here.map(|(i, _)| (i * area) as u64);
-        found.extend(offsets.filter(|offset| offset + area as u64 <= numbers.start).map(|o| (o, area as u64)));
-        level = level.chunks(2).map(|pair| above(pair[0], pair[1])).collect();
-        area *= 2;
+/// The commitments of all areas of a deal, from 128 bytes to half of it; none where an area has stray bits.
+#[derive(Debug)]
+pub struct Tree(Vec<Vec<Option<Node>>>);
+
+impl Tree {
+    /// Hashes the whole deal once.
+    pub fn of(deal: &[u8]) -> Tree {
+        let mut level: Vec<Option<Node>> = deal.chunks(128).map(|bytes| vizhuthamen::commitment(bytes).ok()).collect();
+        let mut levels = vec![];
+        while level.len() > 1 {
+            let next = level.chunks(2).map(|pair| above(pair[0], pair[1])).collect();
+            levels.push(std::mem::replace(&mut level, next));
+        }
+        Tree(levels)
     }
-    found
+
+    /// The commitment of the area at an offset, which is a multiple of it.
+    pub fn commitment(&self, offset: u64, area: u64) -> Option<Node> {
+        let level = self.0.get((area / 128).ilog2() as usize)?;
+        *level.get((offset / area) as usize)?
+    }
+
+    /// The areas below the index that have a commitment: offset and area, by rising area and offset.
+    pub fn search(&self, numbers: &IndexNumbers, wanted: &Node) -> Vec<(u64, u64)> {
+        let places = self.0.iter().enumerate().flat_map(|(height, level)| {
+            let area = 128 << height;
+            let here = level.iter().enumerate().filter(|(_, node)| node.as_ref() == Some(wanted));
+            here.map(move |(i, _)| (i as u64 * area, area))
+        });
+        places.filter(|(offset, area)| offset + area <= numbers.start).collect()
+    }
 }
 
 #[cfg(test)]
@@ -312,12 +336,15 @@ mod tests {
         let numbers = numbers(&deal).unwrap();
         for (offset, area) in [(0, 128), (1664, 128), (256, 256), (1024, 512), (0, 1024)] {
             let node = commitment(&deal[offset..][..area]).unwrap();
-            assert_eq!(search(&deal, &numbers, &node), [(offset as u64, area as u64)]);
+            let tree = Tree::of(&deal);
+            assert_eq!(tree.commitment(offset as u64, area as u64), Some(node));
+            assert_eq!(tree.search(&numbers, &node), [(offset as u64, area as u64)]);
         }
         // Not in the index, and not where stray bits are.
-        assert_eq!(search(&deal, &numbers, &commitment(&deal[1792..1920]).unwrap()), []);
+        assert_eq!(Tree::of(&deal).search(&numbers, &commitment(&deal[1792..1920]).unwrap()), []);
         let node = commitment(&deal[256..512]).unwrap();
         deal[287] |= 0x80;
-        assert_eq!(search(&deal, &numbers, &node), []);
+        assert_eq!(Tree::of(&deal).search(&numbers, &node), []);
+        assert_eq!(Tree::of(&deal).commitment(256, 256), None);
     }
 }

@@ -5,9 +5,12 @@ use super::super::failure::Failure;
 use super::super::files::{self, Content};
 use super::super::json::Json;
 use super::super::progress::Progress;
+use super::super::store::names::shown;
 use super::super::store::{self, DealFile};
 use super::super::survey::{self, area, Slot, State, Stray, Survey};
-use super::{refused, slot_members, text};
+use super::list::slot_members;
+use super::{refused, text};
+use std::path::Path;
 
 /// Names all that is wrong with a deal. Nothing is changed.
 pub fn fsck(deal: &Stream, wait: bool) -> Result<Answer, Failure> {
@@ -154,6 +157,6 @@ fn states(survey: &Survey, slot: &Slot) -> Vec<(&'static str, String)> {
 }
 
 /// The name of a file in an answer.
-pub fn file_name(path: &std::path::Path) -> Json {
-    text(super::shown(path))
+pub fn file_name(path: &Path) -> Json {
+    text(shown(path))
 }

@@ -9,7 +9,7 @@ use super::super::progress::Progress;
 use super::super::store::{Access, DealFile};
 use super::super::survey::Stray;
 use super::fsck::{file_name, Wrong};
-use super::{path_of, refused, slot_entry, text};
+use super::{path_of, refused, text};
 use vizhuthamen::{Entry, Node, Refusal};
 
 /// Mends what can be told for certain, with a copy of the deal as it was beside it.
@@ -94,4 +94,16 @@ fn members(step: &Step) -> Json {
         Step::Entry { slot, place, entry } => slot_entry(text("entry"), *slot, *place, entry),
         Step::Segment { slot, place, entry } => slot_entry(text("segment"), *slot, *place, entry),
     })
+}
+
+/// What was done to a slot, with its entry, for JSON.
+fn slot_entry(what: Json, slot: u64, place: u64, entry: &Entry) -> Vec<(&'static str, Json)> {
+    vec![
+        ("what", what),
+        ("slot", Json::Number(slot)),
+        ("place", Json::Number(place)),
+        ("offset", Json::Number(entry.offset)),
+        ("size", Json::Number(entry.size)),
+        ("commitment", text(entry.commitment)),
+    ]
 }

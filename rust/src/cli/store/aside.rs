@@ -73,7 +73,7 @@ impl<'a> Aside<'a> {
     /// Gives the file the name of its part.
     pub fn give_name(&mut self, held: &Held) -> Result<(), String> {
         while !self.named {
-            match system::give_name(&self.file, &self.name) {
+            match self.has(&self.name, system::give_name(&self.file, &self.name)) {
                 Ok(()) => self.named = true,
                 Err(error) if error.kind() == ErrorKind::AlreadyExists => free(&self.name, held)?,
                 Err(_) => self.write_again(held)?,
@@ -91,28 +91,37 @@ impl<'a> Aside<'a> {
 
     /// Renames the file, which has the name of its part, over the target.
     pub fn rename(&mut self, target: &Path) -> Result<(), String> {
-        system::repeat(|| fs::rename(&self.name, target)).map_err(|error| rename_failed(&error))?;
+        let renamed = system::repeat(|| fs::rename(&self.name, target));
+        self.has(target, renamed).map_err(|error| rename_failed(&error))?;
         self.leave();
         Ok(())
+    }
+
+    /// The answer of a call that gives the file a name. One that failed may have done so all the same, as over a network.
+    fn has(&self, name: &Path, answer: io::Result<()>) -> io::Result<()> {
+        answer.or_else(|error| match leads_to(name, &self.file) {
+            Ok(true) => Ok(()),
+            _ => Err(error),
+        })
     }
 
     /// Gives the file a name that must not be taken. Says false where it is.
     pub fn make(&mut self, target: &Path, held: &Held) -> Result<bool, String> {
         if !self.named {
-            match system::give_name(&self.file, target) {
+            match self.has(target, system::give_name(&self.file, target)) {
                 Ok(()) => return Ok(true),
                 Err(error) if error.kind() == ErrorKind::AlreadyExists => return Ok(false),
                 Err(_) => self.write_again(held)?,
             }
         }
-        match system::rename_to_free(&self.name, target) {
+        match self.has(target, system::rename_to_free(&self.name, target)) {
             Ok(()) => {
                 self.leave();
                 Ok(true)
             }
             Err(error) if error.kind() == ErrorKind::AlreadyExists => Ok(false),
             // A file system that cannot do so.
-            Err(_) => match system::repeat(|| fs::hard_link(&self.name, target)) {
+            Err(_) => match self.has(target, system::repeat(|| fs::hard_link(&self.name, target))) {
                 Ok(()) => {
                     self.remove_name();
                     Ok(true)

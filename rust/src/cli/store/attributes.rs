@@ -26,18 +26,21 @@ pub fn keep(new: &File, keep: &Keep) -> Result<(), String> {
     new.set_permissions(old.permissions()).map_err(|error| format!("its permissions cannot be kept: {error}"))
 }
 
+/// Gives the new file to the owner and the group of the old one, as far as the caller may.
 fn keep_owner(new: &File, old: &Metadata, new_owner: bool) -> Result<(), String> {
     let made = new.metadata().map_err(|error| error.to_string())?;
+    // The group first: whoever gives the file away may no longer change it.
     let group = made.gid() == old.gid() || fchown(new, None, Some(old.gid())).is_ok();
     let user = made.uid() == old.uid() || fchown(new, Some(old.uid()), None).is_ok();
     match (user && group) || new_owner {
         true => Ok(()),
         false => Err(format!(
-            "it belongs to user {} and group {}, and its replacement would belong to user {}; \
-             run the command as that user, or allow it with --new-owner",
+            "it belongs to user {} and group {}, and its replacement would belong to user {} and group {}; \
+             run the command as the first, or allow it with --new-owner",
             old.uid(),
             old.gid(),
-            made.uid()
+            if user { old.uid() } else { made.uid() },
+            if group { old.gid() } else { made.gid() }
         )),
     }
 }
