@@ -63,8 +63,9 @@ def build_replay(name):
                             kind, "replay", "--target-dir", ROOT / "rust" / "target" / "levels" / name,
                             "--message-format", "json-render-diagnostics"],
                            env=os.environ | {"VIZHUTHAMEN_LIB": str(ARCHIVES[name])}, check=True, stdout=subprocess.PIPE)
-    made = [json.loads(line).get("executable") for line in built.stdout.splitlines()]
-    shutil.copy2(next(filter(None, made)), replay(name))
+    said = map(json.loads, built.stdout.splitlines())
+    made = next(each["executable"] for each in said if each.get("target", {}).get("name") == "replay")
+    shutil.copy2(made, replay(name))
 
 
 def main():

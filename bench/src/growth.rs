@@ -53,7 +53,9 @@ fn aims(times: &[Times], libraries: &[Library]) -> Vec<Aim> {
     let slowest = times.iter().filter_map(|times| over(times, "v1")).max_by(f64::total_cmp);
     let largest = times.last().expect("there are sizes");
     let what = |level: &str| format!("commitment of 16 MiB with {level}, time over the earlier library's");
+    let node = times.first().and_then(|times| over(times, "v1"));
     vec![
+        Aim::at_most("single node on plain x86-64, time over the earlier library's", 0.9, node),
         Aim::at_most("commitment on plain x86-64, slowest size, time over the earlier library's", 1.05, slowest),
         Aim::at_most(what("AVX2"), 0.62, over(largest, "v3")),
         Aim::at_most(what("AVX-512"), 0.27, over(largest, "v4")),

@@ -1,8 +1,9 @@
-//! Times the library beside other implementations of SHA-256, in one process, and prints tables of ratios and a verdict for each aim.
+//! Times the library beside other implementations of SHA-256, in one process, and prints tables of ratios and a verdict for
+//! each aim.
 //!
-//! bench FOLDER [--peers]: FOLDER has chosen.so, v1.so, v3.so and v4.so, the library by level as bench/run makes them, and before.so
-//! where an earlier library is to be compared. With --peers only the table beside the peers. bench --functions names the library's
-//! functions that are measured.
+//! bench FOLDER [--peers]: FOLDER has chosen.so, v1.so, v3.so and v4.so, the library by level as bench/run makes them, and
+//! before.so where an earlier library is to be compared. With --peers only the table beside the peers. bench --functions names
+//! the library's functions that are measured.
 mod aims;
 mod beside;
 mod deal;
@@ -40,10 +41,10 @@ fn main() {
 }
 
 fn beside_peers(libraries: &[Library], peers: &[Box<dyn Peer>]) -> Vec<Aim> {
-    println!("Medians of {SHORT} rounds (of {LONG} on 1 MiB and more) after one that is not counted; in a round the implementations");
-    println!("take turns. Times are the processor time of one thread; inputs and buffers are in memory and warm. A ratio is the");
-    println!("median over the rounds of the library's time, at the level that it chooses, over the other's: above 1 the other is");
-    println!("faster.\n");
+    println!("Medians of {SHORT} rounds (of {LONG} on 1 MiB and more) after one that is not counted; in a round the");
+    println!("implementations take turns. Times are the processor time of one thread; inputs and buffers are in");
+    println!("memory and warm. A ratio is the median over the rounds of the library's time, at the level that it");
+    println!("chooses, over the other's: above 1 the other is faster.\n");
     beside::print(libraries, peers)
 }
 
@@ -73,7 +74,8 @@ fn section(name: &str, said: &str) {
     println!("\n### {name}\n\n{said}\n");
 }
 
-/// The library that chooses its level, each level that this processor has, the lowest first, and the earlier library if there is one.
+/// The library that chooses its level, each level that this processor has, the lowest first, and the earlier library if there
+/// is one.
 fn libraries(folder: &Path) -> Vec<Library> {
     let has_v3 = is_x86_feature_detected!("avx2") && is_x86_feature_detected!("bmi2");
     let has_v4 = has_v3 && is_x86_feature_detected!("avx512bw") && is_x86_feature_detected!("avx512vl");

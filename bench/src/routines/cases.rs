@@ -98,6 +98,10 @@ fn streams(bytes: &[u8]) -> Vec<Case<'_>> {
     ]
 }
 
+/// The raw bytes of the longer segment, which has 8 KiB.
+pub const RAW: usize = 8128;
+pub const RAW_INPUT: &str = ", 8,128 bytes";
+
 fn paddings(bytes: &[u8]) -> Vec<Case<'_>> {
     let pad = |input, repeats, raw: usize| {
         call("vz_fr32_pad", input, repeats, 0, move |library| {
@@ -119,12 +123,7 @@ fn paddings(bytes: &[u8]) -> Vec<Case<'_>> {
             })
         })
     };
-    vec![
-        pad(", 127 bytes", 200, 127),
-        pad(", 8,128 bytes", 5, 8128),
-        unpad(", 127 bytes", 200, 127),
-        unpad(", 8,128 bytes", 5, 8128),
-    ]
+    vec![pad(", 127 bytes", 200, 127), pad(RAW_INPUT, 5, RAW), unpad(", 127 bytes", 200, 127), unpad(RAW_INPUT, 5, RAW)]
 }
 
 fn entries(kept: &Kept) -> Vec<Case<'_>> {
