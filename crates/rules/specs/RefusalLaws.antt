@@ -32,14 +32,6 @@ pub all-passed : (rs : List Rule) → AllPassed rs → firstRefusal rs ≡ 0
 all-passed [] p = refl
 all-passed (r ∷ rs) p = rw (p .0) (all-passed rs (p .1))
 
--- a passed rule is passed over, a failed one gives its code
-pub pass : (passed : Bool) (code : ℕ) (rs : List Rule) → passed ≡ true
-    → firstRefusal (rule passed code ∷ rs) ≡ firstRefusal rs
-pass passed code rs e = rw e
-
-pub fail : (passed : Bool) (code : ℕ) (rs : List Rule) → passed ≡ false → firstRefusal (rule passed code ∷ rs) ≡ code
-fail passed code rs e = rw e
-
 -- a list in two parts: the second is reached where nothing in the first fails
 pub refused-append : (rs ss : List Rule) → firstRefusal rs ≡ 0 → Codes rs → firstRefusal (rs ++ ss) ≡ firstRefusal ss
 refused-append [] ss e c = refl

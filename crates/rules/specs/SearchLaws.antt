@@ -171,20 +171,3 @@ module _ (p q : ℕ → Bool) where
   count-cong i (suc n) f =
       ap (λ (b : Bool). one b + count p (suc i) n) (f i (omega arith) (omega arith))
       ∙ ap (λ (m : ℕ). one (q i) + m) (count-cong (suc i) n (λ j a b. f j (omega arith) (omega arith)))
-
-  -- that differ at k alone, which passes the second: one more passes
-  pub count-one : (i n k : ℕ) → i ≤ k → k < i + n → p k ≡ false → q k ≡ true
-      → ((j : ℕ) → (j ≡ k → ⊥) → p j ≡ q j) → count q i n ≡ suc (count p i n)
-  count-one i zero k a b e f g = absurd (omega arith)
-  count-one i (suc n) k a b e f g =
-      ⊎-elim
-      (λ same.
-      let pi : p i ≡ false = subst (λ (x : ℕ). p x ≡ false) (sym same) e in
-      let qi : q i ≡ true = subst (λ (x : ℕ). q x ≡ true) (sym same) f in
-      let r : count p (suc i) n ≡ count q (suc i) n = count-cong (suc i) n (λ j u v. g j (λ w. omega arith)) in
-      rw (pi, qi) (omega arith))
-      (λ less.
-      let r : count q (suc i) n ≡ suc (count p (suc i) n) = count-one (suc i) n k less (omega arith) e f g in
-      let pi : p i ≡ q i = g i (λ w. omega arith) in
-      rw (pi) (omega arith))
-      (eq-or-lt-of-le a)
