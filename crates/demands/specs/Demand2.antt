@@ -2,7 +2,7 @@
 -- kept is never booked again in that deal.
 use mathlib.Core.Path.{_≡_, refl, sym, ap, _∙_}
 use mathlib.Core.Bool.{Bool, true, false}
-use Prim.Native.Nat.{ℕ, zero, suc, _≤_}
+use Prim.Native.Nat.{ℕ, zero, suc, _≤_, _<_}
 use native.Mathlib.Omega.{arith}
 use mathlib.Core.List.{List}
 use lib.ListN.{length}
@@ -16,7 +16,8 @@ use Rattle.merkle.specs.Tree.{commitmentOf}
 use Rattle.merkle.specs.TreeLaws.{top-node}
 use Rattle.merkle.specs.NodeSource.{IsTree}
 use Rattle.merkle.specs.NodeSourceLaws.{run-tree}
-use Rattle.sizes.specs.Sizes.{dealLevel}
+use Rattle.rules.specs.SearchLaws.{IsLowest}
+use Rattle.sizes.specs.Sizes.{entryCount, dealLevel}
 use Rattle.sizes.specs.SizesLaws.{lent-size}
 use Rattle.index.specs.Slots.{entryAt}
 use Rattle.record.specs.Check.{dealTerms, checkOf}
@@ -27,9 +28,11 @@ use Rattle.build.specs.declared.BuildAnswer.{BuildAnswer}
 use Rattle.lent.specs.LentDeal.{LentDeal, lentDeal, dealSize}
 use Rattle.build.specs.Build.{buildRules, termsOf, fieldsFor, Building, built, notBuilt, recordAt}
 use Rattle.build.specs.Build.{answerFor, outputFor, buildAnswer, buildOutput}
-use Rattle.booking.specs.Booking.{bookAnswer, bookedDeal}
+use Rattle.booking.specs.Booking.{keepsSegment, bookAnswer, bookedDeal}
+use Rattle.booking.specs.BookableLaws.{Bookable}
+use Rattle.booking.specs.AlreadyLaws.{answer15}
 use Rattle.booking.specs.Run.{runBookings}
-use Rattle.booking.specs.NeverAgain.{never-again, kept-for-good}
+use Rattle.booking.specs.NeverAgain.{never-again, kept-for-good, kept-is-15}
 use Rattle.build.specs.BuildLaws.{build-means, commitment-length, built-parses, built-accepted}
 
 -- for any source of nodes that is a tree over the deal
@@ -90,3 +93,12 @@ never-booked-again = never-again
 pub kept-never-booked : (deal segment : List ℕ) (later : List (List ℕ)) → bookAnswer deal segment .code ≡ 15
     → bookAnswer (runBookings deal later) segment ≡ bookAnswer deal segment
 kept-never-booked = kept-for-good
+
+-- Demand 2. Where some slot of a deal keeps the segment, booking answers 15 with the offset and the entry place of the lowest such slot, now
+-- and after any later bookings.
+pub kept-is-never-booked : (deal segment : List ℕ) (i : ℕ) → Bookable deal segment → i < entryCount (length deal)
+    → keepsSegment deal segment i ≡ true
+    → (j : ℕ)
+    × IsLowest (keepsSegment deal segment) 0 (entryCount (length deal)) j
+    × ((later : List (List ℕ)) → bookAnswer (runBookings deal later) segment ≡ answer15 deal j)
+kept-is-never-booked = kept-is-15

@@ -1,5 +1,4 @@
--- Document 01, "Table to be proved (P1 to P12)", over what the routines answer. The lengths of records are those of
--- `Rattle.record.specs.AcceptedLength.accepted-length`.
+-- Document 01, "Table to be proved (P1 to P12)", over what the routines answer.
 use mathlib.Core.Path.{_≡_, refl, ap, ap₂, _∙_}
 use mathlib.Core.Bool.{Bool, true, false}
 use Prim.Native.Nat.{ℕ, _^_, _≤_}
@@ -9,15 +8,17 @@ use lib.ListN.{length}
 use lib.Count.{trailingZeros}
 use lib.Pow.{pow-mono}
 use borrow.Author.Tests.{le-leb}
+use Rattle.octets.specs.Bytes.{Bytes}
 use Rattle.pow2.specs.PowerLaws.{ones-pow}
 use Rattle.fr32.specs.Padding.{segmentLength}
 use Rattle.sizes.specs.declared.IndexNumbers.{IndexNumbers}
 use Rattle.sizes.specs.Numbers.{indexNumbers}
 use Rattle.sizes.specs.Sizes.{dealSizeAllowed, segmentSizeAllowed, offsetAllowed, placeAllowed, area, doubledTo}
 use Rattle.sizes.specs.Sizes.{entryCount, indexStart, dealLevel, segmentLevel}
-use Rattle.record.specs.Form.{Fields, parsed, parse}
+use Rattle.record.specs.Form.{Fields, parsed, parse, recordLength}
+use Rattle.record.specs.FieldsOf.{fieldsOf}
 use Rattle.record.specs.Check.{dealTerms, checkOf}
-use Rattle.record.specs.Form.{recordLength}
+use Rattle.record.specs.AcceptedLength.{accepted-length}
 use Rattle.demands.specs.TableLaws.{answers-4, answers-5, answers-6, never-4, never-5, never-6}
 
 -- the index numbers as answered
@@ -46,6 +47,11 @@ abbrev Place : ℕ → ℕ → Fields → Type 0
 Place d place x =
     (x .place ≡ place) × (segmentSizeAllowed d (x .size) ≡ true) × (offsetAllowed d (x .offset) (x .size) ≡ true)
 
+-- every accepted record of a segment of a size in a deal of d bytes has n bytes
+abbrev RecordsOf : ℕ → ℕ → ℕ → Type 0
+RecordsOf d size n =
+    (commitment r : List ℕ) → Bytes r → checkOf (dealTerms commitment d) r ≡ 0 → fieldsOf r .size ≡ size → length r ≡ n
+
 pub Table : Type 0
 Table =
     -- P1: 4 entries, start 256
@@ -55,13 +61,13 @@ Table =
     -- P3
     × (indexNumbers (2 ^ 36) ≡ numbers 524288 68685922304)
     -- P4: size 256 at offset 0 is allowed, record of 202 bytes
-    × Never 512 (Segment 256 0) 4 × Never 512 (Segment 256 0) 5 × (recordLength 512 256 ≡ 202)
+    × Never 512 (Segment 256 0) 4 × Never 512 (Segment 256 0) 5 × RecordsOf 512 256 202
     -- P5
-    × (recordLength 512 128 ≡ 234)
+    × RecordsOf 512 128 234
     -- P6
-    × (recordLength 1048576 1024 ≡ 842)
+    × RecordsOf 1048576 1024 842
     -- P7
-    × (recordLength (2 ^ 36) 128 ≡ 1962)
+    × RecordsOf (2 ^ 36) 128 1962
     -- P8
     × Answers 512 (λ x. x .size ≡ 512) 4
     -- P9
@@ -78,6 +84,9 @@ lengths : (recordLength 512 256 ≡ 202) × (recordLength 512 128 ≡ 234) × (r
     × (recordLength (2 ^ 36) 128 ≡ 1962)
 unfolding recordLength area doubledTo dealLevel segmentLevel trailingZeros
 lengths = (refl, refl, refl, refl)
+
+records-of : (d size n : ℕ) → recordLength d size ≡ n → RecordsOf d size n
+records-of d size n e commitment r b c s = accepted-length (dealTerms commitment d) r b c ∙ ap (recordLength d) s ∙ e
 
 -- P1 to P3: the index numbers of an allowed deal size
 answered : (d entries start : ℕ) → dealSizeAllowed d ≡ true → entryCount d ≡ entries → indexStart d ≡ start
@@ -142,10 +151,10 @@ table = (
   answered (2 ^ 36) 524288 68685922304 (allowed-power 36 (omega arith) (omega arith)) refl refl,
   (λ c r x l p. size-passes c r x l p 256 0 refl),
   (λ c r x l p. offset-passes c r x l p 256 0 refl),
-  lengths .0,
-  lengths .1,
-  lengths .2,
-  lengths .3,
+  records-of 512 256 202 (lengths .0),
+  records-of 512 128 234 (lengths .1),
+  records-of 1048576 1024 842 (lengths .2),
+  records-of (2 ^ 36) 128 1962 (lengths .3),
   (λ c r x l p. size-refused c r x l p 512 refl),
   (λ c r x l p. offset-refused c r x l p 128 256 refl refl),
   (λ c r x l p. offset-refused c r x l p 128 64 refl refl),
