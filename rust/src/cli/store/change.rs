@@ -53,6 +53,7 @@ pub fn put(home: &Home, parts: &[Part], still: impl Fn() -> Result<(), String>) 
     }
 }
 
+/// Puts several files in their places, with a journal from before the first rename to after the last.
 fn put_together(
     home: &Home,
     parts: &[Part],
