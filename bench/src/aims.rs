@@ -5,20 +5,20 @@ pub enum Bound {
     AtMost(f64),
 }
 
-/// An aim: what is compared, the bound, and the ratio of this run; none where this processor cannot show it.
+/// An aim: what is measured, the bound, and what this run measured; nothing where this processor cannot show it.
 pub struct Aim {
     pub what: String,
     pub bound: Bound,
-    pub ratio: Option<f64>,
+    pub measured: Option<f64>,
 }
 
 impl Aim {
-    pub fn at_least(what: impl ToString, bound: f64, ratio: Option<f64>) -> Aim {
-        Aim { what: what.to_string(), bound: Bound::AtLeast(bound), ratio }
+    pub fn at_least(what: impl ToString, bound: f64, measured: Option<f64>) -> Aim {
+        Aim { what: what.to_string(), bound: Bound::AtLeast(bound), measured }
     }
 
-    pub fn at_most(what: impl ToString, bound: f64, ratio: Option<f64>) -> Aim {
-        Aim { what: what.to_string(), bound: Bound::AtMost(bound), ratio }
+    pub fn at_most(what: impl ToString, bound: f64, measured: Option<f64>) -> Aim {
+        Aim { what: what.to_string(), bound: Bound::AtMost(bound), measured }
     }
 
     /// One line: met or not met in this run.
@@ -28,14 +28,14 @@ impl Aim {
             Bound::AtMost(bound) => ("at most", bound),
         };
         let said = format!("{}: {words} {bound:.2}", self.what);
-        let Some(ratio) = self.ratio else {
+        let Some(measured) = self.measured else {
             return format!("not measured: {said}; this processor lacks what it needs");
         };
         let met = match self.bound {
-            Bound::AtLeast(bound) => ratio >= bound,
-            Bound::AtMost(bound) => ratio <= bound,
+            Bound::AtLeast(bound) => measured >= bound,
+            Bound::AtMost(bound) => measured <= bound,
         };
-        format!("{}: {said}; {ratio:.2} in this run", if met { "met" } else { "not met" })
+        format!("{}: {said}; {measured:.2} in this run", if met { "met" } else { "not met" })
     }
 }
 

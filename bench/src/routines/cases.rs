@@ -81,7 +81,7 @@ fn streams(bytes: &[u8]) -> Vec<Case<'_>> {
         })
     };
     vec![
-        call("vz_stream_new", "", 10_000, 0, |library| {
+        call("vz_stream_new", "", 50_000, 0, |library| {
             let mut state = [0; STREAM_STATE];
             // SAFETY: the state is a local.
             unsafe { (library.stream_new)(black_box(&mut state).as_mut_ptr(), STREAM_STATE) }
@@ -90,7 +90,7 @@ fn streams(bytes: &[u8]) -> Vec<Case<'_>> {
         take(", piece of 256 bytes", 256),
         take(", piece of 4 KiB", 4096),
         take(", piece of 64 KiB", 1 << 16),
-        call("vz_stream_end", ", no byte (2)", 10_000, 2, |library| {
+        call("vz_stream_end", ", no byte (2)", 50_000, 2, |library| {
             let (state, mut node, mut count) = ([0; STREAM_STATE], [0; 32], 0);
             // SAFETY: all are locals of their own.
             unsafe { (library.stream_end)(black_box(&state).as_ptr(), STREAM_STATE, node.as_mut_ptr(), 32, &mut count) }
@@ -128,7 +128,7 @@ fn paddings(bytes: &[u8]) -> Vec<Case<'_>> {
 
 fn entries(kept: &Kept) -> Vec<Case<'_>> {
     vec![
-        call("vz_index_numbers", "", 10_000, 0, |library| {
+        call("vz_index_numbers", "", 50_000, 0, |library| {
             let (mut entries, mut start) = (0, 0);
             // SAFETY: all that is written are locals.
             unsafe { (library.index_numbers)(black_box(1 << 30), &mut entries, &mut start) }
@@ -164,7 +164,7 @@ fn checks<'a>(longest: &'a Longest, kept: &'a Kept) -> Vec<Case<'a>> {
             // SAFETY: the slices are live, and the two that are written apart.
             unsafe { (library.settle_records)(root, 32, DEAL_SIZE, first, length, first, length, left, 64, right, 64) }
         }),
-        call("vz_read_field", ", the first", 10_000, 0, move |library| {
+        call("vz_read_field", ", the first", 50_000, 0, move |library| {
             let (mut tag, mut start, mut length, mut next) = (0, 0, 0, 0);
             // SAFETY: the record is live, and all that is written are locals.
             unsafe {
@@ -183,7 +183,7 @@ fn over_deal<'a>(kept: &'a Kept, input: &'static str, repeats: usize) -> Vec<Cas
             // SAFETY: the slices are live and apart.
             unsafe { (library.inspect)(deal, length, place, &mut state, node, 32, &mut offset, &mut size) }
         }),
-        call("vz_tally", input, repeats, 0, move |library| {
+        call("vz_tally", input, 20 * repeats, 0, move |library| {
             let (mut blank, mut damaged, mut valid) = (0, 0, 0);
             // SAFETY: the deal is live, and all that is written are locals.
             unsafe { (library.tally)(black_box(deal).as_ptr(), length, &mut blank, &mut damaged, &mut valid) }

@@ -81,7 +81,18 @@ impl Measured<'_> {
             ("v1", _) | (_, None) => 1.0,
             (_, Some(v3)) => self.ratio(case, v3),
         };
-        vec![self.slowest("on this processor", chosen), self.slowest("on one with AVX2 and no AVX-512", with_avx2)]
+        vec![
+            self.slowest("on this processor", chosen),
+            self.slowest("on one with AVX2 and no AVX-512", with_avx2),
+            Aim::at_most("Fr32 there or back, nanoseconds a raw byte", 0.5, self.fr32()),
+        ]
+    }
+
+    /// The slower of padding and the way back, on the longer input.
+    fn fr32(&self) -> Option<f64> {
+        let long = |case: &usize| self.cases[*case].input == cases::RAW_INPUT;
+        let times = (0..self.cases.len()).filter(long).map(|case| self.times[case].of(0) / cases::RAW as f64 * 1e9);
+        times.max_by(f64::total_cmp)
     }
 
     fn slowest(&self, processor: &str, ratio: impl Fn(usize) -> f64) -> Aim {
