@@ -24,7 +24,8 @@ use Rattle.build.specs.declared.BuildAnswer.{BuildAnswer}
 
 -- an answer, and what the output holds afterwards
 abbrev pub Answered : List ℕ → ℕ → List ℕ → BuildAnswer → List ℕ → Type 0
-Answered deal place out answer after = (answer ≡ buildAnswer (lentDeal deal) place out) × (after ≡ buildOutput (lentDeal deal) place out)
+Answered deal place out answer after =
+    (answer ≡ buildAnswer (lentDeal deal) place out) × (after ≡ buildOutput (lentDeal deal) place out)
 
 -- the record for an entry that was read at a place
 abbrev pub recordAs : List ℕ → ℕ → Row → List ℕ
@@ -42,54 +43,68 @@ pub record KeptHere (deal : List ℕ) (place : ℕ) (entry : Row) : Type 0 where
   pub builds : recordAt (lentDeal deal) place ≡ built (recordAs deal place entry)
   pub sized : length (recordAs deal place entry) ≡ recordLength (length deal) (entry .size)
 
-pub kept-here : (deal : List ℕ) (place : ℕ) (entry : Row) → Passed deal place → entry ≡ keptRow (nodeAt deal) (length deal) (entryAt deal place) → entry .stands ≡ true
+pub kept-here : (deal : List ℕ) (place : ℕ) (entry : Row) → Passed deal place
+    → entry ≡ keptRow (nodeAt deal) (length deal) (entryAt deal place) → entry .stands ≡ true
     → KeptHere deal place entry
 kept-here deal place entry p e t =
     let a = answer-kept (nodeAt deal) (length deal) (entryAt deal place) entry e t in
     let s = a .as-standing in
-    let w = in-deal (length deal) place (entry .offset) (entry .size) (p .lent) (p .allowed) (s .size-allowed) (s .offset-allowed) in
-    let c : length (entry .commitment) ≡ 32 = ap length (s .commitment-is) ∙ commitment-in-length deal place (w .place-is .in-deal) in
+    let w = in-deal (length deal) place (entry .offset) (entry .size) (p .lent) (p .allowed) (s .size-allowed)
+    (s .offset-allowed) in
+    let c : length (entry .commitment) ≡ 32 = ap length (s .commitment-is)
+    ∙ commitment-in-length deal place (w .place-is .in-deal) in
     let r = record-of-entry (lentDeal deal) (entryAt deal place) place in
     record {
       within = w;
-      builds = means-build (lentDeal deal) place (recordAs deal place entry) (p .lent) (p .clean) (p .allowed) (a .is-kept) (rw (s .commitment-is, s .offset-is, s .size-is) r);
-      sized = record-length (lentDeal deal) (run-tree deal (dealLevel (length deal)) (w .lent-is .deal .is-power)) (entry .commitment) (entry .offset) (entry .size) place c w;
+      builds = means-build (lentDeal deal) place (recordAs deal place entry) (p .lent) (p .clean) (p .allowed)
+          (a .is-kept) (rw (s .commitment-is, s .offset-is, s .size-is) r);
+      sized = record-length (lentDeal deal) (run-tree deal (dealLevel (length deal)) (w .lent-is .deal .is-power))
+          (entry .commitment) (entry .offset) (entry .size) place c w;
     }
 
 module _ (deal : List ℕ) (place : ℕ) (out : List ℕ) {answer : BuildAnswer} where
-  refused-with : (code : ℕ) → answer ≡ record { code = code; length = 0 } → recordAt (lentDeal deal) place ≡ notBuilt code → Answered deal place out answer out
+  refused-with : (code : ℕ) → answer ≡ record { code = code; length = 0 }
+      → recordAt (lentDeal deal) place ≡ notBuilt code → Answered deal place out answer out
   unfolding buildAnswer buildOutput
   refused-with code a e = (a ∙ rw e, rw e)
 
-  pub size-refused : answer ≡ record { code = 2; length = 0 } → lentSizeAllowed (length deal) ≡ false → Answered deal place out answer out
+  pub size-refused : answer ≡ record { code = 2; length = 0 } → lentSizeAllowed (length deal) ≡ false
+      → Answered deal place out answer out
   unfolding recordAt
   size-refused a t = refused-with 2 a (rw t)
 
-  pub stray-refused : answer ≡ record { code = 11; length = 0 } → lentSizeAllowed (length deal) ≡ true → noStrayBits deal ≡ false → Answered deal place out answer out
+  pub stray-refused : answer ≡ record { code = 11; length = 0 } → lentSizeAllowed (length deal) ≡ true
+      → noStrayBits deal ≡ false → Answered deal place out answer out
   unfolding recordAt
   stray-refused a l t = refused-with 11 a (rw (l, t))
 
-  pub place-refused : answer ≡ record { code = 6; length = 0 } → lentSizeAllowed (length deal) ≡ true → noStrayBits deal ≡ true → placeAllowed (length deal) place ≡ false
+  pub place-refused : answer ≡ record { code = 6; length = 0 } → lentSizeAllowed (length deal) ≡ true
+      → noStrayBits deal ≡ true → placeAllowed (length deal) place ≡ false
       → Answered deal place out answer out
   unfolding recordAt
   place-refused a l n t = refused-with 6 a (rw (l, n, t))
 
   -- with the entry that was read at the place
   module _ {entry : Row} where
-    pub entry-refused : answer ≡ record { code = 16; length = 0 } → Passed deal place → entry ≡ keptRow (nodeAt deal) (length deal) (entryAt deal place) → entry .stands ≡ false
+    pub entry-refused : answer ≡ record { code = 16; length = 0 } → Passed deal place
+        → entry ≡ keptRow (nodeAt deal) (length deal) (entryAt deal place) → entry .stands ≡ false
         → Answered deal place out answer out
     unfolding recordAt
-    entry-refused a p e t = refused-with 16 a (rw (p .lent, p .clean, p .allowed, answer-not-kept (nodeAt deal) (length deal) (entryAt deal place) entry e t))
+    entry-refused a p e t = refused-with 16 a
+        (rw (p .lent, p .clean, p .allowed, answer-not-kept (nodeAt deal) (length deal) (entryAt deal place) entry e t))
 
-    pub output-short : answer ≡ record { code = 12; length = 0 } → KeptHere deal place entry → length out < recordLength (length deal) (entry .size) → Answered deal place out answer out
+    pub output-short : answer ≡ record { code = 12; length = 0 } → KeptHere deal place entry
+        → length out < recordLength (length deal) (entry .size) → Answered deal place out answer out
     unfolding buildAnswer buildOutput
     output-short a k h =
         let s = k .sized in
         let t = lt-leb (length (recordAs deal place entry)) (length out) (omega arith) in
         (a ∙ rw (k .builds, t), rw (k .builds, t))
 
-    pub record-answered : {after : List ℕ} → answer ≡ record { code = 0; length = recordLength (length deal) (entry .size) } → KeptHere deal place entry
-        → recordLength (length deal) (entry .size) ≤ length out → after ≡ splice out 0 (recordAs deal place entry) → Answered deal place out answer after
+    pub record-answered : {after : List ℕ}
+        → answer ≡ record { code = 0; length = recordLength (length deal) (entry .size) } → KeptHere deal place entry
+        → recordLength (length deal) (entry .size) ≤ length out → after ≡ splice out 0 (recordAs deal place entry)
+        → Answered deal place out answer after
     unfolding buildAnswer buildOutput
     record-answered a k h e =
         let s = k .sized in

@@ -27,25 +27,33 @@ pub record WorkedOut (deal : List ℕ) (entry : Row) (place top level position :
   pub position-is : position ≡ segmentPosition (entry .offset) (entry .size)
 
 -- a path from level n up to the deal's commitment
-up : (deal : List ℕ) {place offset size : ℕ} → InDeal (length deal) place offset size → (n m : ℕ) → n + m ≡ dealLevel (length deal) → (n + m < 32) × (length deal ≡ 32 * 2 ^ (n + m))
+up : (deal : List ℕ) {place offset size : ℕ} → InDeal (length deal) place offset size → (n m : ℕ)
+    → n + m ≡ dealLevel (length deal) → (n + m < 32) × (length deal ≡ 32 * 2 ^ (n + m))
 up deal w n m e =
     let h : dealLevel (length deal) ≤ 31 = w .lent-is .deal .level-high in
     (omega arith, w .lent-is .deal .is-power ∙ ap (λ (k : ℕ). 32 * 2 ^ k) (sym e))
 
-module _ {deal : List ℕ} {entry : Row} {place top level position : ℕ} (w : WorkedOut deal entry place top level position) where
-  -- what the two path fields ask, in an output of m bytes with room for the record; each starts where the fields before it end
+module _ {deal : List ℕ} {entry : Row} {place top level position : ℕ}
+    (w : WorkedOut deal entry place top level position) where
+  -- what the two path fields ask, in an output of m bytes with room for the record; each starts where the fields before
+  -- it end
   module _ {m n : ℕ} (e : m ≡ n) (h : recordLength (length deal) (entry .size) ≤ n) where
     pub segment-asked : {at : ℕ} → at ≡ 68
-        → (level + (top - level) < 32) × (length deal ≡ 32 * 2 ^ (level + (top - level))) × (position < 2 ^ (top - level)) × (at + 3 + 32 * (top - level) ≤ m)
+        → (level + (top - level) < 32) × (length deal ≡ 32 * 2 ^ (level + (top - level)))
+        × (position < 2 ^ (top - level)) × (at + 3 + 32 * (top - level) ≤ m)
     unfolding recordLength
     segment-asked a =
         rw (w .top-is, w .level-is, w .position-is, e, a)
-        (let u = up deal (w .within) (segmentLevel (entry .size)) _ (w .within .segment-up) in (u .0, u .1, w .within .segment-is .position-in, omega arith))
+        (let u = up deal (w .within) (segmentLevel (entry .size)) _ (w .within .segment-up) in
+        (u .0, u .1, w .within .segment-is .position-in, omega arith))
 
     pub entry-asked : {at : ℕ} → at ≡ 71 + 32 * (top - level)
-        → (1 + (top - 1) < 32) × (length deal ≡ 32 * 2 ^ (1 + (top - 1))) × (place / 64 < 2 ^ (top - 1)) × (at + 3 + 32 * (top - 1) ≤ m)
+        → (1 + (top - 1) < 32) × (length deal ≡ 32 * 2 ^ (1 + (top - 1))) × (place / 64 < 2 ^ (top - 1))
+        × (at + 3 + 32 * (top - 1) ≤ m)
     unfolding recordLength
-    entry-asked a = rw (a, w .top-is, w .level-is, e) (let u = up deal (w .within) 1 _ (w .within .entry-up) in (u .0, u .1, w .within .place-is .position-in, omega arith))
+    entry-asked a = rw (a, w .top-is, w .level-is, e)
+        (let u = up deal (w .within) 1 _ (w .within .entry-up) in
+        (u .0, u .1, w .within .place-is .position-in, omega arith))
 
   -- the two paths as the code writes them, and the fields of the record
   abbrev pub SegmentPath : List ℕ
@@ -61,21 +69,30 @@ module _ {deal : List ℕ} {entry : Row} {place top level position : ℕ} (w : W
   pub segment-path-sized : length SegmentPath ≡ 32 * (top - level)
   segment-path-sized =
       rw (w .top-is, w .level-is, w .position-is)
-      (segment-path-length (lentDeal deal) (run-tree deal (dealLevel (length deal)) (w .within .lent-is .deal .is-power)) place (entry .offset) (entry .size) (w .within))
+      (segment-path-length (lentDeal deal)
+      (run-tree deal (dealLevel (length deal)) (w .within .lent-is .deal .is-power)) place (entry .offset)
+      (entry .size) (w .within))
 
   pub entry-path-sized : length EntryPath ≡ 32 * (top - 1)
   entry-path-sized =
       rw (w .top-is)
-      (entry-path-length (lentDeal deal) (run-tree deal (dealLevel (length deal)) (w .within .lent-is .deal .is-power)) place (entry .offset) (entry .size) (w .within))
+      (entry-path-length (lentDeal deal)
+      (run-tree deal (dealLevel (length deal)) (w .within .lent-is .deal .is-power)) place (entry .offset)
+      (entry .size) (w .within))
 
-  pub record-written : (out : List ℕ) {after : List ℕ} → length (entry .commitment) ≡ 32 → recordLength (length deal) (entry .size) ≤ length out
+  pub record-written : (out : List ℕ) {after : List ℕ} → length (entry .commitment) ≡ 32
+      → recordLength (length deal) (entry .size) ≤ length out
       → WroteAll layout (contentsOf Written) out 0 after
       → after ≡ splice out 0 (recordFor (lentDeal deal) (entry .commitment) (entry .offset) (entry .size) place)
   unfolding recordFor encode
   record-written out k h a =
       let tree = run-tree deal (dealLevel (length deal)) (w .within .lent-is .deal .is-power) in
-      let n = record-length (lentDeal deal) tree (entry .commitment) (entry .offset) (entry .size) place k (w .within) in
-      let same : Written ≡ fields (entry .commitment) (entry .offset) (entry .size) place (segmentPathOf (lentDeal deal) (entry .offset) (entry .size)) (entryPathOf (lentDeal deal) place) =
+      let n = record-length (lentDeal deal) tree (entry .commitment) (entry .offset) (entry .size) place k (w .within)
+      in
+      let same : Written ≡ fields (entry .commitment) (entry .offset) (entry .size) place
+      (segmentPathOf (lentDeal deal) (entry .offset) (entry .size)) (entryPathOf (lentDeal deal) place) =
       rw (w .top-is, w .level-is, w .position-is) in
-      let l : length (writeContents layout (contentsOf Written)) ≡ recordLength (length deal) (entry .size) = ap (λ (x : Fields). length (encode x)) same ∙ n in
-      all-written layout (contentsOf Written) out 0 a (omega (arith, l)) ∙ ap (λ (x : Fields). splice out 0 (encode x)) same
+      let l : length (writeContents layout (contentsOf Written)) ≡ recordLength (length deal) (entry .size) =
+      ap (λ (x : Fields). length (encode x)) same ∙ n in
+      all-written layout (contentsOf Written) out 0 a (omega (arith, l))
+      ∙ ap (λ (x : Fields). splice out 0 (encode x)) same

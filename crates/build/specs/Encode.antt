@@ -7,4 +7,5 @@ use Rattle.build.specs.Build.{segmentPathOf, entryPathOf}
 
 -- the record for an entry of a deal: its commitment, offset and size, and its place
 unfoldable pub recordFor : LentDeal → List ℕ → ℕ → ℕ → ℕ → List ℕ
-recordFor deal commitment offset size place = encode (fields commitment offset size place (segmentPathOf deal offset size) (entryPathOf deal place))
+recordFor deal commitment offset size place =
+    encode (fields commitment offset size place (segmentPathOf deal offset size) (entryPathOf deal place))

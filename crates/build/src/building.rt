@@ -13,11 +13,12 @@ fn refused(code: u8) -> BuildAnswer
     BuildAnswer { code, length: 0 }
 }
 
-// Writes the record for the kept entry at a place of a lent deal into the first bytes of `out`, and answers its length; the rest of
-// `out` stays. 2 for a deal size that is not allowed, 11 for a deal with stray bits, 6 for a place that is not allowed, 16 for no kept
-// entry there, 12 for an output shorter than the record: then nothing is written.
+// Writes the record for the kept entry at a place of a lent deal into the first bytes of `out`, and answers its
+// length; the rest of `out` stays. 2 for a deal size that is not allowed, 11 for a deal with stray bits, 6 for a place
+// that is not allowed, 16 for no kept entry there, 12 for an output shorter than the record: then nothing is written.
 pub fn build(deal: &[u8], place: u64, out: &mut [u8]) -> BuildAnswer
-    ensures { λ r. ⌜ (r ≡ buildAnswer (lentDeal (now (deal .entry))) place (now (out .entry))) × (now (out .exit) ≡ buildOutput (lentDeal (now (deal .entry))) place (now (out .entry))) ⌝ }
+    ensures { λ r. ⌜ (r ≡ buildAnswer (lentDeal (now (deal .entry))) place (now (out .entry)))
+        × (now (out .exit) ≡ buildOutput (lentDeal (now (deal .entry))) place (now (out .entry))) ⌝ }
 {
     if !sizes::lent_size_allowed(deal.len()) {
         return refused(2);

@@ -26,7 +26,8 @@ pub(crate) fn record_length(d: u64, size: u64) -> usize
     record::FIXED_LENGTH + 32 * levels + 32 * entry_levels
 }
 
-// Writes the field of a row, which holds the Merkle path of the node at a position of a level of the deal, and answers the place after it.
+// Writes the field of a row, which holds the Merkle path of the node at a position of a level of the deal, and answers
+// the place after it.
 fn put_path(
     out: &mut [u8],
     at: usize,
@@ -36,20 +37,26 @@ fn put_path(
     level: usize,
     position: usize,
 ) -> usize
-    requires { ⌜ (level + levels < 32) × (length (now deal) ≡ 32 * 2 ^ (level + levels)) × (position < 2 ^ levels) × (at + 3 + 32 * levels ≤ length (now out)) ⌝ }
-    ensures { λ r. ⌜ (now (out .exit) ≡ splice (now (out .entry)) at (putField (row .tag) (siblings (nodeAt (now (deal .entry))) levels level position) [])) × (r ≡ at + (3 + 32 * levels)) ⌝ }
+    requires { ⌜ (level + levels < 32)
+        × (length (now deal) ≡ 32 * 2 ^ (level + levels))
+        × (position < 2 ^ levels)
+        × (at + 3 + 32 * levels ≤ length (now out)) ⌝ }
+    ensures { λ r. ⌜ (now (out .exit) ≡ splice (now (out .entry)) at
+        (putField (row .tag) (siblings (nodeAt (now (deal .entry))) levels level position) []))
+        × (r ≡ at + (3 + 32 * levels)) ⌝ }
 {
     let content = fields::put_head(out, at, row.tag, 32 * levels);
     paths::write_path(deal, levels, level, position, out, content);
     content + 32 * levels
 }
 
-// Writes the record for the entry at a place of a lent deal into the first bytes of `out`: the fields of the table in its order, each
-// where the one before it ends.
+// Writes the record for the entry at a place of a lent deal into the first bytes of `out`: the fields of the table in
+// its order, each where the one before it ends.
 pub(crate) fn write_record(deal: &[u8], entry: Row, place: u64, out: &mut [u8])
     requires { ⌜ InDeal (length (now deal)) place (entry .offset) (entry .size) ⌝ }
     requires { ⌜ recordLength (length (now deal)) (entry .size) ≤ length (now out) ⌝ }
-    ensures { λ _. ⌜ now (out .exit) ≡ splice (now (out .entry)) 0 (recordFor (lentDeal (now (deal .entry))) (entry .commitment) (entry .offset) (entry .size) place) ⌝ }
+    ensures { λ _. ⌜ now (out .exit) ≡ splice (now (out .entry)) 0
+        (recordFor (lentDeal (now (deal .entry))) (entry .commitment) (entry .offset) (entry .size) place) ⌝ }
 {
     let deal_level = sizes::deal_level(deal.len() as u64);
     let level = sizes::segment_level(entry.size);

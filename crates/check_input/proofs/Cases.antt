@@ -23,11 +23,18 @@ module _ (input : List ℕ) where
 
   pub too-long : 4136 < length input → 3 ≡ checkInput input
   unfolding checkInput
-  too-long h = rw (le-leb 32 (length input) (omega arith), le-leb 40 (length input) (omega arith), lt-leb (length input) 4136 h)
+  too-long h = rw (
+    le-leb 32 (length input) (omega arith),
+    le-leb 40 (length input) (omega arith),
+    lt-leb
+        (length input) 4136 h,
+  )
 
   pub checked : (size code : ℕ) → 40 ≤ length input → length input ≤ 4136 → size ≡ numberOf (part input 32 8)
-      → code ≡ checkOf (dealTerms (take 32 input) size) (take (length input - 40) (drop 40 input)) → code ≡ checkInput input
+      → code ≡ checkOf (dealTerms (take 32 input) size) (take (length input - 40) (drop 40 input))
+      → code ≡ checkInput input
   unfolding checkInput
   checked size code h l s c =
       rw (le-leb 32 (length input) (omega arith), le-leb 40 (length input) h, le-leb (length input) 4136 l)
-      (c ∙ ap₂ (λ (n : ℕ) (r : List ℕ). checkOf (dealTerms (take 32 input) n) r) s (take-all (length input - 40) (drop 40 input) (simp length-drop (omega arith))))
+      (c ∙ ap₂ (λ (n : ℕ) (r : List ℕ). checkOf (dealTerms (take 32 input) n) r) s
+      (take-all (length input - 40) (drop 40 input) (simp length-drop (omega arith))))

@@ -12,6 +12,7 @@ use Rattle.record.specs.Check.{dealTerms, checkOf}
 unfoldable pub checkInput : List ℕ → ℕ
 checkInput input =
     unlessRefused
-    (firstRefusal (rule (leb 32 (length input)) 1 ∷ rule (leb 40 (length input)) 2 ∷ rule (leb (length input) (40 + 4096)) 3 ∷ []))
+    (firstRefusal (rule (leb 32 (length input)) 1 ∷ rule (leb 40 (length input)) 2 ∷ rule
+    (leb (length input) (40 + 4096)) 3 ∷ []))
     (λ code. code)
     (checkOf (dealTerms (take 32 input) (numberOf (part input 32 8))) (drop 40 input))

@@ -33,7 +33,8 @@ module _ (r : List ℕ) (at : ℕ) where
   unfolding fieldAt
   read-cut n h l k = read (rw (le-leb (at + 3) (length r) h, ← l, lt-leb (at + 3 + n) (length r) k))
 
-  pub read-here : (n : ℕ) → at + 3 ≤ length r → n ≡ lengthAt r at → at + 3 + n ≤ length r → Read (Content (getD r at 0) (at + 3) n (at + 3 + n))
+  pub read-here : (n : ℕ) → at + 3 ≤ length r → n ≡ lengthAt r at → at + 3 + n ≤ length r
+      → Read (Content (getD r at 0) (at + 3) n (at + 3 + n))
   unfolding fieldAt
   read-here n h l k = read (rw (le-leb (at + 3) (length r) h, ← l, le-leb (at + 3 + n) (length r) k))
 
@@ -53,10 +54,12 @@ module _ (f : FieldRule) (r : List ℕ) (at : ℕ) where
   unfolding fieldFor
   other-tag {tag} e t = found (rw (e, ne-eqb tag (f .tag) t))
 
-  pub other-length : {tag start n next : ℕ} → fieldAt r at ≡ Content tag start n next → tag ≡ f .tag → lengthAllowed (f .length) n ≡ false → Found Refused
+  pub other-length : {tag start n next : ℕ} → fieldAt r at ≡ Content tag start n next → tag ≡ f .tag
+      → lengthAllowed (f .length) n ≡ false → Found Refused
   unfolding fieldFor
   other-length {tag} e t a = found (rw (e, eq-eqb tag (f .tag) t, a))
 
-  pub asked-for : {tag start n next : ℕ} → fieldAt r at ≡ Content tag start n next → tag ≡ f .tag → lengthAllowed (f .length) n ≡ true → Found (Content tag start n next)
+  pub asked-for : {tag start n next : ℕ} → fieldAt r at ≡ Content tag start n next → tag ≡ f .tag
+      → lengthAllowed (f .length) n ≡ true → Found (Content tag start n next)
   unfolding fieldFor
   asked-for {tag} e t a = found (rw (e, eq-eqb tag (f .tag) t, a))

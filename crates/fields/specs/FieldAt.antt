@@ -1,4 +1,5 @@
--- Fields by their places: what the field reading answers (document 01, "The record": "each answer being the field with the next place, or else the
+-- Fields by their places: what the field reading answers (document 01, "The record": "each answer being the field with
+-- the next place, or else the
 -- refusal").
 use mathlib.Core.Bool.{_&&_}
 use Prim.Native.Nat.{ℕ, _+_, _*_}
@@ -20,12 +21,14 @@ lengthAt r at = getD r (at + 1) 0 + 256 * getD r (at + 2) 0
 unfoldable pub fieldAt : List ℕ → ℕ → Field
 fieldAt r at =
     choose (leb (at + 3) (length r))
-    (choose (leb (at + 3 + lengthAt r at) (length r)) (Content (getD r at 0) (at + 3) (lengthAt r at) (at + 3 + lengthAt r at)) Refused)
+    (choose (leb (at + 3 + lengthAt r at) (length r))
+    (Content (getD r at 0) (at + 3) (lengthAt r at) (at + 3 + lengthAt r at)) Refused)
     Refused
 
 -- the field that a row of a table asks for
 abbrev pub asked : FieldRule → Field → Field
-asked f (Content tag start n next) = choose (eqb tag (f .tag) && lengthAllowed (f .length) n) (Content tag start n next) Refused
+asked f (Content tag start n next) =
+    choose (eqb tag (f .tag) && lengthAllowed (f .length) n) (Content tag start n next) Refused
 asked f Refused = Refused
 
 unfoldable pub fieldFor : FieldRule → List ℕ → ℕ → Field
@@ -42,4 +45,5 @@ fieldRules r at = rule (leb (at + 3) (length r)) 3 ∷ rule (leb (at + 3 + lengt
 
 -- and where it is not the one that a row of a table asks for
 abbrev pub rowRules : FieldRule → List ℕ → ℕ → List Rule
-rowRules f r at = fieldRules r at ++ (rule (eqb (getD r at 0) (f .tag)) 3 ∷ rule (lengthAllowed (f .length) (lengthAt r at)) 3 ∷ [])
+rowRules f r at = fieldRules r at ++
+    (rule (eqb (getD r at 0) (f .tag)) 3 ∷ rule (lengthAllowed (f .length) (lengthAt r at)) 3 ∷ [])

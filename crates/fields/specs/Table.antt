@@ -1,4 +1,5 @@
--- Tagged fields by a table (document 01, "The record": "Tagged fields in this order, each once, nothing after: one tag byte, two length bytes
+-- Tagged fields by a table (document 01, "The record": "Tagged fields in this order, each once, nothing after: one tag
+-- byte, two length bytes
 -- (little-endian), content"). It holds for any table: that of the inclusion record stands in the crate `record`.
 use mathlib.Core.Bool.{Bool, not, _&&_}
 use Prim.Native.Nat.{ℕ, _+_, _*_, _/_, _%_}

@@ -11,7 +11,9 @@ use borrow.Author.Tests.{eqb-true, eq-eqb, leb-true, le-leb}
 use Rattle.rules.specs.Choice.{choose}
 use Rattle.rules.specs.RefusalLaws.{and-left, and-right}
 use Rattle.octets.specs.Bytes.{Bytes, bytes-take, bytes-drop}
-use Rattle.fields.specs.Table.{lengthAllowed, Taken, taken, refused, takeField, Contents, contents, malformed, addContent, onTaken, readContents, fieldHead, putField, writeContents, lengthBy, openAfter, tableLength}
+use Rattle.fields.specs.Table.{lengthAllowed, Taken, taken, refused, takeField, Contents, contents, malformed}
+use Rattle.fields.specs.Table.{addContent, onTaken, readContents, fieldHead, putField, writeContents, lengthBy}
+use Rattle.fields.specs.Table.{openAfter, tableLength}
 use Rattle.fields.specs.declared.LengthRule.{LengthRule}
 use Rattle.fields.specs.declared.LengthRule.the-variants.{Exactly, MultipleOf}
 use Rattle.fields.specs.declared.FieldRule.{FieldRule}
@@ -41,9 +43,11 @@ field-means f (x ∷ []) c rest h e = never-taken e
 field-means f (x ∷ y ∷ []) c rest h e = never-taken e
 field-means f (x ∷ y ∷ z ∷ l) c rest h e =
     let n = y + 256 * z in
-    let p = chosen (eqb x (f .tag) && (leb n (length l) && lengthAllowed (f .length) n)) (taken (take n l) (drop n l)) c rest e in
+    let p = chosen (eqb x (f .tag) && (leb n (length l) && lengthAllowed (f .length) n))
+    (taken (take n l) (drop n l)) c rest e in
     let g : taken (take n l) (drop n l) ≡ taken c rest = p .1 in
-    let tag : x ≡ f .tag = eqb-true x (f .tag) (and-left (eqb x (f .tag)) (leb n (length l) && lengthAllowed (f .length) n) (p .0)) in
+    let tag : x ≡ f .tag = eqb-true x (f .tag)
+    (and-left (eqb x (f .tag)) (leb n (length l) && lengthAllowed (f .length) n) (p .0)) in
     let q = and-right (eqb x (f .tag)) (leb n (length l) && lengthAllowed (f .length) n) (p .0) in
     let room : n ≤ length l = leb-true n (length l) (and-left (leb n (length l)) (lengthAllowed (f .length) n) q) in
     let len : length (take n l) ≡ n = length-take-le n l room in
@@ -62,11 +66,13 @@ field-means f (x ∷ y ∷ z ∷ l) c rest h e =
       rest-bytes = subst Bytes fr (bytes-drop n l (h .1 .1 .1));
     }
 
-field-back : (f : FieldRule) (c rest : List ℕ) → lengthAllowed (f .length) (length c) ≡ true → length c < 65536 → takeField f (putField (f .tag) c rest) ≡ taken c rest
+field-back : (f : FieldRule) (c rest : List ℕ) → lengthAllowed (f .length) (length c) ≡ true → length c < 65536
+    → takeField f (putField (f .tag) c rest) ≡ taken c rest
 unfolding takeField putField
 field-back f c rest k s =
     let n : length c % 256 + 256 * (length c / 256) ≡ length c = omega arith in
-    let l : leb (length c) (length (c ++ rest)) ≡ true = le-leb (length c) (length (c ++ rest)) (simp length-append (omega arith)) in
+    let l : leb (length c) (length (c ++ rest)) ≡ true =
+    le-leb (length c) (length (c ++ rest)) (simp length-append (omega arith)) in
     rw (n, eq-eqb (f .tag) (f .tag) refl, l, k, take-append-seam c rest, drop-append-seam c rest)
 
 -- contents that a table allows: one for each row, of an allowed length below 2 ^ 16
@@ -82,19 +88,23 @@ AllBytes [] = Unit {0}
 AllBytes (c ∷ cs) = Bytes c × AllBytes cs
 
 -- what was written is read
-pub contents-back : (fs : List FieldRule) (cs : List (List ℕ)) → Fits fs cs → readContents fs (writeContents fs cs) ≡ contents cs
+pub contents-back : (fs : List FieldRule) (cs : List (List ℕ)) → Fits fs cs
+    → readContents fs (writeContents fs cs) ≡ contents cs
 unfolding readContents writeContents
 contents-back [] [] h = refl
 contents-back [] (c ∷ cs) h = absurd h
 contents-back (f ∷ fs) [] h = absurd h
-contents-back (f ∷ fs) (c ∷ cs) h = rw (field-back f c (writeContents fs cs) (h .0) (h .1)) (ap (addContent c) (contents-back fs cs (h .2)))
+contents-back (f ∷ fs) (c ∷ cs) h =
+    rw (field-back f c (writeContents fs cs) (h .0) (h .1)) (ap (addContent c) (contents-back fs cs (h .2)))
 
 opened : (f : Taken) (later : List ℕ → Contents) (cs : List (List ℕ)) → onTaken f later ≡ contents cs
-    → (c : List ℕ) × (rest : List ℕ) × (ds : List (List ℕ)) × (f ≡ taken c rest) × (later rest ≡ contents ds) × (cs ≡ c ∷ ds)
+    → (c : List ℕ) × (rest : List ℕ) × (ds : List (List ℕ)) × (f ≡ taken c rest) × (later rest ≡ contents ds)
+    × (cs ≡ c ∷ ds)
 opened (taken c rest) later cs e = go (later rest) refl e
   where
     go : (k : Contents) → later rest ≡ k → addContent c k ≡ contents cs
-        → (c' : List ℕ) × (rest' : List ℕ) × (ds : List (List ℕ)) × (taken c rest ≡ taken c' rest') × (later rest' ≡ contents ds) × (cs ≡ c' ∷ ds)
+        → (c' : List ℕ) × (rest' : List ℕ) × (ds : List (List ℕ)) × (taken c rest ≡ taken c' rest')
+        × (later rest' ≡ contents ds) × (cs ≡ c' ∷ ds)
     go (contents ds) h i = let q : cs ≡ c ∷ ds = cc in (c, rest, ds, refl, h, q)
     go malformed h i = never-contents i
 opened refused later cs e = never-contents e
@@ -108,7 +118,8 @@ ended true cs e = let q : cs ≡ [] = cc in (refl, q)
 ended false cs e = never-contents e
 
 -- what was read is what the contents write
-pub contents-canonical : (fs : List FieldRule) (r : List ℕ) (cs : List (List ℕ)) → Bytes r → readContents fs r ≡ contents cs → (writeContents fs cs ≡ r) × Fits fs cs × AllBytes cs
+pub contents-canonical : (fs : List FieldRule) (r : List ℕ) (cs : List (List ℕ)) → Bytes r
+    → readContents fs r ≡ contents cs → (writeContents fs cs ≡ r) × Fits fs cs × AllBytes cs
 unfolding readContents writeContents
 contents-canonical [] r cs h e =
     let a = ended (eqb (length r) 0) cs e in
@@ -162,7 +173,8 @@ length-by (Exactly n) c left h = (sym h, refl)
 length-by (MultipleOf n) c left h = (refl, refl)
 
 -- what is written has the length that the table says
-pub written-length : (fs : List FieldRule) (cs : List (List ℕ)) → FixedLengths fs cs → length (writeContents fs cs) ≡ tableLength fs (openLengths fs cs)
+pub written-length : (fs : List FieldRule) (cs : List (List ℕ)) → FixedLengths fs cs
+    → length (writeContents fs cs) ≡ tableLength fs (openLengths fs cs)
 unfolding writeContents putField
 written-length [] [] h = refl
 written-length [] (c ∷ cs) h = absurd h

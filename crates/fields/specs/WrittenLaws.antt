@@ -1,5 +1,5 @@
 -- Fields written behind one another are one string.
-use mathlib.Core.Path.{_≡_, refl, sym, ap, _∙_}
+use mathlib.Core.Path.{_≡_, sym, ap, _∙_}
 use mathlib.Core.List.{List, [], _∷_, _++_}
 use Prim.Native.Nat.{ℕ, _+_, _≤_}
 use native.Mathlib.Omega.{arith}
@@ -16,7 +16,8 @@ pub record Wrote (out : List ℕ) (at : ℕ) (s : List ℕ) (after : List ℕ) (
   pub next-is : next ≡ at + length s
 
 -- a head, and behind it the content
-pub field-written : (out content : List ℕ) (at tag : ℕ) {one two : List ℕ} {n middle : ℕ} → length content ≡ n → at + 3 ≤ length out
+pub field-written : (out content : List ℕ) (at tag : ℕ) {one two : List ℕ} {n middle : ℕ} → length content ≡ n
+    → at + 3 ≤ length out
     → one ≡ splice out at (fieldHead tag n) → middle ≡ at + 3 → two ≡ splice one middle content
     → two ≡ splice out at (putField tag content [])
 unfolding fieldHead
@@ -26,8 +27,10 @@ field-written out content at tag {n = n} {middle} l h a e b =
     ∙ ap (splice out at) (sym (field-is tag content))
 
 -- a field was written by a row of a table, and the place after it is answered
-pub wrote-field : {out after : List ℕ} {at next n : ℕ} {found : FieldRule} (row : FieldRule) (content : List ℕ) → found ≡ row → length content ≡ n
-    → after ≡ splice out at (putField (found .tag) content []) → next ≡ at + (3 + n) → Wrote out at (putField (row .tag) content []) after next
+pub wrote-field : {out after : List ℕ} {at next n : ℕ} {found : FieldRule} (row : FieldRule) (content : List ℕ)
+    → found ≡ row → length content ≡ n
+    → after ≡ splice out at (putField (found .tag) content []) → next ≡ at + (3 + n)
+    → Wrote out at (putField (row .tag) content []) after next
 wrote-field {out} {at = at} row content e l a h =
     record {
       written = a ∙ ap (λ (f : FieldRule). splice out at (putField (f .tag) content [])) e;
@@ -38,9 +41,11 @@ wrote-field {out} {at = at} row content e l a h =
 abbrev pub WroteAll : List FieldRule → List (List ℕ) → List ℕ → ℕ → List ℕ → Type 0
 WroteAll [] cs out at after = after ≡ out
 WroteAll (f ∷ fs) [] out at after = after ≡ out
-WroteAll (f ∷ fs) (c ∷ cs) out at after = (one : List ℕ) × (next : ℕ) × Wrote out at (putField (f .tag) c []) one next × WroteAll fs cs one next after
+WroteAll (f ∷ fs) (c ∷ cs) out at after =
+    (one : List ℕ) × (next : ℕ) × Wrote out at (putField (f .tag) c []) one next × WroteAll fs cs one next after
 
-pub all-written : (fs : List FieldRule) (cs : List (List ℕ)) (out : List ℕ) (at : ℕ) {after : List ℕ} → WroteAll fs cs out at after → at + length (writeContents fs cs) ≤ length out
+pub all-written : (fs : List FieldRule) (cs : List (List ℕ)) (out : List ℕ) (at : ℕ) {after : List ℕ}
+    → WroteAll fs cs out at after → at + length (writeContents fs cs) ≤ length out
     → after ≡ splice out at (writeContents fs cs)
 unfolding writeContents
 all-written [] cs out at w h = w ∙ sym (splice-nothing out at)

@@ -1,5 +1,5 @@
-// Tagged fields: one tag byte, two length bytes (the least first), content. Read at a place or by a row of a table, and written one
-// behind another.
+// Tagged fields: one tag byte, two length bytes (the least first), content. Read at a place or by a row of a table, and
+// written one behind another.
 mod reading; // reading.rt: the field at a place
 mod writing; // writing.rt: a field into an output
 

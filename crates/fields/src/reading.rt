@@ -17,7 +17,8 @@ fn length_in(low: u8, high: u8) -> usize
 
 // The field at any place, with the next place; the refusal, code 3, where it does not lie within the bytes.
 pub fn read_field(bytes: &[u8], place: usize) -> Field
-    ensures { λ r. ⌜ (r ≡ fieldAt (now (bytes .entry)) place) × (fieldCode r ≡ firstRefusal (fieldRules (now (bytes .entry)) place)) ⌝ }
+    ensures { λ r. ⌜ (r ≡ fieldAt (now (bytes .entry)) place)
+        × (fieldCode r ≡ firstRefusal (fieldRules (now (bytes .entry)) place)) ⌝ }
 {
     let end = bytes.len();
     if end < 3 {
@@ -51,7 +52,8 @@ fn length_allowed(rule: LengthRule, length: usize) -> bool
 
 // The field at a place, where it is the one that a row of a table asks for; else the refusal, code 3.
 pub fn field_for(bytes: &[u8], place: usize, row: FieldRule) -> Field
-    ensures { λ r. ⌜ (r ≡ fieldFor row (now (bytes .entry)) place) × (fieldCode r ≡ firstRefusal (rowRules row (now (bytes .entry)) place)) ⌝ }
+    ensures { λ r. ⌜ (r ≡ fieldFor row (now (bytes .entry)) place)
+        × (fieldCode r ≡ firstRefusal (rowRules row (now (bytes .entry)) place)) ⌝ }
 {
     let field = read_field(bytes, place);
     let Field::Content { tag, length, .. } = field else {

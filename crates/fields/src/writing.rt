@@ -21,7 +21,8 @@ pub fn put_head(out: &mut [u8], at: usize, tag: u8, size: usize) -> usize
 // Writes the field of a row of a table, which holds a node.
 pub fn put_node(out: &mut [u8], at: usize, row: FieldRule, node: [u8; 32]) -> usize
     requires { ⌜ at + 35 ≤ length (now out) ⌝ }
-    ensures { λ r. ⌜ (now (out .exit) ≡ splice (now (out .entry)) at (putField (row .tag) node [])) × (r ≡ at + 35) × (length node ≡ 32) ⌝ }
+    ensures { λ r. ⌜ (now (out .exit) ≡ splice (now (out .entry)) at (putField (row .tag) node []))
+        × (r ≡ at + 35) × (length node ≡ 32) ⌝ }
 {
     let content = put_head(out, at, row.tag, 32);
     octets::put_node(out, content, node);
@@ -31,7 +32,8 @@ pub fn put_node(out: &mut [u8], at: usize, row: FieldRule, node: [u8; 32]) -> us
 // Writes the field of a row of a table, which holds a number.
 pub fn put_number(out: &mut [u8], at: usize, row: FieldRule, number: u64) -> usize
     requires { ⌜ at + 11 ≤ length (now out) ⌝ }
-    ensures { λ r. ⌜ (now (out .exit) ≡ splice (now (out .entry)) at (putField (row .tag) (bytesOf 8 number) [])) × (r ≡ at + 11) ⌝ }
+    ensures { λ r. ⌜ (now (out .exit) ≡ splice (now (out .entry)) at (putField (row .tag) (bytesOf 8 number) []))
+        × (r ≡ at + 11) ⌝ }
 {
     let content = put_head(out, at, row.tag, 8);
     octets::put_u64(out, content, number);

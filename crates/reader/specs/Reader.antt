@@ -1,4 +1,5 @@
--- The fields that the reader hands out (document 01, "The record": "Fields are read in turn, each answer being the field with the next place, or else
+-- The fields that the reader hands out (document 01, "The record": "Fields are read in turn, each answer being the
+-- field with the next place, or else
 -- the refusal", and "a reader that holds the lent record hands out the same fields").
 use Prim.Native.Nat.{ℕ, zero, suc, _-_}
 use mathlib.Core.List.{List, [], _∷_}
@@ -48,7 +49,8 @@ abbrev pub addField : List ℕ → Field → (ℕ → Contents) → Contents
 addField r (Content tag start n next) later = addContent (part r start n) (later next)
 addField r Refused later = malformed
 
--- the contents that fields name in a record from a place on, each field asked for by its row of the table, with nothing after the last
+-- the contents that fields name in a record from a place on, each field asked for by its row of the table, with nothing
+-- after the last
 unfoldable pub contentsNamed : List FieldRule → List ℕ → ℕ → List Field → Contents
 contentsNamed [] r at xs = choose (eqb (length (drop at r)) 0) (contents []) malformed
 contentsNamed (f ∷ fs) r at [] = malformed

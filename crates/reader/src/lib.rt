@@ -37,7 +37,8 @@ impl<'a> RecordReader<'a> {
 
     // The field at the reader's place, and the reader moved on to the next; at the refusal it stays where it is.
     pub fn next_field(&mut self) -> Field
-        ensures { λ r. ⌜ (r ≡ fieldAt (now (now (self .entry) .bytes)) (now (self .entry) .place)) × (now (self .exit) ≡ movedOn (now (self .entry))) ⌝ }
+        ensures { λ r. ⌜ (r ≡ fieldAt (now (now (self .entry) .bytes)) (now (self .entry) .place))
+            × (now (self .exit) ≡ movedOn (now (self .entry))) ⌝ }
     {
         let field = fields::read_field(self.bytes, self.place);
         self.place = next_place(field, self.place);
@@ -45,7 +46,8 @@ impl<'a> RecordReader<'a> {
     }
 }
 
-// How many fields are left to pass after one: one less, and none after the refusal, where every later field is that refusal.
+// How many fields are left to pass after one: one less, and none after the refusal, where every later field is that
+// refusal.
 fn left_after(field: Field, left: usize) -> usize
     ensures { λ r. ⌜ r ≡ leftAfter field left ⌝ }
 {
@@ -58,8 +60,8 @@ fn left_after(field: Field, left: usize) -> usize
     left - 1
 }
 
-// The field of this number, from 0, of a record; the first refusal ends the reading. Its parameters are plain: a caller's proof has no
-// reader in it.
+// The field of this number, from 0, of a record; the first refusal ends the reading. Its parameters are plain: a
+// caller's proof has no reader in it.
 pub fn field(bytes: &[u8], number: usize) -> Field
     ensures { λ r. ⌜ r ≡ fieldAt (now (bytes .entry)) (placeAfter number (now (bytes .entry)) 0) ⌝ }
 {

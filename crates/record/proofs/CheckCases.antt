@@ -25,7 +25,8 @@ module _ (commitment : List ℕ) (d : ℕ) (r : List ℕ) where
     wrong-deal-size e = rw (eq-eqb (length commitment) 32 l, e)
 
     module _ (s : dealSizeAllowed d ≡ true) where
-      pub malformed : {x : ParsedRecord} → x ≡ parsedRecord r → (x .code ≡ 0 → ⊥) → x .code ≡ checkOf (dealTerms commitment d) r
+      pub malformed : {x : ParsedRecord} → x ≡ parsedRecord r → (x .code ≡ 0 → ⊥)
+          → x .code ≡ checkOf (dealTerms commitment d) r
       unfolding checkOf
       malformed {x} e h =
           let m = not-read r (λ z. h (ap (λ (y : ParsedRecord). y .code) e ∙ z)) in
@@ -34,13 +35,17 @@ module _ (commitment : List ℕ) (d : ℕ) (r : List ℕ) where
       -- the commitment and the two parts that are lent to the judgement are the record's fields
       pub well-formed : {answer : ℕ} {x : ParsedRecord} → x ≡ parsedRecord r → x .code ≡ 0
           → let u = x .«segment_path» in let v = x .«entry_path» in
-          answer ≡ firstRefusal (judgement (dealTerms commitment d) (parsed (fields (x .commitment) (x .offset) (x .size) (x .place)
+          answer ≡ firstRefusal (judgement (dealTerms commitment d)
+          (parsed (fields (x .commitment) (x .offset) (x .size) (x .place)
           (take (u + x .«segment_path_length» - u) (drop u r)) (take (v + x .«entry_path_length» - v) (drop v r)))))
           → answer ≡ checkOf (dealTerms commitment d) r
       unfolding checkOf
       well-formed {x = x} e z j =
-          let q : parse r ≡ parsed (fieldsAt r x) = rw e (record-read r (ap (λ (y : ParsedRecord). y .code) (sym e) ∙ z)) in
+          let q : parse r ≡ parsed (fieldsAt r x) =
+          rw e (record-read r (ap (λ (y : ParsedRecord). y .code) (sym e) ∙ z)) in
           j
-          ∙ (λ i. firstRefusal (judgement (dealTerms commitment d) (parsed (fields (x .commitment) (x .offset) (x .size) (x .place)
-          (part-range r (x .«segment_path») (x .«segment_path_length») i) (part-range r (x .«entry_path») (x .«entry_path_length») i)))))
+          ∙ (λ i. firstRefusal (judgement (dealTerms commitment d)
+          (parsed (fields (x .commitment) (x .offset) (x .size) (x .place)
+          (part-range r (x .«segment_path») (x .«segment_path_length») i)
+          (part-range r (x .«entry_path») (x .«entry_path_length») i)))))
           ∙ rw (eq-eqb (length commitment) 32 l, s, q)

@@ -30,14 +30,20 @@ unfolding clearNode
 stray node h = le-ltb (getD node 31 0) 64 h
 
 -- the lengths of both paths
-pub sized : (d size : ℕ) (u v : List ℕ) → (eqb (length u) (32 * segmentPathLevels d size) && eqb (length v) (32 * entryPathLevels d)) ≡ true
+pub sized : (d size : ℕ) (u v : List ℕ)
+    → (eqb (length u) (32 * segmentPathLevels d size) && eqb (length v) (32 * entryPathLevels d)) ≡ true
     → (length u ≡ 32 * segmentPathLevels d size) × (length v ≡ 32 * entryPathLevels d)
 sized d size u v e =
     let a = eqb (length u) (32 * segmentPathLevels d size) in
-    let b = eqb (length v) (32 * entryPathLevels d) in
-    (eqb-true (length u) (32 * segmentPathLevels d size) (and-left a b e), eqb-true (length v) (32 * entryPathLevels d) (and-right a b e))
+    let b = eqb (length v) (32 * entryPathLevels d) in (
+      eqb-true (length u) (32 * segmentPathLevels d size) (and-left a b e),
+      eqb-true (length v)
+          (32 * entryPathLevels d) (and-right a b e),
+    )
 
 -- where a path of the length that the record table asks leads
-pub leads : (levels : ℕ) (path top : List ℕ) {node node' : List ℕ} {position position' : ℕ} {answer : Bool} → length path ≡ 32 * levels → node' ≡ node → position' ≡ position
-    → answer ≡ sameBytes (pathRoot (length path / 32) node' position' path) top → answer ≡ sameBytes (pathRoot levels node position path) top
+pub leads : (levels : ℕ) (path top : List ℕ) {node node' : List ℕ} {position position' : ℕ} {answer : Bool}
+    → length path ≡ 32 * levels → node' ≡ node → position' ≡ position
+    → answer ≡ sameBytes (pathRoot (length path / 32) node' position' path) top
+    → answer ≡ sameBytes (pathRoot levels node position path) top
 leads levels path top l n p e = let k : length path / 32 ≡ levels = omega arith in rw (← k, ← n, ← p) e

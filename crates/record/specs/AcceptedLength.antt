@@ -1,4 +1,5 @@
--- Document 01, "Numbers that bound the work": "A record that is accepted: 202 to 1,962 bytes." For every deal size to 2 ^ 36.
+-- Document 01, "Numbers that bound the work": "A record that is accepted: 202 to 1,962 bytes." For every deal size to 2
+-- ^ 36.
 use mathlib.Core.Path.{_≡_, sym, ap, ap₂, _∙_}
 use Prim.Native.Nat.{ℕ, _≤_}
 use native.Mathlib.Omega.{arith}
@@ -15,7 +16,8 @@ use Rattle.record.specs.Check.{DealTerms, checkOf}
 use Rattle.record.specs.CheckLaws.{check-terms}
 
 -- the length of a record in a deal is from 202 to 1,962 bytes
-pub length-range : (d size : ℕ) → DealSize d → SegmentSize d size → (202 ≤ recordLength d size) × (recordLength d size ≤ 1962)
+pub length-range : (d size : ℕ) → DealSize d → SegmentSize d size
+    → (202 ≤ recordLength d size) × (recordLength d size ≤ 1962)
 unfolding recordLength
 length-range d size t s = (omega arith, omega arith)
 

@@ -1,4 +1,5 @@
--- The check of a record (document 01, "Codes and their order": check, 1 to 10 as numbered; document 02, request (v): 19 after 8).
+-- The check of a record (document 01, "Codes and their order": check, 1 to 10 as numbered; document 02, request (v): 19
+-- after 8).
 use mathlib.Core.Bool.{Bool, true, false, _&&_}
 use Prim.Native.Nat.{ℕ, _*_}
 use mathlib.Core.List.{List, [], _∷_}
@@ -9,7 +10,8 @@ use Rattle.octets.specs.Equality.{sameBytes}
 use Rattle.node.specs.Node.{nodeHash}
 use Rattle.stray.specs.StrayBits.{clearNode, noStrayBits}
 use Rattle.paths.specs.Path.{pathRoot}
-use Rattle.sizes.specs.Sizes.{dealSizeAllowed, segmentSizeAllowed, offsetAllowed, placeAllowed, segmentPathLevels, entryPathLevels, segmentPosition, entryPosition}
+use Rattle.sizes.specs.Sizes.{dealSizeAllowed, segmentSizeAllowed, offsetAllowed, placeAllowed, segmentPathLevels}
+use Rattle.sizes.specs.Sizes.{entryPathLevels, segmentPosition, entryPosition}
 use Rattle.entries.specs.Entry.{entryOf}
 use Rattle.record.specs.Form.{Fields, Parsed, parsed, broken, parse}
 
@@ -27,14 +29,16 @@ entryFor x = entryOf (x .commitment) (x .offset) (x .size)
 
 -- where the segment path leads, and where the entry path leads from the node hash of the entry
 abbrev pub segmentPathRoot : ℕ → Fields → List ℕ
-segmentPathRoot d x = pathRoot (segmentPathLevels d (x .size)) (x .commitment) (segmentPosition (x .offset) (x .size)) (x .segmentPath)
+segmentPathRoot d x = pathRoot (segmentPathLevels d (x .size)) (x .commitment) (segmentPosition (x .offset) (x .size))
+    (x .segmentPath)
 
 abbrev pub entryPathRoot : ℕ → Fields → List ℕ
 entryPathRoot d x = pathRoot (entryPathLevels d) (nodeHash (entryFor x)) (entryPosition (x .place)) (x .entryPath)
 
 -- the paths have the numbers of nodes that the record table asks
 abbrev pub pathsSized : ℕ → Fields → Bool
-pathsSized d x = eqb (length (x .segmentPath)) (32 * segmentPathLevels d (x .size)) && eqb (length (x .entryPath)) (32 * entryPathLevels d)
+pathsSized d x = eqb (length (x .segmentPath)) (32 * segmentPathLevels d (x .size)) && eqb (length (x .entryPath))
+    (32 * entryPathLevels d)
 
 -- no node of either path has stray bits
 abbrev pub pathsClear : Fields → Bool

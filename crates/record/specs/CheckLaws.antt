@@ -11,7 +11,8 @@ use Rattle.rules.specs.Refusals.{rule, firstRefusal}
 use Rattle.rules.specs.RefusalLaws.{Codes, first-passed, none-refused, all-passed, and-left, and-right, and-both}
 use Rattle.octets.specs.EqualityLaws.{same-true, same-of}
 use Rattle.stray.specs.StrayBits.{clearNode, noStrayBits}
-use Rattle.sizes.specs.Sizes.{dealSizeAllowed, segmentSizeAllowed, offsetAllowed, placeAllowed, segmentPathLevels, entryPathLevels}
+use Rattle.sizes.specs.Sizes.{dealSizeAllowed, segmentSizeAllowed, offsetAllowed, placeAllowed, segmentPathLevels}
+use Rattle.sizes.specs.Sizes.{entryPathLevels}
 use Rattle.record.specs.Form.{Fields, Parsed, parsed, broken, parse}
 use Rattle.record.specs.Check.{DealTerms, wellFormed, segmentPathRoot, entryPathRoot, judgement, checkOf}
 
@@ -29,7 +30,13 @@ pub record Accepted (terms : DealTerms) (x : Fields) : Type 0 where
   pub entry-path-leads : entryPathRoot (terms .size) x ≡ terms .commitment
 
 codes : (terms : DealTerms) (x : Fields) → Codes (judgement terms (parsed x))
-codes terms x = (omega arith, (omega arith, (omega arith, (omega arith, (omega arith, (omega arith, (omega arith, (omega arith, tt))))))))
+codes terms x = (
+  omega arith,
+  (
+    omega arith,
+    (omega arith, (omega arith, (omega arith, (omega arith, (omega arith, (omega arith, tt)))))),
+  ),
+)
 
 judged : (terms : DealTerms) (x : Fields) → firstRefusal (judgement terms (parsed x)) ≡ 0 → Accepted terms x
 judged terms x e =
@@ -40,8 +47,10 @@ judged terms x e =
       size-allowed = a .0;
       offset-allowed = a .1 .0;
       place-allowed = a .1 .1 .0;
-      segment-path-length = eqb-true (length (x .segmentPath)) (32 * segmentPathLevels (terms .size) (x .size)) (and-left u v (a .1 .1 .1 .0));
-      entry-path-length = eqb-true (length (x .entryPath)) (32 * entryPathLevels (terms .size)) (and-right u v (a .1 .1 .1 .0));
+      segment-path-length = eqb-true (length (x .segmentPath)) (32 * segmentPathLevels (terms .size) (x .size))
+          (and-left u v (a .1 .1 .1 .0));
+      entry-path-length = eqb-true (length (x .entryPath)) (32 * entryPathLevels (terms .size))
+          (and-right u v (a .1 .1 .1 .0));
       commitment-clear = a .1 .1 .1 .1 .0;
       segment-path-clear = and-left (noStrayBits (x .segmentPath)) (noStrayBits (x .entryPath)) (a .1 .1 .1 .1 .1 .0);
       entry-path-clear = and-right (noStrayBits (x .segmentPath)) (noStrayBits (x .entryPath)) (a .1 .1 .1 .1 .1 .0);
@@ -60,11 +69,14 @@ judges terms x a =
         (
           a .place-allowed,
           (
-            and-both u v (eq-eqb (length (x .segmentPath)) (32 * segmentPathLevels (terms .size) (x .size)) (a .segment-path-length)) (eq-eqb (length (x .entryPath)) (32 * entryPathLevels (terms .size)) (a .entry-path-length)),
+            and-both u v (eq-eqb (length (x .segmentPath)) (32 * segmentPathLevels (terms .size) (x .size))
+                (a .segment-path-length)) (eq-eqb (length (x .entryPath)) (32 * entryPathLevels (terms .size))
+                (a .entry-path-length)),
             (
               a .commitment-clear,
               (
-                and-both (noStrayBits (x .segmentPath)) (noStrayBits (x .entryPath)) (a .segment-path-clear) (a .entry-path-clear),
+                and-both (noStrayBits (x .segmentPath)) (noStrayBits (x .entryPath)) (a .segment-path-clear)
+                    (a .entry-path-clear),
                 (
                   same-of (segmentPathRoot (terms .size) x) (terms .commitment) (a .segment-path-leads),
                   (
@@ -81,27 +93,34 @@ judges terms x a =
 
 -- the first two tests are passed, and the rest too
 passes : (terms : DealTerms) (r : List ℕ) → checkOf terms r ≡ 0
-    → (length (terms .commitment) ≡ 32) × (dealSizeAllowed (terms .size) ≡ true) × (firstRefusal (rule (wellFormed (parse r)) 3 ∷ judgement terms (parse r)) ≡ 0)
+    → (length (terms .commitment) ≡ 32) × (dealSizeAllowed (terms .size) ≡ true)
+    × (firstRefusal (rule (wellFormed (parse r)) 3 ∷ judgement terms (parse r)) ≡ 0)
 unfolding checkOf
 passes terms r e =
     let rest = firstRefusal (rule (wellFormed (parse r)) 3 ∷ judgement terms (parse r)) in
-    let a = first-passed (eqb (length (terms .commitment)) 32) 1 (firstRefusal (rule (dealSizeAllowed (terms .size)) 2 ∷ rule (wellFormed (parse r)) 3 ∷ judgement terms (parse r))) (omega arith) e in
+    let a = first-passed (eqb (length (terms .commitment)) 32) 1
+    (firstRefusal (rule (dealSizeAllowed (terms .size)) 2 ∷ rule (wellFormed (parse r)) 3 ∷ judgement terms
+    (parse r))) (omega arith) e in
     let b = first-passed (dealSizeAllowed (terms .size)) 2 rest (omega arith) (a .1) in
     (eqb-true (length (terms .commitment)) 32 (a .0), b .0, b .1)
 
 -- an accepted record is well formed, and its fields are accepted
-pub check-means : (terms : DealTerms) (r : List ℕ) → checkOf terms r ≡ 0 → (x : Fields) × (parse r ≡ parsed x) × Accepted terms x
+pub check-means : (terms : DealTerms) (r : List ℕ) → checkOf terms r ≡ 0
+    → (x : Fields) × (parse r ≡ parsed x) × Accepted terms x
 check-means terms r e = go (parse r) refl (passes terms r e .2)
   where
-    go : (f : Parsed) → parse r ≡ f → firstRefusal (rule (wellFormed f) 3 ∷ judgement terms f) ≡ 0 → (x : Fields) × (parse r ≡ parsed x) × Accepted terms x
+    go : (f : Parsed) → parse r ≡ f → firstRefusal (rule (wellFormed f) 3 ∷ judgement terms f) ≡ 0
+        → (x : Fields) × (parse r ≡ parsed x) × Accepted terms x
     go (parsed x) p h = (x, p, judged terms x h)
     go broken p h = absurd (omega arith)
 
 -- and the terms are allowed
-pub check-terms : (terms : DealTerms) (r : List ℕ) → checkOf terms r ≡ 0 → (length (terms .commitment) ≡ 32) × (dealSizeAllowed (terms .size) ≡ true)
+pub check-terms : (terms : DealTerms) (r : List ℕ) → checkOf terms r ≡ 0
+    → (length (terms .commitment) ≡ 32) × (dealSizeAllowed (terms .size) ≡ true)
 check-terms terms r e = let a = passes terms r e in (a .0, a .1)
 
-pub means-check : (terms : DealTerms) (r : List ℕ) (x : Fields) → length (terms .commitment) ≡ 32 → dealSizeAllowed (terms .size) ≡ true → parse r ≡ parsed x → Accepted terms x
+pub means-check : (terms : DealTerms) (r : List ℕ) (x : Fields) → length (terms .commitment) ≡ 32
+    → dealSizeAllowed (terms .size) ≡ true → parse r ≡ parsed x → Accepted terms x
     → checkOf terms r ≡ 0
 unfolding checkOf
 means-check terms r x l o p a = rw (eq-eqb (length (terms .commitment)) 32 l, o, p) (judges terms x a)

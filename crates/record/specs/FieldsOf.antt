@@ -1,4 +1,5 @@
--- The fields of a record's bytes (document 01, "The record"), with zeros and empty paths where the bytes are no record. Settling reads them of accepted
+-- The fields of a record's bytes (document 01, "The record"), with zeros and empty paths where the bytes are no record.
+-- Settling reads them of accepted
 -- records alone.
 use Prim.Native.Nat.{ℕ}
 use mathlib.Core.List.{List, []}

@@ -1,4 +1,5 @@
--- The form of a record (document 01, "The record"): its table, its fields, reading and writing. It depends on the record's bytes alone.
+-- The form of a record (document 01, "The record"): its table, its fields, reading and writing. It depends on the
+-- record's bytes alone.
 use Prim.Native.Nat.{ℕ, _*_}
 use mathlib.Core.List.{List, [], _∷_}
 use lib.ListN.{getD}
@@ -40,7 +41,15 @@ pub record Fields : Type 0 where
 -- fields, named in the order of the table
 abbrev pub fields : List ℕ → ℕ → ℕ → ℕ → List ℕ → List ℕ → Fields
 fields commitment offset size place segmentPath entryPath =
-    record { commitment = commitment; offset = offset; size = size; place = place; segmentPath = segmentPath; entryPath = entryPath }
+    record {
+      commitment = commitment;
+      offset = offset;
+      size = size;
+      place = place;
+      segmentPath =
+          segmentPath;
+      entryPath = entryPath;
+    }
 
 pub data Parsed : Type 0 where
   parsed : Fields → Parsed
@@ -64,7 +73,8 @@ parse r = fieldsIn (readContents layout r)
 
 -- the contents of a record's fields, in the order of the table
 abbrev pub contentsOf : Fields → List (List ℕ)
-contentsOf x = x .commitment ∷ bytesOf 8 (x .offset) ∷ bytesOf 8 (x .size) ∷ bytesOf 8 (x .place) ∷ x .segmentPath ∷ x .entryPath ∷ []
+contentsOf x = x .commitment ∷ bytesOf 8 (x .offset) ∷ bytesOf 8 (x .size) ∷ bytesOf 8 (x .place) ∷ x .segmentPath
+    ∷ x .entryPath ∷ []
 
 -- the record with these fields
 unfoldable pub encode : Fields → List ℕ

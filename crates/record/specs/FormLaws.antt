@@ -1,5 +1,5 @@
 -- Reading and writing a record are inverse: a record is canonical. And the length of what is written.
-use mathlib.Core.Path.{_≡_, refl, ap, _∙_, subst}
+use mathlib.Core.Path.{_≡_, refl, _∙_, subst}
 use mathlib.Core.Bool.{true}
 use Prim.Native.Nat.{ℕ, _^_, _<_}
 use native.Mathlib.Omega.{arith}
@@ -30,7 +30,8 @@ pub record Sized (x : Fields) : Type 0 where
 
 sized-fits : (x : Fields) → Sized x → Fits layout (contentsOf x)
 sized-fits x h =
-    let l8 : (v : ℕ) → lengthAllowed (Exactly 8) (length (bytesOf 8 v)) ≡ true = λ v. eq-eqb (length (bytesOf 8 v)) 8 (length-bytesOf 8 v) in
+    let l8 : (v : ℕ) → lengthAllowed (Exactly 8) (length (bytesOf 8 v)) ≡ true =
+    λ v. eq-eqb (length (bytesOf 8 v)) 8 (length-bytesOf 8 v) in
     let s8 : (v : ℕ) → length (bytesOf 8 v) < 65536 = λ v. omega (arith, length-bytesOf 8 v) in (
       eq-eqb (length (x .commitment)) 32 (h .commitment-32),
       omega (arith, h .commitment-32),
@@ -54,14 +55,20 @@ pub parse-encode : (x : Fields) → Sized x → parse (encode x) ≡ parsed x
 unfolding parse encode
 parse-encode x h =
     rw (contents-back layout (contentsOf x) (sized-fits x h))
-    (rw (number-of-bytes 8 (x .offset) (h .offset-8), number-of-bytes 8 (x .size) (h .size-8), number-of-bytes 8 (x .place) (h .place-8)))
+    (rw (
+      number-of-bytes 8 (x .offset) (h .offset-8),
+      number-of-bytes 8 (x .size) (h .size-8),
+      number-of-bytes 8
+          (x .place) (h .place-8),
+    ))
 
 -- a record that was read is the one that its fields write
 pub parse-canonical : (r : List ℕ) (x : Fields) → Bytes r → parse r ≡ parsed x → (encode x ≡ r) × Sized x
 unfolding parse encode
 parse-canonical r x h e = go (readContents layout r) refl e
   where
-    six : (cs : List (List ℕ)) → readContents layout r ≡ contents cs → fieldsIn (contents cs) ≡ parsed x → Fits layout cs → AllBytes cs → (writeContents layout (contentsOf x) ≡ r) × Sized x
+    six : (cs : List (List ℕ)) → readContents layout r ≡ contents cs → fieldsIn (contents cs) ≡ parsed x
+        → Fits layout cs → AllBytes cs → (writeContents layout (contentsOf x) ≡ r) × Sized x
     six [] p q f b = absurd f
     six (c ∷ []) p q f b = absurd (f .2)
     six (c ∷ o ∷ []) p q f b = absurd (f .2 .2)
@@ -74,11 +81,20 @@ parse-canonical r x h e = go (readContents layout r) refl e
         let lo : length o ≡ 8 = eqb-true (length o) 8 (f .2 .0) in
         let ls : length s ≡ 8 = eqb-true (length s) 8 (f .2 .2 .0) in
         let la : length a ≡ 8 = eqb-true (length a) 8 (f .2 .2 .2 .0) in
-        let y : Fields = record { commitment = c; offset = numberOf o; size = numberOf s; place = numberOf a; segmentPath = u; entryPath = v } in
+        let y : Fields = record {
+          commitment = c;
+          offset = numberOf o;
+          size = numberOf s;
+          place =
+              numberOf a;
+          segmentPath = u;
+          entryPath = v;
+        } in
         let j : y ≡ x = cc in
         subst (λ (z : Fields). (writeContents layout (contentsOf z) ≡ r) × Sized z) j (
           (λ i. writeContents layout
-              (c ∷ bytes-of-number 8 o lo (b .1 .0) i ∷ bytes-of-number 8 s ls (b .1 .1 .0) i ∷ bytes-of-number 8 a la (b .1 .1 .1 .0) i ∷ u ∷ v ∷ [])) ∙ m .0,
+              (c ∷ bytes-of-number 8 o lo (b .1 .0) i ∷ bytes-of-number 8 s ls (b .1 .1 .0) i ∷ bytes-of-number 8 a la
+              (b .1 .1 .1 .0) i ∷ u ∷ v ∷ [])) ∙ m .0,
           record {
             commitment-32 = eqb-true (length c) 32 (f .0);
             offset-8 = number-bound 8 o lo (b .1 .0);
@@ -91,12 +107,15 @@ parse-canonical r x h e = go (readContents layout r) refl e
           },
         )
 
-    go : (k : Contents) → readContents layout r ≡ k → fieldsIn k ≡ parsed x → (writeContents layout (contentsOf x) ≡ r) × Sized x
+    go : (k : Contents) → readContents layout r ≡ k → fieldsIn k ≡ parsed x
+        → (writeContents layout (contentsOf x) ≡ r) × Sized x
     go malformed p q = never-parsed q
     go (contents cs) p q = let m = contents-canonical layout r cs h p in six cs p q (m .1) (m .2)
 
 -- the length of what is written is the table's
-pub encode-length : (x : Fields) → length (x .commitment) ≡ 32 → length (encode x) ≡ tableLength layout (length (x .segmentPath) ∷ length (x .entryPath) ∷ [])
+pub encode-length : (x : Fields) → length (x .commitment) ≡ 32
+    → length (encode x) ≡ tableLength layout (length (x .segmentPath) ∷ length (x .entryPath) ∷ [])
 unfolding encode
 encode-length x l =
-    written-length layout (contentsOf x) (l, (length-bytesOf 8 (x .offset), (length-bytesOf 8 (x .size), (length-bytesOf 8 (x .place), (tt, (tt, tt))))))
+    written-length layout (contentsOf x)
+    (l, (length-bytesOf 8 (x .offset), (length-bytesOf 8 (x .size), (length-bytesOf 8 (x .place), (tt, (tt, tt))))))

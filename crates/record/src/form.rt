@@ -53,7 +53,7 @@ fn read_at(record: &[u8], starts: [usize; ROWS], lengths: [usize; ROWS]) -> Pars
     }
 }
 
-// The fields of a record, where they stand in the order of the table, each once, with nothing after; else 3, with zeros.
+// The fields of a record, where they stand in the order of the table, each once, with nothing after; else 3, and zeros.
 pub fn parse(record: &[u8]) -> ParsedRecord
     ensures { λ r. ⌜ r ≡ parsedRecord (now («record» .entry)) ⌝ }
 {

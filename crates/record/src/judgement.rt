@@ -12,11 +12,12 @@ ghost use Rattle.sizes.specs.Sizes.{dealSizeAllowed, segmentSizeAllowed, segmen
 ghost use Rattle.record.specs.Form.{fields, parsed};
 ghost use Rattle.record.specs.Check.{dealTerms, judgement};
 
-// Whether the paths have the lengths that the record table asks: 32 times log2 (D / A), where A is the area that the segment takes, and
-// 32 times log2 (D / 64).
+// Whether the paths have the lengths that the record table asks: 32 times log2 (D / A), where A is the area that the
+// segment takes, and 32 times log2 (D / 64).
 fn paths_sized(d: u64, size: u64, segment_path_length: usize, entry_path_length: usize) -> bool
     requires { ⌜ (dealSizeAllowed d ≡ true) × (segmentSizeAllowed d size ≡ true) ⌝ }
-    ensures { λ r. ⌜ r ≡ (eqb «segment_path_length» (32 * segmentPathLevels d size) && eqb «entry_path_length» (32 * entryPathLevels d)) ⌝ }
+    ensures { λ r. ⌜ r ≡ (eqb «segment_path_length» (32 * segmentPathLevels d size)
+        && eqb «entry_path_length» (32 * entryPathLevels d)) ⌝ }
 {
     let level = sizes::deal_level(d);
     segment_path_length == 32 * (level - sizes::segment_level(size))
@@ -32,7 +33,8 @@ fn paths_clear(segment_path: &[u8], entry_path: &[u8]) -> bool
 
 // Whether a path leads from a node at a position to a commitment.
 fn leads_to(commitment: &[u8], node: [u8; 32], position: u64, path: &[u8]) -> bool
-    ensures { λ r. ⌜ r ≡ sameBytes (pathRoot (length (now (path .entry)) / 32) node position (now (path .entry))) (now (commitment .entry)) ⌝ }
+    ensures { λ r. ⌜ r ≡ sameBytes (pathRoot (length (now (path .entry)) / 32) node position (now (path .entry)))
+        (now (commitment .entry)) ⌝ }
 {
     let root = paths::path_root(node, position, path);
     octets::same(&root, commitment)
@@ -50,7 +52,8 @@ pub(crate) fn judge(
     entry_path: &[u8],
 ) -> u8
     requires { ⌜ dealSizeAllowed d ≡ true ⌝ }
-    ensures { λ r. ⌜ r ≡ firstRefusal (judgement (dealTerms (now (commitment .entry)) d) (parsed (fields segment offset size place (now («segment_path» .entry)) (now («entry_path» .entry))))) ⌝ }
+    ensures { λ r. ⌜ r ≡ firstRefusal (judgement (dealTerms (now (commitment .entry)) d)
+        (parsed (fields segment offset size place (now («segment_path» .entry)) (now («entry_path» .entry))))) ⌝ }
 {
     if !sizes::segment_size_allowed(d, size) {
         return 4;

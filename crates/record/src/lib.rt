@@ -15,7 +15,8 @@ pub use layout::row;
 ghost use mathlib.Core.Path.{_≡_};
 ghost use Rattle.record.specs.Check.{dealTerms, checkOf};
 
-// The fields of a record: code 0, its commitment and numbers, and where its paths stand in it; for bytes that are no record code 3, and zeros.
+// The fields of a record: code 0, its commitment and numbers, and where its paths stand in it; for bytes that are no
+// record code 3, and zeros.
 pub struct ParsedRecord {
     pub code: u8,
     pub commitment: [u8; 32],
@@ -28,7 +29,8 @@ pub struct ParsedRecord {
     pub entry_path_length: usize,
 }
 
-// The code of the check of a record against a deal's commitment and size: 1 to 8 as numbered, 19, 9, 10; 0 for a record that is accepted.
+// The code of the check of a record against a deal's commitment and size: 1 to 8 as numbered, 19, 9, 10; 0 for a
+// record that is accepted.
 pub fn check(commitment: &[u8], size: u64, record: &[u8]) -> u8
     ensures { λ r. ⌜ r ≡ checkOf (dealTerms (now (commitment .entry)) size) (now («record» .entry)) ⌝ }
 {

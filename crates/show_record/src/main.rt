@@ -1,5 +1,6 @@
-// Reads records from standard input, each after its length (8 bytes, little-endian), and prints the fields that the reader hands
-// out: a line for each with its tag, its length and its content in hex, and a line that says where they end.
+// Reads records from standard input, each after its length (8 bytes, little-endian), and prints the fields that the
+// reader hands out: a line for each with its tag, its length and its content in hex, and a line that says where they
+// end.
 use fields::Field;
 
 fn wide(x: u8) -> u64 {

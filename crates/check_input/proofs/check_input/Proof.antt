@@ -20,7 +20,8 @@ read-u64-requires : tie.Need-read-u64-requires
 read-u64-requires c κs = search needs
 
 slice-aggregate-check : tie.Need-slice-aggregate-check
-slice-aggregate-check c = sym (length-take-le 32 (now (c .before .before .before .before .before .before .args .input)) (omega arith))
+slice-aggregate-check c = sym (length-take-le 32
+    (now (c .before .before .before .before .before .before .args .input)) (omega arith))
 
 sub-check : tie.Need-sub-check
 sub-check c = search needs
@@ -37,7 +38,8 @@ check-requires c κs = search needs
 returns-4 : tie.Need-returns-4
 returns-4 c =
     let s = c .before .before .before .before .before .before .before .before in
-    checked (now (s .args .input)) (c .before .before .before .read-u64 .result) (c .check .result) (omega arith) (omega arith) (c .before .before .before .read-u64 .ensures) (c .check .ensures)
+    checked (now (s .args .input)) (c .before .before .before .read-u64 .result) (c .check .result) (omega arith)
+    (omega arith) (c .before .before .before .read-u64 .ensures) (c .check .ensures)
 
 pub check-input-spec : {M : Type 1} → statement M
 check-input-spec =

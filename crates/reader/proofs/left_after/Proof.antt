@@ -22,7 +22,8 @@ sub-result : tie.Need-sub-result
 sub-result c = search needs
 
 returns-3 : tie.Need-returns-3
-returns-3 c = ap (λ (field : Field). leftAfter field (c .before .before .before .args .left)) (sym (c .before .enum-told .given .1))
+returns-3 c = ap (λ (field : Field). leftAfter field (c .before .before .before .args .left))
+    (sym (c .before .enum-told .given .1))
 
 pub left-after-spec : {M : Type 1} → statement M
 left-after-spec = tie.close (tie.spec enum-told enum-told-2 returns returns-2 sub-result returns-3)

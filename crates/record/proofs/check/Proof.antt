@@ -27,7 +27,8 @@ size-allowed : (c : tie.After-parse) → dealSizeAllowed (start c .args .size) �
 size-allowed c = passed (c .before .before .deal-size-allowed .ensures) (c .before .if2 .left)
 
 returns : tie.Need-returns
-returns c = let a = c .before .before .before .args in wrong-commitment (now (a .commitment)) (a .size) (now (a .record)) (c .if1 .taken)
+returns c = let a = c .before .before .before .args in
+    wrong-commitment (now (a .commitment)) (a .size) (now (a .record)) (c .if1 .taken)
 
 deal-size-allowed-requires : tie.Need-deal-size-allowed-requires
 deal-size-allowed-requires c κs = search needs
@@ -35,7 +36,8 @@ deal-size-allowed-requires c κs = search needs
 returns-2 : tie.Need-returns-2
 returns-2 c =
     let a = c .before .before .before .before .before .args in
-    wrong-deal-size (now (a .commitment)) (a .size) (now (a .record)) (c .before .before .if1 .left) (failed (c .before .deal-size-allowed .ensures) (c .if2 .taken))
+    wrong-deal-size (now (a .commitment)) (a .size) (now (a .record)) (c .before .before .if1 .left)
+    (failed (c .before .deal-size-allowed .ensures) (c .if2 .taken))
 
 parse-requires : tie.Need-parse-requires
 parse-requires c κs = search needs
@@ -44,7 +46,8 @@ returns-3 : tie.Need-returns-3
 returns-3 c =
     let p = c .before .before in
     let a = start p .args in
-    malformed (now (a .commitment)) (a .size) (lent p) (p .before .before .before .if1 .left) (size-allowed p) (p .parse .ensures) (c .if3 .taken)
+    malformed (now (a .commitment)) (a .size) (lent p) (p .before .before .before .if1 .left) (size-allowed p)
+    (p .parse .ensures) (c .if3 .taken)
 
 add-segment-path-end : tie.Need-add-segment-path-end
 add-segment-path-end c = let w = within (c .before .before .before .before) in omega arith
@@ -78,7 +81,8 @@ returns-4 c =
     let t = c .before .before .before .before .before .before in
     let p = t .before .before in
     let a = start p .args in
-    well-formed (now (a .commitment)) (a .size) (lent p) (p .before .before .before .if1 .left) (size-allowed p) (p .parse .ensures) (t .if3 .left) (c .judge .ensures)
+    well-formed (now (a .commitment)) (a .size) (lent p) (p .before .before .before .if1 .left) (size-allowed p)
+    (p .parse .ensures) (t .if3 .left) (c .judge .ensures)
 
 pub check-spec : {M : Type 1} → statement M
 check-spec =

@@ -18,12 +18,14 @@ abbrev μ-loop : tie.MeasureT-loop
 
 -- the field that was read lies within the record
 within : (c : tie.After-known-told Inv-loop μ-loop) → let x = c .before .tag .given .0 in
-    (x .1 .0 ≤ x .1 .1 .1 .0) × (x .1 .1 .1 .0 ≤ length (now (c .before .before .before .before .before .before .before .args .record)))
+    (x .1 .0 ≤ x .1 .1 .1 .0) × (x .1 .1 .1 .0 ≤ length
+    (now (c .before .before .before .before .before .before .before .args .record)))
 within c =
     let x = c .before .tag .given .0 in
     let f = c .before .before .before in
     let i = f .before .before .before .before .args in
-    let w = field-within (now (i .record)) (placeAfter (f .before .before .loop .number) (now (i .record)) 0) (x .0) (x .1 .0) (x .1 .1 .0) (x .1 .1 .1 .0) (sym (f .field .ensures) ∙ c .before .tag .given .1) in
+    let w = field-within (now (i .record)) (placeAfter (f .before .before .loop .number) (now (i .record)) 0) (x .0)
+    (x .1 .0) (x .1 .1 .0) (x .1 .1 .1 .0) (sym (f .field .ensures) ∙ c .before .tag .given .1) in
     (omega (arith, w .0), w .1)
 
 loop-holds : tie.Need-loop-holds Inv-loop μ-loop

@@ -5,7 +5,8 @@ use denote.Ref.{now}
 use borrow.Author.Tests.{not-true, not-false}
 use borrow.Author.Needs.{needs}
 use Rattle.sizes.specs.SizesLaws.{lent-size, entry-place}
-use Rattle.build.proofs.Answers.{Passed, KeptHere, kept-here, size-refused, stray-refused, place-refused, entry-refused, output-short, record-answered}
+use Rattle.build.proofs.Answers.{Passed, KeptHere, kept-here, size-refused, stray-refused, place-refused}
+use Rattle.build.proofs.Answers.{entry-refused, output-short, record-answered}
 use Rattle.build.proofs.building.build.Statement.{statement}
 use Rattle.build.proofs.building.build.Tie as tie
 
@@ -19,7 +20,8 @@ returns : tie.Need-returns
 returns c =
     let l = c .before .before in
     let a = l .before .before .before .args in
-    size-refused (now (a .deal)) (a .place) (now (a .out)) (c .refused .ensures) (sym (l .lent-size-allowed .ensures) ∙ not-true _ (c .before .if1 .taken))
+    size-refused (now (a .deal)) (a .place) (now (a .out)) (c .refused .ensures)
+    (sym (l .lent-size-allowed .ensures) ∙ not-true _ (c .before .if1 .taken))
 
 no-stray-bits-requires : tie.Need-no-stray-bits-requires
 no-stray-bits-requires c κs = search needs
@@ -32,13 +34,16 @@ returns-2 c =
     let n = c .before .before in
     let l = n .before .before in
     let a = l .before .before .before .args in
-    stray-refused (now (a .deal)) (a .place) (now (a .out)) (c .refused2 .ensures) (sym (l .lent-size-allowed .ensures) ∙ not-false _ (n .before .if1 .left)) (sym (n .no-stray-bits .ensures) ∙ not-true _ (c .before .if2 .taken))
+    stray-refused (now (a .deal)) (a .place) (now (a .out)) (c .refused2 .ensures)
+    (sym (l .lent-size-allowed .ensures) ∙ not-false _ (n .before .if1 .left))
+    (sym (n .no-stray-bits .ensures) ∙ not-true _ (c .before .if2 .taken))
 
 place-allowed-requires : tie.Need-place-allowed-requires
 place-allowed-requires c κs =
     let l = c .before .before .before in
     let a = l .before .before .before .args in
-    lent-size (length (now (a .deal))) (sym (l .lent-size-allowed .ensures) ∙ not-false _ (c .before .before .if1 .left)) .allowed
+    lent-size (length (now (a .deal)))
+    (sym (l .lent-size-allowed .ensures) ∙ not-false _ (c .before .before .if1 .left)) .allowed
 
 refused-requires-3 : tie.Need-refused-requires-3
 refused-requires-3 c κs = search needs
@@ -49,7 +54,10 @@ returns-3 c =
     let n = q .before .before in
     let l = n .before .before in
     let a = l .before .before .before .args in
-    place-refused (now (a .deal)) (a .place) (now (a .out)) (c .refused3 .ensures) (sym (l .lent-size-allowed .ensures) ∙ not-false _ (n .before .if1 .left)) (sym (n .no-stray-bits .ensures) ∙ not-false _ (q .before .if2 .left)) (sym (q .place-allowed .ensures) ∙ not-true _ (c .before .if3 .taken))
+    place-refused (now (a .deal)) (a .place) (now (a .out)) (c .refused3 .ensures)
+    (sym (l .lent-size-allowed .ensures) ∙ not-false _ (n .before .if1 .left))
+    (sym (n .no-stray-bits .ensures) ∙ not-false _ (q .before .if2 .left))
+    (sym (q .place-allowed .ensures) ∙ not-true _ (c .before .if3 .taken))
 
 -- where the function starts, and the tests that are passed before the index entry is read
 abbrev entered : tie.Else3 → tie.Start
@@ -79,14 +87,17 @@ returns-4 : tie.Need-returns-4
 returns-4 c =
     let k = c .before .before .before in
     let a = entered (k .before) .args in
-    entry-refused (now (a .deal)) (a .place) (now (a .out)) (c .refused4 .ensures) (tests (k .before)) (k .kept-at .ensures) (not-true _ (c .before .if4 .taken))
+    entry-refused (now (a .deal)) (a .place) (now (a .out)) (c .refused4 .ensures) (tests (k .before))
+    (k .kept-at .ensures) (not-true _ (c .before .if4 .taken))
 
 -- the index entry is kept
-kept : (c : tie.Else4) → KeptHere (now (entered (c .before .before .before) .args .deal)) (entered (c .before .before .before) .args .place) (c .before .before .kept-at .result)
+kept : (c : tie.Else4) → KeptHere (now (entered (c .before .before .before) .args .deal))
+    (entered (c .before .before .before) .args .place) (c .before .before .kept-at .result)
 kept c =
     let k = c .before .before in
     let a = entered (k .before) .args in
-    kept-here (now (a .deal)) (a .place) (k .kept-at .result) (tests (k .before)) (k .kept-at .ensures) (not-false _ (c .if4 .left))
+    kept-here (now (a .deal)) (a .place) (k .kept-at .result) (tests (k .before)) (k .kept-at .ensures)
+    (not-false _ (c .if4 .left))
 
 record-length-requires : tie.Need-record-length-requires
 record-length-requires c κs = (kept c .within .lent-is, kept c .within .size-is)
@@ -99,7 +110,8 @@ returns-5 c =
     let r = c .before .before in
     let k = r .before .before .before in
     let a = entered (k .before) .args in
-    output-short (now (a .deal)) (a .place) (now (a .out)) (c .refused5 .ensures) (kept (r .before)) (omega (arith, r .record-length .ensures, c .before .if5 .taken))
+    output-short (now (a .deal)) (a .place) (now (a .out)) (c .refused5 .ensures) (kept (r .before))
+    (omega (arith, r .record-length .ensures, c .before .if5 .taken))
 
 write-record-requires : tie.Need-write-record-requires
 write-record-requires c κs =
@@ -115,7 +127,8 @@ returns-6 c =
     let r = w .before .before .before in
     let k = r .before .before .before in
     let a = entered (k .before) .args in
-    record-answered (now (a .deal)) (a .place) (now (a .out)) (rw (r .record-length .ensures)) (kept (r .before)) (omega (arith, r .record-length .ensures, w .before .before .if5 .left)) (w .write-record .ensures)
+    record-answered (now (a .deal)) (a .place) (now (a .out)) (rw (r .record-length .ensures)) (kept (r .before))
+    (omega (arith, r .record-length .ensures, w .before .before .if5 .left)) (w .write-record .ensures)
 
 pub build-spec : {M : Type 1} → statement M
 build-spec =

@@ -34,8 +34,10 @@ returns c =
     let s = h .before .before .before .before in
     let a = s .args in
     let middle = h .put-head .ensures .1 in (
-      field-written (now (a .out)) (siblings (nodeAt (now (a .deal))) (a .levels) (a .level) (a .position)) (a .at) (a .row .tag)
-          (run-path-length (now (a .deal)) (a .levels) (a .level) (a .position) (s .pre .1) (s .pre .2)) (omega arith) (h .put-head .ensures .0) middle (w .write-path .ensures),
+      field-written (now (a .out)) (siblings (nodeAt (now (a .deal))) (a .levels) (a .level) (a .position)) (a .at)
+          (a .row .tag)
+          (run-path-length (now (a .deal)) (a .levels) (a .level) (a .position) (s .pre .1) (s .pre .2)) (omega arith)
+          (h .put-head .ensures .0) middle (w .write-path .ensures),
       omega arith,
     )
 

@@ -1,15 +1,14 @@
 -- Row by row, each field where the one before it ends.
 use mathlib.Core.Path.{_≡_, refl, _∙_}
-use Prim.Native.Nat.{ℕ, _+_, _-_, _*_}
 use native.Mathlib.Omega.{arith}
-use mathlib.Core.List.{List}
 use lib.ListN.{length}
 use denote.Ref.{now}
 use Rattle.octets.specs.LittleEndian.{bytesOf}
 use Rattle.octets.specs.LittleEndianLaws.{length-bytesOf}
 use Rattle.fields.specs.WrittenLaws.{wrote-field}
 use Rattle.record.specs.Form.{rowOf, recordLength}
-use Rattle.build.proofs.RecordWritten.{WorkedOut, segment-asked, entry-asked, segment-path-sized, entry-path-sized, SegmentPath, EntryPath, record-written}
+use Rattle.build.proofs.RecordWritten.{WorkedOut, segment-asked, entry-asked, segment-path-sized}
+use Rattle.build.proofs.RecordWritten.{entry-path-sized, SegmentPath, EntryPath, record-written}
 use borrow.Author.Needs.{needs}
 use Rattle.build.proofs.writing.write_record.Statement.{statement}
 use Rattle.build.proofs.writing.write_record.Tie as tie
@@ -35,7 +34,8 @@ entered p = p .before .before .before .before .before
 
 -- the levels and the position
 worked-out : (p : tie.After-segment-position)
-    → WorkedOut (now (entered p .args .deal)) (entered p .args .entry) (entered p .args .place) (p .before .before .deal-level .result) (p .before .segment-level .result) (p .segment-position .result)
+    → WorkedOut (now (entered p .args .deal)) (entered p .args .entry) (entered p .args .place)
+    (p .before .before .deal-level .result) (p .before .segment-level .result) (p .segment-position .result)
 worked-out p =
     record {
       within = entered p .pre .0;
@@ -46,11 +46,18 @@ worked-out p =
 
 -- after the numbers: the output's length, and the place of the first path
 kept : (c : tie.After-put-number3) → length (c .put-number3 .last .0) ≡ length (now (entered (position c) .args .out))
-kept c = c .put-number3 .kept .0 ∙ three c .put-number2 .kept .0 ∙ two (three c) .put-number .kept .0 ∙ one (two (three c)) .put-node .kept .0
+kept c = c .put-number3 .kept .0 ∙ three c .put-number2 .kept .0 ∙ two (three c) .put-number .kept .0
+    ∙ one (two (three c)) .put-node .kept .0
 
 after-numbers : (c : tie.After-put-number3) → c .put-number3 .result ≡ 68
 after-numbers c =
-    omega (arith, c .put-number3 .ensures .1, three c .put-number2 .ensures .1, two (three c) .put-number .ensures .1, one (two (three c)) .put-node .ensures .1)
+    omega (
+      arith,
+      c .put-number3 .ensures .1,
+      three c .put-number2 .ensures .1,
+      two (three c) .put-number .ensures .1,
+      one (two (three c)) .put-node .ensures .1,
+    )
 
 deal-level-requires : tie.Need-deal-level-requires
 deal-level-requires c κs = search needs
@@ -98,13 +105,21 @@ put-number-requires-3 c κs =
     let first = one (two k) in
     let p = first .before .before .before .before in
     let same = k .put-number2 .kept .0 ∙ two k .put-number .kept .0 ∙ first .put-node .kept .0 in
-    omega (arith, same, entered p .pre .1, k .put-number2 .ensures .1, two k .put-number .ensures .1, first .put-node .ensures .1)
+    omega (
+      arith,
+      same,
+      entered p .pre .1,
+      k .put-number2 .ensures .1,
+      two k .put-number .ensures .1,
+      first .put-node .ensures .1,
+    )
 
 row-requires-5 : tie.Need-row-requires-5
 row-requires-5 c κs = search needs
 
 put-path-requires : tie.Need-put-path-requires
-put-path-requires c κs = let k = c .before .before .before .before in segment-asked (worked-out (position k)) (kept k) (entered (position k) .pre .1) (after-numbers k)
+put-path-requires c κs = let k = c .before .before .before .before in
+    segment-asked (worked-out (position k)) (kept k) (entered (position k) .pre .1) (after-numbers k)
 
 row-requires-6 : tie.Need-row-requires-6
 row-requires-6 c κs = search needs
@@ -113,7 +128,8 @@ put-path-requires-2 : tie.Need-put-path-requires-2
 put-path-requires-2 c κs =
     let f = c .before .before .before .before in
     let k = four f in
-    entry-asked (worked-out (position k)) (f .put-path .kept .0 ∙ kept k) (entered (position k) .pre .1) (omega (arith, f .put-path .ensures .1, after-numbers k))
+    entry-asked (worked-out (position k)) (f .put-path .kept .0 ∙ kept k) (entered (position k) .pre .1)
+    (omega (arith, f .put-path .ensures .1, after-numbers k))
 
 same-length : tie.Need-same-length
 same-length c =
@@ -136,24 +152,35 @@ returns c =
     record-written w (now (a .out)) size (entered p .pre .1) (
       _,
       _,
-      wrote-field (rowOf 0) (a .entry .commitment) (f1 .before .row .ensures) size (f1 .put-node .ensures .0) (f1 .put-node .ensures .1),
+      wrote-field (rowOf 0) (a .entry .commitment) (f1 .before .row .ensures) size (f1 .put-node .ensures .0)
+          (f1 .put-node .ensures .1),
       (
         _,
         _,
-        wrote-field (rowOf 1) (bytesOf 8 (a .entry .offset)) (f2 .before .row2 .ensures) (length-bytesOf 8 (a .entry .offset)) (f2 .put-number .ensures .0) (f2 .put-number .ensures .1),
+        wrote-field (rowOf 1) (bytesOf 8 (a .entry .offset)) (f2 .before .row2 .ensures)
+            (length-bytesOf 8 (a .entry .offset)) (f2 .put-number .ensures .0) (f2 .put-number .ensures .1),
         (
           _,
           _,
-          wrote-field (rowOf 2) (bytesOf 8 (a .entry .size)) (f3 .before .row3 .ensures) (length-bytesOf 8 (a .entry .size)) (f3 .put-number2 .ensures .0) (f3 .put-number2 .ensures .1),
+          wrote-field (rowOf 2) (bytesOf 8 (a .entry .size)) (f3 .before .row3 .ensures)
+              (length-bytesOf 8 (a .entry .size)) (f3 .put-number2 .ensures .0) (f3 .put-number2 .ensures .1),
           (
             _,
             _,
-            wrote-field (rowOf 3) (bytesOf 8 (a .place)) (f4 .before .row4 .ensures) (length-bytesOf 8 (a .place)) (f4 .put-number3 .ensures .0) (f4 .put-number3 .ensures .1),
+            wrote-field (rowOf 3) (bytesOf 8 (a .place)) (f4 .before .row4 .ensures) (length-bytesOf 8 (a .place))
+                (f4 .put-number3 .ensures .0) (f4 .put-number3 .ensures .1),
             (
               _,
               _,
-              wrote-field (rowOf 4) (SegmentPath w) (f5 .before .before .row5 .ensures) (segment-path-sized w) (f5 .put-path .ensures .0) (f5 .put-path .ensures .1),
-              (_, _, wrote-field (rowOf 5) (EntryPath w) (f6 .before .before .row6 .ensures) (entry-path-sized w) (f6 .put-path2 .ensures .0) (f6 .put-path2 .ensures .1), refl),
+              wrote-field (rowOf 4) (SegmentPath w) (f5 .before .before .row5 .ensures) (segment-path-sized w)
+                  (f5 .put-path .ensures .0) (f5 .put-path .ensures .1),
+              (
+                _,
+                _,
+                wrote-field (rowOf 5) (EntryPath w) (f6 .before .before .row6 .ensures) (entry-path-sized w)
+                    (f6 .put-path2 .ensures .0) (f6 .put-path2 .ensures .1),
+                refl,
+              ),
             ),
           ),
         ),

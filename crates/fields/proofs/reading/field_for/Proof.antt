@@ -12,7 +12,8 @@ use Rattle.fields.proofs.reading.field_for.Tie as tie
 abbrev start : tie.After-field → tie.Start
 start c = c .before .before .before .before
 
-there : (c : tie.After-field) → let a = start c .args in fieldAt (now (a .bytes)) (a .place) ≡ content (c .field .given .0)
+there : (c : tie.After-field) → let a = start c .args in
+    fieldAt (now (a .bytes)) (a .place) ≡ content (c .field .given .0)
 there c = sym (c .before .before .read-field .ensures .0) ∙ c .field .given .1
 
 read-field-requires : tie.Need-read-field-requires
@@ -44,14 +45,16 @@ returns-3 c =
     let t = c .before .before in
     let k = t .before .before .before in
     let a = start k .args in
-    other-length (a .row) (now (a .bytes)) (a .place) (there k) (t .if1 .left) (sym (c .before .length-allowed .ensures) ∙ not-true _ (c .if2 .taken))
+    other-length (a .row) (now (a .bytes)) (a .place) (there k) (t .if1 .left)
+    (sym (c .before .length-allowed .ensures) ∙ not-true _ (c .if2 .taken))
 
 returns-4 : tie.Need-returns-4
 returns-4 c =
     let t = c .before .before in
     let k = t .before .before .before in
     let a = start k .args in
-    asked-for (a .row) (now (a .bytes)) (a .place) (there k) (t .if1 .left) (sym (c .before .length-allowed .ensures) ∙ not-false _ (c .if2 .left))
+    asked-for (a .row) (now (a .bytes)) (a .place) (there k) (t .if1 .left)
+    (sym (c .before .length-allowed .ensures) ∙ not-false _ (c .if2 .left))
 
 pub field-for-spec : {M : Type 1} → statement M
 field-for-spec =

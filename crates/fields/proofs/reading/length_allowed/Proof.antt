@@ -17,7 +17,8 @@ rem-result : tie.Need-rem-result
 rem-result c = search needs
 
 returns : tie.Need-returns
-returns c = ap (λ (rule : LengthRule). lengthAllowed rule (c .before .before .before .args .length)) (sym (c .before .rule .given .1))
+returns c = ap (λ (rule : LengthRule). lengthAllowed rule (c .before .before .before .args .length))
+    (sym (c .before .rule .given .1))
 
 returns-2 : tie.Need-returns-2
 returns-2 c = rw (c .before .before .rule2 .given .1, ne-eqb (c .before .before .rule2 .given .0 .0) 0 (c .if1 .taken))

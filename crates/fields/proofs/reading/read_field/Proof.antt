@@ -36,7 +36,8 @@ sub-if3 c = search needs
 returns-3 : tie.Need-returns-3
 returns-3 c =
     let a = c .before .before .before .before .before .before .before .args in
-    read-cut (now (a .bytes)) (a .place) (c .before .length-in .result) (omega arith) (c .before .length-in .ensures) (omega arith)
+    read-cut (now (a .bytes)) (a .place) (c .before .length-in .result) (omega arith) (c .before .length-in .ensures)
+    (omega arith)
 
 shared-slice-read-t12 : tie.Need-shared-slice-read-t12
 shared-slice-read-t12 c = search needs

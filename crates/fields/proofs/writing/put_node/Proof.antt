@@ -23,8 +23,12 @@ returns c =
     let h = w .before .before .before .before in
     let a = h .before .before .before .args in
     let size = w .put-node .ensures .1 in
-    let middle = h .put-head .ensures .1 in
-    (field-written (now (a .out)) (a .node) (a .at) (a .row .tag) size (omega arith) (h .put-head .ensures .0) middle (w .put-node .ensures .0), omega arith, size)
+    let middle = h .put-head .ensures .1 in (
+      field-written (now (a .out)) (a .node) (a .at) (a .row .tag) size (omega arith) (h .put-head .ensures .0) middle
+          (w .put-node .ensures .0),
+      omega arith,
+      size,
+    )
 
 pub put-node-spec : {M : Type 1} → statement M
 put-node-spec =

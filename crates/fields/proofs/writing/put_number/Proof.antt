@@ -26,7 +26,8 @@ returns c =
     let a = h .before .before .before .args in
     let middle = h .put-head .ensures .1 in
     let content = bytesOf 8 (a .number) in (
-      field-written (now (a .out)) content (a .at) (a .row .tag) (length-bytesOf 8 (a .number)) (omega arith) (h .put-head .ensures .0) middle (w .put-u64 .ensures),
+      field-written (now (a .out)) content (a .at) (a .row .tag) (length-bytesOf 8 (a .number)) (omega arith)
+          (h .put-head .ensures .0) middle (w .put-u64 .ensures),
       omega arith,
     )
 

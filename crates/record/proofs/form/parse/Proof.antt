@@ -9,13 +9,14 @@ use Rattle.fields.specs.declared.FieldRule.{FieldRule}
 use Rattle.fields.specs.Spans.{spans, spansFrom}
 use Rattle.record.specs.Form.{layout}
 use Rattle.record.specs.ParsedRecord.{readAt, parsedRecord}
-use Rattle.record.proofs.ParseLoop.{content, UpTo, no-rows, next-row, no-row, more-after, all-rows}
+use Rattle.record.proofs.ParseLoop.{UpTo, no-rows, next-row, no-row, more-after, all-rows}
 use borrow.Author.Needs.{needs}
 use Rattle.record.proofs.form.parse.Statement.{statement}
 use Rattle.record.proofs.form.parse.Tie as tie
 
 abbrev Inv-loop : tie.InvT-loop
-Inv-loop «record» starts₀ lengths₀ at₀ i₀ starts lengths at i = (i ≤ 6) × (length starts ≡ 6) × (length lengths ≡ 6) × UpTo «record» starts lengths at i
+Inv-loop «record» starts₀ lengths₀ at₀ i₀ starts lengths at i =
+    (i ≤ 6) × (length starts ≡ 6) × (length lengths ≡ 6) × UpTo «record» starts lengths at i
 
 abbrev μ-loop : tie.MeasureT-loop
 μ-loop «record» starts₀ lengths₀ at₀ i₀ starts lengths at i = 6 - i
@@ -43,8 +44,11 @@ returns c =
     let k = c .before .before in
     let t = k .before .before .before in
     let l = t .before .loop in
-    no-row (now (t .before .before .before .args .record)) (l .starts) (l .lengths) (l .at) (l .i) (c .unread-with .ensures) (l .inv .3) (t .loop-test .taken)
-    (sym (k .before .field-for .ensures .0 ∙ ap (λ (row : FieldRule). fieldFor row (now (t .before .before .before .args .record)) (l .at)) (k .before .before .row .ensures)) ∙ c .before .enum-told .given .1)
+    no-row (now (t .before .before .before .args .record)) (l .starts) (l .lengths) (l .at) (l .i)
+    (c .unread-with .ensures) (l .inv .3) (t .loop-test .taken)
+    (sym (k .before .field-for .ensures .0
+    ∙ ap (λ (row : FieldRule). fieldFor row (now (t .before .before .before .args .record)) (l .at))
+    (k .before .before .row .ensures)) ∙ c .before .enum-told .given .1)
 
 mul-starts : tie.Need-mul-starts Inv-loop μ-loop
 mul-starts c = search needs
@@ -73,8 +77,11 @@ loop-again c =
       omega arith,
       simp length-set (l .inv .1),
       simp length-set (l .inv .2),
-      next-row r (l .starts) (l .lengths) (l .at) (l .i) (l .i + 1) (l .inv .3) (omega arith) (t .loop-test .taken) (l .inv .1) (l .inv .2)
-          (sym (k .before .field-for .ensures .0 ∙ ap (λ (row : FieldRule). fieldFor row r (l .at)) (k .before .before .row .ensures)) ∙ c .before .start .given .1),
+      next-row r (l .starts) (l .lengths) (l .at) (l .i) (l .i + 1) (l .inv .3) (omega arith) (t .loop-test .taken)
+          (l .inv .1) (l .inv .2)
+          (sym (k .before .field-for .ensures .0
+          ∙ ap (λ (row : FieldRule). fieldFor row r (l .at)) (k .before .before .row .ensures))
+          ∙ c .before .start .given .1),
     )
 
 unread-with-requires-2 : tie.Need-unread-with-requires-2 Inv-loop μ-loop
@@ -84,21 +91,24 @@ returns-2 : tie.Need-returns-2 Inv-loop μ-loop
 returns-2 c =
     let e = c .before .before in
     let l = e .before .loop in
-    more-after (now (e .before .before .before .args .record)) (l .starts) (l .lengths) (l .at) (l .i) (l .inv .3) (omega arith) (c .unread-with2 .ensures) (c .before .if1 .taken)
+    more-after (now (e .before .before .before .args .record)) (l .starts) (l .lengths) (l .at) (l .i) (l .inv .3)
+    (omega arith) (c .unread-with2 .ensures) (c .before .if1 .taken)
 
 -- all rows were read, and nothing is after them
 done : (c : tie.Else1 Inv-loop μ-loop) → let l = c .before .before .loop in
     spansFrom layout (now (c .before .before .before .before .args .record)) 0 ≡ spans (l .starts) (l .lengths)
 done c =
     let l = c .before .before .loop in
-    all-rows (now (c .before .before .before .before .args .record)) (l .starts) (l .lengths) (l .at) (l .i) (l .inv .3) (omega arith) (l .inv .1) (l .inv .2) (c .if1 .left)
+    all-rows (now (c .before .before .before .before .args .record)) (l .starts) (l .lengths) (l .at) (l .i)
+    (l .inv .3) (omega arith) (l .inv .1) (l .inv .2) (c .if1 .left)
 
 read-at-requires : tie.Need-read-at-requires Inv-loop μ-loop
 read-at-requires c κs = done c
 
 returns-3 : tie.Need-returns-3 Inv-loop μ-loop
 unfolding parsedRecord
-returns-3 c = c .read-at .ensures ∙ sym (ap (readAt (now (c .before .before .before .before .before .args .record))) (done (c .before)))
+returns-3 c = c .read-at .ensures
+    ∙ sym (ap (readAt (now (c .before .before .before .before .before .args .record))) (done (c .before)))
 
 pub parse-spec : {M : Type 1} → statement M
 parse-spec =

@@ -9,25 +9,29 @@ array-read-node-at : tie.Need-array-read-node-at
 array-read-node-at c = search needs
 
 node-at-requires : tie.Need-node-at-requires
-node-at-requires c κs = let s = c .before in commitment-fits (now (s .args .record)) (s .args .t2) (s .args .t3) (s .pre)
+node-at-requires c κs = let s = c .before in
+    commitment-fits (now (s .args .record)) (s .args .t2) (s .args .t3) (s .pre)
 
 array-read-read-u64 : tie.Need-array-read-read-u64
 array-read-read-u64 c = search needs
 
 read-u64-requires : tie.Need-read-u64-requires
-read-u64-requires c κs = let s = c .before .before in offset-fits (now (s .args .record)) (s .args .t2) (s .args .t3) (s .pre)
+read-u64-requires c κs = let s = c .before .before in
+    offset-fits (now (s .args .record)) (s .args .t2) (s .args .t3) (s .pre)
 
 array-read-read-u64-2 : tie.Need-array-read-read-u64-2
 array-read-read-u64-2 c = search needs
 
 read-u64-requires-2 : tie.Need-read-u64-requires-2
-read-u64-requires-2 c κs = let s = c .before .before .before in size-fits (now (s .args .record)) (s .args .t2) (s .args .t3) (s .pre)
+read-u64-requires-2 c κs = let s = c .before .before .before in
+    size-fits (now (s .args .record)) (s .args .t2) (s .args .t3) (s .pre)
 
 array-read-read-u64-3 : tie.Need-array-read-read-u64-3
 array-read-read-u64-3 c = search needs
 
 read-u64-requires-3 : tie.Need-read-u64-requires-3
-read-u64-requires-3 c κs = let s = c .before .before .before .before in place-fits (now (s .args .record)) (s .args .t2) (s .args .t3) (s .pre)
+read-u64-requires-3 c κs = let s = c .before .before .before .before in
+    place-fits (now (s .args .record)) (s .args .t2) (s .args .t3) (s .pre)
 
 array-read-t12 : tie.Need-array-read-t12
 array-read-t12 c = search needs
@@ -47,7 +51,8 @@ returns c =
     let o = z .before in
     let n = o .before in
     let s = n .before .before in
-    fields-there (now (s .args .record)) (s .args .t2) (s .args .t3) (s .pre) (n .node-at .ensures) (o .read-u64 .ensures) (z .read-u642 .ensures) (c .read-u643 .ensures)
+    fields-there (now (s .args .record)) (s .args .t2) (s .args .t3) (s .pre) (n .node-at .ensures)
+    (o .read-u64 .ensures) (z .read-u642 .ensures) (c .read-u643 .ensures)
 
 pub read-at-spec : {M : Type 1} → statement M
 read-at-spec =

@@ -55,10 +55,13 @@ start7 c = start6 (c .before .before .before)
 size-allowed : (c : tie.Else1) → segmentSizeAllowed (start1 c .args .d) (start1 c .args .size) ≡ true
 size-allowed c = passed (c .before .segment-size-allowed .ensures) (c .if1 .left)
 
-lengths : (c : tie.Else4) → let a = start4 c .args in (length (now (a .segment-path)) ≡ 32 * segmentPathLevels (a .d) (a .size)) × (length (now (a .entry-path)) ≡ 32 * entryPathLevels (a .d))
+lengths : (c : tie.Else4) → let a = start4 c .args in
+    (length (now (a .segment-path)) ≡ 32 * segmentPathLevels (a .d) (a .size))
+    × (length (now (a .entry-path)) ≡ 32 * entryPathLevels (a .d))
 lengths c =
     let a = start4 c .args in
-    sized (a .d) (a .size) (now (a .segment-path)) (now (a .entry-path)) (passed (c .before .paths-sized .ensures) (c .if4 .left))
+    sized (a .d) (a .size) (now (a .segment-path)) (now (a .entry-path))
+    (passed (c .before .paths-sized .ensures) (c .if4 .left))
 
 after-size : (c : tie.Else1) → Left (start1 c) 1
 after-size c = rw (size-allowed c)
@@ -79,23 +82,28 @@ after-paths-clear : (c : tie.Else6) → Left (start6 c) 6
 after-paths-clear c = after-clear (c .before .before) ∙ rw (passed (c .before .paths-clear .ensures) (c .if6 .left))
 
 -- where the two paths lead
-segment-path-leads : (c : tie.After-leads-to) → let s = start6 (c .before .before) in c .leads-to .result ≡ sameBytes (segmentPathRoot (s .args .d) (judged s)) (now (s .args .commitment))
+segment-path-leads : (c : tie.After-leads-to) → let s = start6 (c .before .before) in
+    c .leads-to .result ≡ sameBytes (segmentPathRoot (s .args .d) (judged s)) (now (s .args .commitment))
 segment-path-leads c =
     let a = start6 (c .before .before) .args in
-    leads (segmentPathLevels (a .d) (a .size)) (now (a .segment-path)) (now (a .commitment)) (lengths (c .before .before .before .before .before) .0) refl
+    leads (segmentPathLevels (a .d) (a .size)) (now (a .segment-path)) (now (a .commitment))
+    (lengths (c .before .before .before .before .before) .0) refl
     (c .before .segment-position .ensures)
     (c .leads-to .ensures)
 
-entry-path-leads : (c : tie.After-leads-to2) → let s = start7 (c .before .before .before) in c .leads-to2 .result ≡ sameBytes (entryPathRoot (s .args .d) (judged s)) (now (s .args .commitment))
+entry-path-leads : (c : tie.After-leads-to2) → let s = start7 (c .before .before .before) in
+    c .leads-to2 .result ≡ sameBytes (entryPathRoot (s .args .d) (judged s)) (now (s .args .commitment))
 entry-path-leads c =
     let a = start7 (c .before .before .before) .args in
-    leads (entryPathLevels (a .d)) (now (a .entry-path)) (now (a .commitment)) (lengths (c .before .before .before .before .before .before .before .before .before) .1)
+    leads (entryPathLevels (a .d)) (now (a .entry-path)) (now (a .commitment))
+    (lengths (c .before .before .before .before .before .before .before .before .before) .1)
     (c .before .node-hash .ensures ∙ ap nodeHash (c .before .before .entry-of .ensures))
     refl
     (c .leads-to2 .ensures)
 
 after-segment-path : (c : tie.Else7) → Left (start7 c) 7
-after-segment-path c = after-paths-clear (c .before .before .before) ∙ rw (passed (segment-path-leads (c .before)) (c .if7 .left))
+after-segment-path c = after-paths-clear (c .before .before .before)
+    ∙ rw (passed (segment-path-leads (c .before)) (c .if7 .left))
 
 segment-size-allowed-requires : tie.Need-segment-size-allowed-requires
 segment-size-allowed-requires c κs = search needs
@@ -136,14 +144,16 @@ returns-6 c = sym (after-clear (c .before .before) ∙ rw (failed (c .before .pa
 segment-position-requires : tie.Need-segment-position-requires
 segment-position-requires c κs =
     let s = start6 c in
-    let z = segment-size (s .args .d) (s .args .size) (deal-size (s .args .d) (s .pre)) (size-allowed (c .before .before .before .before .before .before .before .before .before)) in
+    let z = segment-size (s .args .d) (s .args .size) (deal-size (s .args .d) (s .pre))
+    (size-allowed (c .before .before .before .before .before .before .before .before .before)) in
     omega arith
 
 leads-to-requires : tie.Need-leads-to-requires
 leads-to-requires c κs = search needs
 
 returns-7 : tie.Need-returns-7
-returns-7 c = sym (after-paths-clear (c .before .before .before) ∙ rw (failed (segment-path-leads (c .before)) (c .if7 .taken)))
+returns-7 c = sym (after-paths-clear (c .before .before .before)
+    ∙ rw (failed (segment-path-leads (c .before)) (c .if7 .taken)))
 
 entry-of-requires : tie.Need-entry-of-requires
 entry-of-requires c κs = search needs
@@ -155,10 +165,12 @@ leads-to-requires-2 : tie.Need-leads-to-requires-2
 leads-to-requires-2 c κs = search needs
 
 returns-8 : tie.Need-returns-8
-returns-8 c = sym (after-segment-path (c .before .before .before .before) ∙ rw (failed (entry-path-leads (c .before)) (c .if8 .taken)))
+returns-8 c = sym (after-segment-path (c .before .before .before .before)
+    ∙ rw (failed (entry-path-leads (c .before)) (c .if8 .taken)))
 
 returns-9 : tie.Need-returns-9
-returns-9 c = sym (after-segment-path (c .before .before .before .before) ∙ rw (passed (entry-path-leads (c .before)) (c .if8 .left)))
+returns-9 c = sym (after-segment-path (c .before .before .before .before)
+    ∙ rw (passed (entry-path-leads (c .before)) (c .if8 .left)))
 
 pub judge-spec : {M : Type 1} → statement M
 judge-spec =

@@ -20,7 +20,8 @@ same-requires c κs = search needs
 returns : tie.Need-returns
 returns c =
     let a = c .before .before .before .before .before .args in
-    c .same .ensures ∙ ap (λ (node : List ℕ). sameBytes node (now (a .commitment))) (c .before .before .path-root .ensures)
+    c .same .ensures ∙ ap (λ (node : List ℕ). sameBytes node (now (a .commitment)))
+    (c .before .before .path-root .ensures)
 
 pub leads-to-spec : {M : Type 1} → statement M
 leads-to-spec = tie.close (tie.spec path-root-requires slice-aggregate-same same-requires returns)

@@ -31,10 +31,20 @@ mul-result : tie.Need-mul-result
 mul-result c = let t = deal (c .before .before .before) in omega arith
 
 returns : tie.Need-returns
-returns c = simp (← c .before .before .deal-level .ensures, ← c .before .segment-level .ensures, eq-eqb _ _ (c .if1 .taken))
+returns c = simp (
+  ← c .before .before .deal-level .ensures,
+  ← c .before .segment-level .ensures,
+  eq-eqb _ _
+      (c .if1 .taken),
+)
 
 returns-2 : tie.Need-returns-2
-returns-2 c = simp (← c .before .before .deal-level .ensures, ← c .before .segment-level .ensures, ne-eqb _ _ (c .if1 .left))
+returns-2 c = simp (
+  ← c .before .before .deal-level .ensures,
+  ← c .before .segment-level .ensures,
+  ne-eqb _ _
+      (c .if1 .left),
+)
 
 pub paths-sized-spec : {M : Type 1} → statement M
 paths-sized-spec =

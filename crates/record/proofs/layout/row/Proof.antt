@@ -43,7 +43,15 @@ returns-6 : tie.Need-returns-6
 returns-6 c =
     let none = c .before .match .rest in
     let number = c .before .before .args .number in
-    let last : number ≡ 5 = omega (arith, c .before .before .pre, none .0 .0 .0 .0 .1, none .0 .0 .0 .1, none .0 .0 .1, none .0 .1, none .1) in
+    let last : number ≡ 5 = omega (
+      arith,
+      c .before .before .pre,
+      none .0 .0 .0 .0 .1,
+      none .0 .0 .0 .1,
+      none .0 .0 .1,
+      none .0 .1,
+      none .1,
+    ) in
     c .nodes2 .ensures ∙ ap rowOf (sym last)
 
 pub row-spec : {M : Type 1} → statement M
