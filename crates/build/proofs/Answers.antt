@@ -1,6 +1,7 @@
 -- The answers of `build` by the tests on the way: one law for each answer of the code.
-use mathlib.Core.Path.{_≡_, ap, _∙_}
+use mathlib.Core.Path.{_≡_, sym, ap, _∙_}
 use mathlib.Core.Bool.{true, false}
+use mathlib.Core.Logic.{_≢_}
 use mathlib.Core.List.{List}
 use Prim.Native.Nat.{ℕ, _≤_, _<_}
 use native.Mathlib.Omega.{arith}
@@ -14,10 +15,11 @@ use Rattle.sizes.specs.Sizes.{lentSizeAllowed, placeAllowed, dealLevel}
 use Rattle.index.specs.Slots.{entryAt, keptRow}
 use Rattle.index.specs.SlotsLaws.{answer-kept, answer-not-kept}
 use Rattle.index.specs.declared.Row.{Row}
-use Rattle.lent.specs.LentDeal.{lentDeal}
-use Rattle.build.specs.Build.{built, notBuilt, recordAt, buildAnswer, buildOutput}
+use Rattle.lent.specs.LentDeal.{lentDeal, dealRefusal}
+use Rattle.lent.specs.LentDealLaws.{refusal-none, refused-answer}
+use Rattle.build.specs.Build.{entryRules, fieldsFor, built, notBuilt, recordAt, buildAnswer, buildOutput}
 use Rattle.build.specs.BuildLaws.{InDeal, in-deal, means-build}
-use Rattle.record.specs.Form.{recordLength}
+use Rattle.record.specs.Form.{encode, recordLength}
 use Rattle.build.specs.Encode.{recordFor}
 use Rattle.build.specs.EncodeLaws.{record-of-entry, commitment-in-length, record-length}
 use Rattle.build.specs.declared.BuildAnswer.{BuildAnswer}
@@ -68,21 +70,18 @@ module _ (deal : List ℕ) (place : ℕ) (out : List ℕ) {answer : BuildAnswer}
   unfolding buildAnswer buildOutput
   refused-with code a e = (a ∙ rw e, rw e)
 
-  pub size-refused : answer ≡ record { code = 2; length = 0 } → lentSizeAllowed (length deal) ≡ false
+  pub deal-refused : {code : ℕ} → answer ≡ record { code = code; length = 0 } → code ≡ dealRefusal deal → code ≢ 0
       → Answered deal place out answer out
   unfolding recordAt
-  size-refused a t = refused-with 2 a (rw t)
+  deal-refused {code = code} a e h =
+      refused-with code a
+      (sym (refused-answer deal (entryRules (lentDeal deal) place) notBuilt
+      (built (encode (fieldsFor (lentDeal deal) (entryAt deal place) place))) code e h))
 
-  pub stray-refused : answer ≡ record { code = 11; length = 0 } → lentSizeAllowed (length deal) ≡ true
-      → noStrayBits deal ≡ false → Answered deal place out answer out
+  pub place-refused : answer ≡ record { code = 6; length = 0 } → dealRefusal deal ≡ 0
+      → placeAllowed (length deal) place ≡ false → Answered deal place out answer out
   unfolding recordAt
-  stray-refused a l t = refused-with 11 a (rw (l, t))
-
-  pub place-refused : answer ≡ record { code = 6; length = 0 } → lentSizeAllowed (length deal) ≡ true
-      → noStrayBits deal ≡ true → placeAllowed (length deal) place ≡ false
-      → Answered deal place out answer out
-  unfolding recordAt
-  place-refused a l n t = refused-with 6 a (rw (l, n, t))
+  place-refused a e t = let p = refusal-none deal e in refused-with 6 a (rw (p .0, p .1, t))
 
   -- with the entry that was read at the place
   module _ {entry : Row} where

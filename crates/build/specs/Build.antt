@@ -44,12 +44,14 @@ pub data Building : Type 0 where
   built : List ℕ → Building
   notBuilt : ℕ → Building
 
-abbrev pub buildRules : LentDeal → ℕ → List Rule
-buildRules deal place =
-    dealRules (deal .bytes)
-    ++ rule (placeAllowed (dealSize deal) place) 6
+abbrev pub entryRules : LentDeal → ℕ → List Rule
+entryRules deal place =
+    rule (placeAllowed (dealSize deal) place) 6
     ∷ rule (kept (deal .nodes) (dealSize deal) (entryAt (deal .bytes) place)) 16
     ∷ []
+
+abbrev pub buildRules : LentDeal → ℕ → List Rule
+buildRules deal place = dealRules (deal .bytes) ++ entryRules deal place
 
 unfoldable pub recordAt : LentDeal → ℕ → Building
 recordAt deal place =

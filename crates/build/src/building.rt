@@ -20,11 +20,9 @@ pub fn build(deal: &[u8], place: u64, out: &mut [u8]) -> BuildAnswer
     ensures { λ r. ⌜ (r ≡ buildAnswer (lentDeal (now (deal .entry))) place (now (out .entry)))
         × (now (out .exit) ≡ buildOutput (lentDeal (now (deal .entry))) place (now (out .entry))) ⌝ }
 {
-    if !sizes::lent_size_allowed(deal.len()) {
-        return refused(2);
-    }
-    if !stray::no_stray_bits(deal) {
-        return refused(11);
+    let refusal = lent::refusal(deal);
+    if refusal != 0 {
+        return refused(refusal);
     }
     let deal_size = deal.len() as u64;
     if !sizes::place_allowed(deal_size, place) {
