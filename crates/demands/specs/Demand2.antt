@@ -94,8 +94,8 @@ pub kept-never-booked : (deal segment : List ℕ) (later : List (List ℕ)) → 
     → bookAnswer (runBookings deal later) segment ≡ bookAnswer deal segment
 kept-never-booked = kept-for-good
 
--- Demand 2. Where some slot of a deal keeps the segment, booking answers 15 with the offset and the entry place of the lowest such slot, now
--- and after any later bookings.
+-- Demand 2. Where some slot of a deal keeps the segment, booking answers 15 with the offset and the entry place of the
+-- lowest such slot, now and after any later bookings.
 pub kept-is-never-booked : (deal segment : List ℕ) (i : ℕ) → Bookable deal segment → i < entryCount (length deal)
     → keepsSegment deal segment i ≡ true
     → (j : ℕ)

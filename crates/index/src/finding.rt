@@ -48,7 +48,9 @@ fn refused(code: u8) -> FoundSegment
 // The lowest slot of a lent deal that holds a kept entry with this commitment.
 fn lowest_with_commitment(deal: &[u8], commitment: &[u8]) -> FoundSegment
     requires { ⌜ lentSizeAllowed (length (now deal)) ≡ true ⌝ }
-    ensures { λ r. ⌜ r ≡ foundIn (now (deal .entry)) (lowestWithCommitment (lentDeal (now (deal .entry))) (now (commitment .entry))) ⌝ }
+    ensures { λ r. ⌜ r
+        ≡ foundIn (now (deal .entry))
+        (lowestWithCommitment (lentDeal (now (deal .entry))) (now (commitment .entry))) ⌝ }
 {
     let deal_size = deal.len() as u64;
     let count = sizes::entry_count(deal_size);
@@ -90,7 +92,8 @@ pub fn find_numbers(deal: &[u8], commitment: &[u8]) -> FoundSegment
 pub fn find<'d, 'c>(deal: &'d [u8], commitment: &'c [u8]) -> &'d [u8]
     ensures { λ r. ⌜ now r ≡ findView (lentDeal (now (deal .entry))) (now (commitment .entry)) ⌝ }
     ensures { λ r. ⌜ ptr r .0 ≡ ptr (deal .entry) .0 ⌝ }
-    ensures { λ r. ⌜ ptr r .1 ≡ findNumbers (lentDeal (now (deal .entry))) (now (commitment .entry)) .offset + ptr (deal .entry) .1 ⌝ }
+    ensures { λ r. ⌜ ptr r .1
+        ≡ findNumbers (lentDeal (now (deal .entry))) (now (commitment .entry)) .offset + ptr (deal .entry) .1 ⌝ }
     ensures { λ r. ⌜ length (now r) ≡ findNumbers (lentDeal (now (deal .entry))) (now (commitment .entry)) .size ⌝ }
 {
     let found = find_numbers(deal, commitment);

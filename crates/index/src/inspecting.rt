@@ -45,7 +45,8 @@ fn inspected_row(state: SlotState, row: Row) -> Inspected
 // What the entry at a place of a lent deal is. Only the bytes of its segment are hashed, and only where it stands.
 fn slot_holds(deal: &[u8], place: usize) -> Inspected
     requires { ⌜ (lentSizeAllowed (length (now deal)) ≡ true) × (place + 64 ≤ length (now deal)) ⌝ }
-    ensures { λ r. ⌜ r ≡ slotHolds (nodeAt (now (deal .entry))) (length (now (deal .entry))) (entryAt (now (deal .entry)) place) ⌝ }
+    ensures { λ r. ⌜ r
+        ≡ slotHolds (nodeAt (now (deal .entry))) (length (now (deal .entry))) (entryAt (now (deal .entry)) place) ⌝ }
 {
     let row = standing_at(deal, place);
     if !row.stands {

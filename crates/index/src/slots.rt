@@ -54,7 +54,8 @@ pub(crate) fn segment_has(deal: &[u8], offset: u64, size: u64, commitment: [u8; 
     requires { ⌜ lentSizeAllowed (length (now deal)) ≡ true ⌝ }
     requires { ⌜ segmentSizeAllowed (length (now deal)) size ≡ true ⌝ }
     requires { ⌜ offsetAllowed (length (now deal)) offset size ≡ true ⌝ }
-    ensures { λ r. ⌜ r ≡ sameBytes (nodeAt (now (deal .entry)) (segmentLevel size) (segmentPosition offset size)) commitment ⌝ }
+    ensures { λ r. ⌜ r
+        ≡ sameBytes (nodeAt (now (deal .entry)) (segmentLevel size) (segmentPosition offset size)) commitment ⌝ }
 {
     let level = sizes::segment_level(size);
     let position = sizes::segment_position(offset, size) as usize;
@@ -65,7 +66,8 @@ pub(crate) fn segment_has(deal: &[u8], offset: u64, size: u64, commitment: [u8; 
 // The row of the entry at a place of a lent deal, where it is kept.
 pub fn kept_at(deal: &[u8], place: usize) -> Row
     requires { ⌜ (lentSizeAllowed (length (now deal)) ≡ true) × (place + 64 ≤ length (now deal)) ⌝ }
-    ensures { λ r. ⌜ r ≡ keptRow (nodeAt (now (deal .entry))) (length (now (deal .entry))) (entryAt (now (deal .entry)) place) ⌝ }
+    ensures { λ r. ⌜ r
+        ≡ keptRow (nodeAt (now (deal .entry))) (length (now (deal .entry))) (entryAt (now (deal .entry)) place) ⌝ }
 {
     let row = standing_at(deal, place);
     if !row.stands {

@@ -13,4 +13,5 @@ NodeSource = ℕ → ℕ → List ℕ
 pub record IsTree (nodes : NodeSource) (run : List ℕ) (top : ℕ) : Type 0 where
   pub leaf : (q : ℕ) → nodes 0 q ≡ take 32 (drop (q * 32) run)
   pub sized : (n i q : ℕ) → i + n ≡ top → q < 2 ^ n → length (nodes i q) ≡ 32
-  pub split : (n i m : ℕ) → suc i + n ≡ top → m < 2 ^ n → nodes (suc i) m ≡ nodeHash (nodes i (m * 2) ++ nodes i (m * 2 + 1))
+  pub split : (n i m : ℕ) → suc i + n ≡ top → m < 2 ^ n
+      → nodes (suc i) m ≡ nodeHash (nodes i (m * 2) ++ nodes i (m * 2 + 1))

@@ -13,6 +13,8 @@ pub run-tree : (run : List ℕ) (top : ℕ) → length run ≡ 32 * 2 ^ top → 
 run-tree run top e =
     record {
       leaf = node-leaf run;
-      sized = λ n i q k h. node-at-length i q run (le-trans (within n i q h) (le-of-eq (ap (λ (m : ℕ). 32 * 2 ^ m) k ∙ sym e)));
+      sized =
+          λ n i q k h. node-at-length i q run
+          (le-trans (within n i q h) (le-of-eq (ap (λ (m : ℕ). 32 * 2 ^ m) k ∙ sym e)));
       split = λ n i m k h. node-split i m run;
     }

@@ -8,7 +8,8 @@ use lib.Dec.{eqb, eqb→eq}
 use lib.ListN.{length, getD, drop, replicate}
 use lib.Seq.{getD-drop, getD-append-add}
 use Rattle.sha256.specs.Table.{table}
-use Rattle.sha256.specs.Fips.{_⊞_, constants, σ0, σ1, scheduleWord, nextWord, schedule, rounds, pad, zeroBytes, lengthByte, blockAt, wordAt, hashValue, compress, initial, digest, sha256}
+use Rattle.sha256.specs.Fips.{_⊞_, constants, σ0, σ1, scheduleWord, nextWord, schedule, rounds, pad, zeroBytes}
+use Rattle.sha256.specs.Fips.{lengthByte, blockAt, wordAt, hashValue, compress, initial, digest, sha256}
 use Rattle.sha256.specs.TableLaws.{table-ext}
 use Rattle.sha256.specs.BlockLaws.{schedule-of, rounds-sums}
 use Rattle.sha256.specs.PaddingLaws.{pad-length, pad-block}
@@ -23,7 +24,8 @@ word-is-next : (i : ℕ) → i < 48 → getD paddingSchedule (16 + i) 0 ≡ next
 unfolding paddingSchedule is-next scheduleWord σ0 σ1
 word-is-next i h =
     sym (getD-drop 16 paddingSchedule i 0)
-    ∙ eqb→eq (getD (drop 16 paddingSchedule) i 0) (nextWord paddingSchedule (16 + i)) (at is-next (drop 16 paddingSchedule) tt i h)
+    ∙ eqb→eq (getD (drop 16 paddingSchedule) i 0) (nextWord paddingSchedule (16 + i))
+    (at is-next (drop 16 paddingSchedule) tt i h)
 
 pub padding-schedule : schedule paddingBlock ≡ paddingSchedule
 unfolding paddingSchedule
@@ -35,7 +37,8 @@ is-sum i x = eqb x (getD constants i 0 ⊞ getD paddingSchedule i 0)
 
 sum-is : (i : ℕ) → i < 64 → getD paddingSums i 0 ≡ getD constants i 0 ⊞ getD paddingSchedule i 0
 unfolding paddingSums paddingSchedule constants is-sum
-sum-is i h = eqb→eq (getD paddingSums i 0) (getD constants i 0 ⊞ getD paddingSchedule i 0) (at is-sum paddingSums tt i h)
+sum-is i h =
+    eqb→eq (getD paddingSums i 0) (getD constants i 0 ⊞ getD paddingSchedule i 0) (at is-sum paddingSums tt i h)
 
 -- the rounds of the padding block, with the sums as constants and no schedule
 pub padding-rounds : (h : List ℕ) → rounds paddingSums [] h 64 ≡ rounds constants (schedule paddingBlock) h 64
@@ -64,11 +67,13 @@ second-block m e =
     let b : 64 + 4 * i + 1 ≡ 64 + (0 + 4 * i + 1) = omega arith in
     let c : 64 + 4 * i + 2 ≡ 64 + (0 + 4 * i + 2) = omega arith in
     let d : 64 + 4 * i + 3 ≡ 64 + (0 + 4 * i + 3) = omega arith in
-    rw (d, c, b, a, padding-at m e (0 + 4 * i), padding-at m e (0 + 4 * i + 1), padding-at m e (0 + 4 * i + 2), padding-at m e (0 + 4 * i + 3)))
+    rw
+    (d, c, b, a, padding-at m e (0 + 4 * i), padding-at m e (0 + 4 * i + 1), padding-at m e (0 + 4 * i + 2), padding-at m e (0 + 4 * i + 3)))
     ∙ padding-words
 
 -- SHA-256 of 64 bytes
-pub sha256-of-64 : (m : List ℕ) → length m ≡ 64 → sha256 m ≡ digest (compress (compress initial (blockAt m 0)) paddingBlock)
+pub sha256-of-64 : (m : List ℕ) → length m ≡ 64
+    → sha256 m ≡ digest (compress (compress initial (blockAt m 0)) paddingBlock)
 unfolding sha256 hashValue
 sha256-of-64 m e =
     let f : length (pad m) ≡ 128 = omega (arith, pad-length m) in

@@ -9,7 +9,8 @@ use Rattle.octets.specs.Splice.{part, splice}
 use Rattle.octets.specs.SpliceLaws.{part-length, part-range, splice-whole}
 
 module _ (d : List ℕ) (at : ℕ) (s : List ℕ) where
-  pub paste-next : (e : List ℕ) (i : ℕ) → at + i < length d → i < length s → e ≡ paste d at s i → set e (at + i) (getD s i 0) ≡ paste d at s (i + 1)
+  pub paste-next : (e : List ℕ) (i : ℕ) → at + i < length d → i < length s → e ≡ paste d at s i
+      → set e (at + i) (getD s i 0) ≡ paste d at s (i + 1)
   paste-next e i h k q = ap (λ (l : List ℕ). set l (at + i) (getD s i 0)) q ∙ rw (add-one i) (paste-suc d at s i 0 h k)
 
   pub paste-whole : (i : ℕ) → i ≡ length s → paste d at s i ≡ splice d at s
@@ -22,7 +23,8 @@ pub filled : (d : List ℕ) (i : ℕ) → i ≡ length d → replicate i 0 ++ dr
 filled d i q = ap (λ (k : ℕ). replicate k 0 ++ drop k d) q ∙ rw (drop-length d) (append-nil (replicate (length d) 0))
 
 -- the n bytes at a place, written over a string of n bytes
-pub copied : (e d : List ℕ) (at n : ℕ) → length e ≡ n → at + n ≤ length d → splice e 0 (take (at + n - at) (drop at d)) ≡ part d at n
+pub copied : (e d : List ℕ) (at n : ℕ) → length e ≡ n → at + n ≤ length d
+    → splice e 0 (take (at + n - at) (drop at d)) ≡ part d at n
 copied e d at n h k =
     ap (λ (l : List ℕ). splice e 0 l) (part-range d at n)
     ∙ splice-whole e (part d at n) (h ∙ sym (part-length d at n k))

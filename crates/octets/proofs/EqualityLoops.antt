@@ -22,11 +22,13 @@ same-lengths (x ∷ xs) [] h = refl
 same-lengths (x ∷ xs) (y ∷ ys) h = rw (same-lengths xs ys (λ e. h (ap suc e))) (and-false (eqb x y))
 
 module _ (a b : List ℕ) (i : ℕ) where
-  same-from : i < length a → i < length b → sameBytes (drop i a) (drop i b) ≡ (eqb (getD a i 0) (getD b i 0) && sameBytes (drop (i + 1) a) (drop (i + 1) b))
+  same-from : i < length a → i < length b
+      → sameBytes (drop i a) (drop i b) ≡ (eqb (getD a i 0) (getD b i 0) && sameBytes (drop (i + 1) a) (drop (i + 1) b))
   unfolding sameBytes
   same-from h k = rw (add-one i) (ap₂ sameBytes (drop-cons a i 0 h) (drop-cons b i 0 k))
 
-  pub same-next : i < length a → i < length b → getD a i 0 ≡ getD b i 0 → sameBytes (drop i a) (drop i b) ≡ sameBytes (drop (i + 1) a) (drop (i + 1) b)
+  pub same-next : i < length a → i < length b → getD a i 0 ≡ getD b i 0
+      → sameBytes (drop i a) (drop i b) ≡ sameBytes (drop (i + 1) a) (drop (i + 1) b)
   same-next h k e = same-from h k ∙ rw (eq-eqb (getD a i 0) (getD b i 0) e)
 
   pub same-stop : i < length a → i < length b → (getD a i 0 ≡ getD b i 0 → ⊥) → sameBytes (drop i a) (drop i b) ≡ false

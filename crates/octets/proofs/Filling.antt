@@ -14,13 +14,16 @@ module _ (d : List ℕ) (at n : ℕ) (s : List ℕ) (fits : length s ≤ n) (roo
   rest : at + n - (at + length s) ≡ n - length s
   rest = omega arith
 
-  rest-length : (e : List ℕ) → e ≡ splice d at s → length (take (at + n - (at + length s)) (drop (at + length s) e)) ≡ n - length s
+  rest-length : (e : List ℕ) → e ≡ splice d at s
+      → length (take (at + n - (at + length s)) (drop (at + length s) e)) ≡ n - length s
   unfolding part
   rest-length e q =
       let l : length e ≡ length d = ap length q ∙ length-splice d at s (omega arith) in
-      ap (λ (k : ℕ). length (take k (drop (at + length s) e))) rest ∙ part-length e (at + length s) (n - length s) (omega arith)
+      ap (λ (k : ℕ). length (take k (drop (at + length s) e))) rest
+      ∙ part-length e (at + length s) (n - length s) (omega arith)
 
-  pub filled-written : (e z : List ℕ) → e ≡ splice d at s → z ≡ replicate (length (take (at + n - (at + length s)) (drop (at + length s) e))) 0
+  pub filled-written : (e z : List ℕ) → e ≡ splice d at s
+      → z ≡ replicate (length (take (at + n - (at + length s)) (drop (at + length s) e))) 0
       → putMid (at + length s) (at + n - (at + length s)) e z ≡ splice d at (zeroFilled n s)
   filled-written e z q r =
       let w : z ≡ replicate (n - length s) 0 = r ∙ ap (λ (k : ℕ). replicate k 0) (rest-length e q) in

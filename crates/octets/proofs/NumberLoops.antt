@@ -28,7 +28,8 @@ module _ (n v i rest : ℕ) (h : i < n) (e : drop i (bytesOf n v) ≡ bytesOf (n
   bytes-next = let o = opened in rw (add-one i) (cc)
 
 -- reading, from the last byte on: one byte more in front
-pub number-next : (d : List ℕ) (at n i j v : ℕ) → i ≡ suc j → i ≤ n → at + n ≤ length d → v ≡ numberOf (part d (at + i) (n - i)) → getD d (at + j) 0 + 256 * v ≡ numberOf (part d (at + j) (n - j))
+pub number-next : (d : List ℕ) (at n i j v : ℕ) → i ≡ suc j → i ≤ n → at + n ≤ length d
+    → v ≡ numberOf (part d (at + i) (n - i)) → getD d (at + j) 0 + 256 * v ≡ numberOf (part d (at + j) (n - j))
 unfolding numberOf part
 number-next d at n i j v q h k e =
     let m : n - j ≡ suc (n - i) = omega arith in

@@ -16,7 +16,8 @@ same-true [] [] e = refl
 same-true [] (y ∷ ys) e = cc
 same-true (x ∷ xs) [] e = cc
 same-true (x ∷ xs) (y ∷ ys) e =
-    ap₂ _∷_ (eqb-true x y (and-left (eqb x y) (sameBytes xs ys) e)) (same-true xs ys (and-right (eqb x y) (sameBytes xs ys) e))
+    ap₂ _∷_ (eqb-true x y (and-left (eqb x y) (sameBytes xs ys) e))
+    (same-true xs ys (and-right (eqb x y) (sameBytes xs ys) e))
 
 pub same-refl : (v : List ℕ) → sameBytes v v ≡ true
 unfolding sameBytes
@@ -32,7 +33,8 @@ same-false v w e h = true≢false (sym (same-of v w h) ∙ e)
 pub zero-true : (v : List ℕ) → allZero v ≡ true → v ≡ replicate (length v) 0
 unfolding allZero
 zero-true [] e = refl
-zero-true (x ∷ xs) e = ap₂ _∷_ (eqb-true x 0 (and-left (eqb x 0) (allZero xs) e)) (zero-true xs (and-right (eqb x 0) (allZero xs) e))
+zero-true (x ∷ xs) e =
+    ap₂ _∷_ (eqb-true x 0 (and-left (eqb x 0) (allZero xs) e)) (zero-true xs (and-right (eqb x 0) (allZero xs) e))
 
 -- zeros, as a comparison
 pub zero-same : (v : List ℕ) → allZero v ≡ sameBytes v (replicate (length v) 0)
@@ -45,10 +47,12 @@ and-assoc : (a b c : Bool) → (a && (b && c)) ≡ (a && b && c)
 and-assoc true b c = refl
 and-assoc false b c = refl
 
-pub same-append : (a b x y : List ℕ) → length a ≡ length x → sameBytes (a ++ b) (x ++ y) ≡ (sameBytes a x && sameBytes b y)
+pub same-append : (a b x y : List ℕ) → length a ≡ length x
+    → sameBytes (a ++ b) (x ++ y) ≡ (sameBytes a x && sameBytes b y)
 unfolding sameBytes
 same-append [] b [] y l = refl
 same-append [] b (z ∷ x) y l = absurd (omega arith)
 same-append (c ∷ a) b [] y l = absurd (omega arith)
 same-append (c ∷ a) b (z ∷ x) y l =
-    ap (λ (t : Bool). eqb c z && t) (same-append a b x y (omega arith)) ∙ and-assoc (eqb c z) (sameBytes a x) (sameBytes b y)
+    ap (λ (t : Bool). eqb c z && t) (same-append a b x y (omega arith))
+    ∙ and-assoc (eqb c z) (sameBytes a x) (sameBytes b y)

@@ -23,7 +23,8 @@ zeros-at (suc n) (suc i) = zeros-at n i
 zeros-drop : (n k : ℕ) → drop {A = ℕ} k (replicate n 0) ≡ replicate (n - k) 0
 zeros-drop n zero = let e : n ≡ n - 0 = omega arith in ap (λ (m : ℕ). replicate m 0) e
 zeros-drop zero (suc k) = let e : 0 ≡ 0 - suc k = omega arith in ap (λ (m : ℕ). replicate m 0) e
-zeros-drop (suc n) (suc k) = let e : n - k ≡ suc n - suc k = omega arith in zeros-drop n k ∙ ap (λ (m : ℕ). replicate m 0) e
+zeros-drop (suc n) (suc k) =
+    let e : n - k ≡ suc n - suc k = omega arith in zeros-drop n k ∙ ap (λ (m : ℕ). replicate m 0) e
 
 bytes-zeros : (n : ℕ) → Bytes (replicate n 0)
 bytes-zeros zero = tt
@@ -42,7 +43,9 @@ module _ (n : ℕ) (xs : List ℕ) where
 
   filled-sum : length (zeroFilled n xs) ≡ length xs + (n - length xs)
   unfolding zeroFilled
-  filled-sum = length-append xs (replicate (n - length xs) 0) ∙ ap (λ (k : ℕ). length xs + k) (length-replicate (n - length xs) 0)
+  filled-sum =
+      length-append xs (replicate (n - length xs) 0)
+      ∙ ap (λ (k : ℕ). length xs + k) (length-replicate (n - length xs) 0)
 
   pub filled-length : length xs ≤ n → length (zeroFilled n xs) ≡ n
   filled-length h = let e = filled-sum in omega arith
@@ -56,18 +59,21 @@ module _ (n : ℕ) (xs : List ℕ) where
 
   -- a part within the string
   pub filled-inside : (at m : ℕ) → at + m ≤ length xs → part (zeroFilled n xs) at m ≡ part xs at m
-  filled-inside at m h = let e = filled-sum in same-part (zeroFilled n xs) xs at at m (omega arith) h (λ i l. filled-at (at + i))
+  filled-inside at m h =
+      let e = filled-sum in same-part (zeroFilled n xs) xs at at m (omega arith) h (λ i l. filled-at (at + i))
 
   -- the string itself
   pub filled-head : part (zeroFilled n xs) 0 (length xs) ≡ xs
   filled-head = filled-inside 0 (length xs) (omega arith) ∙ part-whole xs
 
 -- a part does not depend on how far beyond its end the string is filled
-pub filled-same : (n k : ℕ) (xs : List ℕ) (at m : ℕ) → at + m ≤ n → at + m ≤ k → part (zeroFilled n xs) at m ≡ part (zeroFilled k xs) at m
+pub filled-same : (n k : ℕ) (xs : List ℕ) (at m : ℕ) → at + m ≤ n → at + m ≤ k
+    → part (zeroFilled n xs) at m ≡ part (zeroFilled k xs) at m
 filled-same n k xs at m h l =
     let a = filled-reaches n xs in
     let b = filled-reaches k xs in
-    same-part (zeroFilled n xs) (zeroFilled k xs) at at m (omega arith) (omega arith) (λ i j. filled-at n xs (at + i) ∙ sym (filled-at k xs (at + i)))
+    same-part (zeroFilled n xs) (zeroFilled k xs) at at m (omega arith) (omega arith)
+    (λ i j. filled-at n xs (at + i) ∙ sym (filled-at k xs (at + i)))
 
 -- two strings of one length that are the same when filled
 pub filled-only : (n k : ℕ) (xs ys : List ℕ) → length xs ≡ length ys → zeroFilled n xs ≡ zeroFilled k ys → xs ≡ ys
@@ -77,15 +83,18 @@ filled-only n k xs ys l e = sym (filled-head n xs) ∙ ap₂ (λ (s : List ℕ) 
 pub splice-zeros : (n : ℕ) (xs : List ℕ) → splice (replicate n 0) 0 xs ≡ zeroFilled n xs
 unfolding splice zeroFilled
 splice-zeros n xs =
-    ap (λ (m : ℕ). xs ++ drop {A = ℕ} m (replicate n 0)) (zero-add (length xs)) ∙ ap (λ (s : List ℕ). xs ++ s) (zeros-drop n (length xs))
+    ap (λ (m : ℕ). xs ++ drop {A = ℕ} m (replicate n 0)) (zero-add (length xs))
+    ∙ ap (λ (s : List ℕ). xs ++ s) (zeros-drop n (length xs))
 
 -- the n bytes from a place on, where the string ends among them
-pub filled-end : (d : List ℕ) (at n : ℕ) → at ≤ length d → length d ≤ at + n → part (zeroFilled (at + n) d) at n ≡ zeroFilled n (drop at d)
+pub filled-end : (d : List ℕ) (at n : ℕ) → at ≤ length d → length d ≤ at + n
+    → part (zeroFilled (at + n) d) at n ≡ zeroFilled n (drop at d)
 unfolding part zeroFilled
 filled-end d at n h k =
     ap (take n) (drop-append-le at d (replicate (at + n - length d) 0) h)
     ∙ ap (λ (m : ℕ). take n (drop at d ++ replicate m 0)) rest
-    ∙ take-all n (drop at d ++ replicate (n - length (drop at d)) 0) (omega (arith, length-drop at d, filled-sum n (drop at d)))
+    ∙ take-all n (drop at d ++ replicate (n - length (drop at d)) 0)
+    (omega (arith, length-drop at d, filled-sum n (drop at d)))
   where
     rest : at + n - length d ≡ n - length (drop at d)
     rest = omega (arith, length-drop at d)
@@ -96,18 +105,23 @@ module _ (d : List ℕ) (at n : ℕ) (s : List ℕ) (fits : length s ≤ n) (roo
   unfolding zeroFilled
   splice-filled = splice-append d at (at + length s) s (replicate (n - length s) 0) (omega arith) refl
 
-  pub same-filled : (sameBytes (part d at (length s)) s && allZero (part d (at + length s) (n - length s))) ≡ sameBytes (part d at n) (zeroFilled n s)
+  pub same-filled : (sameBytes (part d at (length s)) s && allZero (part d (at + length s) (n - length s)))
+      ≡ sameBytes (part d at n) (zeroFilled n s)
   unfolding zeroFilled
   same-filled =
       let rest : List ℕ = part d (at + length s) (n - length s) in
       let l : length rest ≡ n - length s = part-length d (at + length s) (n - length s) (omega arith) in
       let m : length s + (n - length s) ≡ n = omega arith in
-      ap (λ (b : Bool). sameBytes (part d at (length s)) s && b) (zero-same rest ∙ ap (λ (k : ℕ). sameBytes rest (replicate k 0)) l)
-      ∙ sym (same-append (part d at (length s)) rest s (replicate (n - length s) 0) (part-length d at (length s) (omega arith)))
-      ∙ ap (λ (v : List ℕ). sameBytes v (s ++ replicate (n - length s) 0)) (part-append d at (length s) (n - length s) ∙ ap (part d at) m)
+      ap (λ (b : Bool). sameBytes (part d at (length s)) s && b)
+      (zero-same rest ∙ ap (λ (k : ℕ). sameBytes rest (replicate k 0)) l)
+      ∙ sym
+      (same-append (part d at (length s)) rest s (replicate (n - length s) 0) (part-length d at (length s) (omega arith)))
+      ∙ ap (λ (v : List ℕ). sameBytes v (s ++ replicate (n - length s) 0))
+      (part-append d at (length s) (n - length s) ∙ ap (part d at) m)
 
 -- a part after the string is zeros
-pub filled-after : (n : ℕ) (xs : List ℕ) (at m : ℕ) → length xs ≤ at → at + m ≤ n → part (zeroFilled n xs) at m ≡ replicate m 0
+pub filled-after : (n : ℕ) (xs : List ℕ) (at m : ℕ) → length xs ≤ at → at + m ≤ n
+    → part (zeroFilled n xs) at m ≡ replicate m 0
 filled-after n xs at m h k =
     let r = filled-reaches n xs in
     let l : length (part (zeroFilled n xs) at m) ≡ m = part-length (zeroFilled n xs) at m (omega arith) in

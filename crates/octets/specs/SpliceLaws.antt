@@ -4,8 +4,10 @@ use mathlib.Core.List.{List, [], _++_, append-assoc, append-nil}
 use Prim.Native.Nat.{ℕ, _+_, _≤_, _<_, _-_}
 use native.Mathlib.Nat.{add-assoc, add-zero, zero-add, add-sub-cancel-left}
 use native.Mathlib.Omega.{arith}
-use lib.ListN.{length, take, drop, getD, length-append, length-drop, List·getD-append, drop-of-length-le, take-append-drop}
-use lib.Seq.{getD-take, getD-drop, getD-append-add, length-take-le, ext-getD, take-all, drop-drop, take-length, take-at, drop-at, take-add}
+use lib.ListN.{length, take, drop, getD, length-append, length-drop, List·getD-append, drop-of-length-le}
+use lib.ListN.{take-append-drop}
+use lib.Seq.{getD-take, getD-drop, getD-append-add, length-take-le, ext-getD, take-all, drop-drop, take-length, take-at}
+use lib.Seq.{drop-at, take-add}
 use borrow.Rule.Slice.PartMut.{putMid}
 use Rattle.octets.specs.Bytes.{Bytes, bytes-take, bytes-drop, bytes-append}
 use Rattle.octets.specs.Splice.{part, splice}
@@ -23,7 +25,8 @@ unfolding part
 getD-part d at n i h = getD-take n (drop at d) i 0 h ∙ getD-drop at d i 0
 
 -- two strings agree on a part where they agree at each index of it
-pub same-part : (x y : List ℕ) (b c n : ℕ) → b + n ≤ length x → c + n ≤ length y → ((i : ℕ) → i < n → getD x (b + i) 0 ≡ getD y (c + i) 0) → part x b n ≡ part y c n
+pub same-part : (x y : List ℕ) (b c n : ℕ) → b + n ≤ length x → c + n ≤ length y
+    → ((i : ℕ) → i < n → getD x (b + i) 0 ≡ getD y (c + i) 0) → part x b n ≡ part y c n
 same-part x y b c n hx hy f =
     let lx : length (part x b n) ≡ n = part-length x b n hx in
     let ly : length (part y c n) ≡ n = part-length y c n hy in
@@ -40,7 +43,8 @@ part-part d at n b m h k =
 -- two parts side by side
 pub part-append : (d : List ℕ) (at n m : ℕ) → part d at n ++ part d (at + n) m ≡ part d at (n + m)
 unfolding part
-part-append d at n m = sym (take-add n m (drop at d) ∙ ap (λ (l : List ℕ). take n (drop at d) ++ take m l) (drop-drop n at d))
+part-append d at n m =
+    sym (take-add n m (drop at d) ∙ ap (λ (l : List ℕ). take n (drop at d) ++ take m l) (drop-drop n at d))
 
 -- the whole string as a part of itself
 pub part-whole : (d : List ℕ) → part d 0 (length d) ≡ d
@@ -73,7 +77,10 @@ module _ (d : List ℕ) (at : ℕ) (s : List ℕ) (h : at + length s ≤ length 
 
   pub length-splice : length (splice d at s) ≡ length d
   unfolding splice
-  length-splice = let e = head-length in length-append (take at d ++ s) (drop (at + length s) d) ∙ omega (arith, length-drop (at + length s) d)
+  length-splice =
+      let e =
+      head-length in length-append (take at d ++ s) (drop (at + length s) d)
+      ∙ omega (arith, length-drop (at + length s) d)
 
   pub splice-before : (j : ℕ) → j < at → getD (splice d at s) j 0 ≡ getD d j 0
   unfolding splice
@@ -125,10 +132,13 @@ module _ (d : List ℕ) (at : ℕ) (s : List ℕ) (h : at + length s ≤ length 
   pub part-written : part (splice d at s) at (length s) ≡ s
   part-written =
       let e = length-splice in
-      same-part (splice d at s) s at 0 (length s) (omega arith) (omega arith) (λ i k. splice-inside i k ∙ ap (λ (j : ℕ). getD s j 0) (sym (zero-add i))) ∙ part-whole s
+      same-part (splice d at s) s at 0 (length s) (omega arith) (omega arith)
+      (λ i k. splice-inside i k ∙ ap (λ (j : ℕ). getD s j 0) (sym (zero-add i)))
+      ∙ part-whole s
 
 -- two splices, the second where the first ends, are one
-pub splice-append : (d : List ℕ) (at next : ℕ) (s t : List ℕ) → at + length s ≤ length d → next ≡ at + length s → splice (splice d at s) next t ≡ splice d at (s ++ t)
+pub splice-append : (d : List ℕ) (at next : ℕ) (s t : List ℕ) → at + length s ≤ length d → next ≡ at + length s
+    → splice (splice d at s) next t ≡ splice d at (s ++ t)
 unfolding splice
 splice-append d at next s t h e =
     let l : length (take at d ++ s) ≡ next = head-length d at s h ∙ sym e in
@@ -140,12 +150,15 @@ splice-append d at next s t h e =
 
 -- the same, where together they replace the whole string
 pub splice-both : (d s t : List ℕ) → length d ≡ length s + length t → splice (splice d 0 s) (length s) t ≡ s ++ t
-splice-both d s t h = splice-append d 0 (length s) s t (omega arith) (omega arith) ∙ splice-whole d (s ++ t) (omega (arith, length-append s t))
+splice-both d s t h =
+    splice-append d 0 (length s) s t (omega arith) (omega arith)
+    ∙ splice-whole d (s ++ t) (omega (arith, length-append s t))
 
 pub bytes-splice : (d : List ℕ) (at : ℕ) (s : List ℕ) → Bytes d → Bytes s → Bytes (splice d at s)
 unfolding splice
 bytes-splice d at s h k =
-    bytes-append (take at d ++ s) (drop (at + length s) d) (bytes-append (take at d) s (bytes-take at d h) k) (bytes-drop (at + length s) d h)
+    bytes-append (take at d ++ s) (drop (at + length s) d) (bytes-append (take at d) s (bytes-take at d h) k)
+    (bytes-drop (at + length s) d h)
 
 -- what a call on `&mut d[a..a + k]` leaves is a splice of what it left of the part
 pub put-splice : (d : List ℕ) (at k : ℕ) (s : List ℕ) → length s ≡ k → putMid at k d s ≡ splice d at s

@@ -37,7 +37,8 @@ one zero n h e =
     omega arith
 one (suc w) n h e = go (λ lt eq. one w (n / 2) lt eq) (n % 2) refl
   where
-    go : (n / 2 < 2 ^ w → ones (n / 2) ≡ 1 → (n / 2 ≡ 2 ^ trailingZeros w (n / 2)) × (trailingZeros w (n / 2) < w)) → (d : ℕ)
+    go : (n / 2 < 2 ^ w → ones (n / 2) ≡ 1 → (n / 2 ≡ 2 ^ trailingZeros w (n / 2)) × (trailingZeros w (n / 2) < w))
+        → (d : ℕ)
         → n % 2 ≡ d → (n ≡ 2 ^ under d (trailingZeros w (n / 2))) × (under d (trailingZeros w (n / 2)) < suc w)
     go rest zero z =
         let p : 2 ^ suc w ≡ 2 ^ w * 2 = pow-suc 2 w in
@@ -60,7 +61,9 @@ trailing-pow (suc w) (suc k) h =
     let p : 2 ^ suc k ≡ 2 ^ k * 2 = pow-suc 2 k in
     let even : 2 ^ suc k % 2 ≡ 0 = omega arith in
     let half : 2 ^ suc k / 2 ≡ 2 ^ k = omega arith in
-    ap (λ (d : ℕ). under d (trailingZeros w (2 ^ suc k / 2))) even ∙ ap (λ (n : ℕ). suc (trailingZeros w n)) half ∙ ap suc (trailing-pow w k (omega arith))
+    ap (λ (d : ℕ). under d (trailingZeros w (2 ^ suc k / 2))) even
+    ∙ ap (λ (n : ℕ). suc (trailingZeros w n)) half
+    ∙ ap suc (trailing-pow w k (omega arith))
 
 -- at 64 bits: what the test says where it is passed, that each power of two passes it, and its height
 pub power-is : (n : ℕ) → n < 2 ^ 64 → isPower n ≡ true → (n ≡ 2 ^ height n) × (height n < 64)
@@ -88,8 +91,10 @@ module _ (low high n : ℕ) where
     where
       by-high : (b : Bool) → leb n high ≡ b → leb low n ≡ true → (low ≤ n) × (n ≤ high) × (isPower n ≡ true)
       by-high true k h = (leb-true low n h, leb-true n high k, sym (rw (h, k)) ∙ e)
-      by-high false k h = let z : _≡_ {A = Bool} true false = sym e ∙ rw (h, k) in let y : _≡_ {A = ℕ} 0 1 = cc in absurd (omega arith)
+      by-high false k h =
+          let z : _≡_ {A = Bool} true false = sym e ∙ rw (h, k) in let y : _≡_ {A = ℕ} 0 1 = cc in absurd (omega arith)
 
       by-low : (b : Bool) → leb low n ≡ b → (low ≤ n) × (n ≤ high) × (isPower n ≡ true)
       by-low true h = by-high (leb n high) refl h
-      by-low false h = let z : _≡_ {A = Bool} true false = sym e ∙ rw h in let y : _≡_ {A = ℕ} 0 1 = cc in absurd (omega arith)
+      by-low false h =
+          let z : _≡_ {A = Bool} true false = sym e ∙ rw h in let y : _≡_ {A = ℕ} 0 1 = cc in absurd (omega arith)

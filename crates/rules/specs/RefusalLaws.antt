@@ -4,7 +4,7 @@ use mathlib.Core.Bool.{Bool, true, false, _&&_}
 use Prim.Native.Nat.{ℕ, _<_}
 use native.Mathlib.Omega.{arith}
 use mathlib.Core.List.{List, [], _∷_, _++_}
-use Rattle.rules.specs.Refusals.{Rule, rule, firstOf, firstRefusal}
+use Rattle.rules.specs.Refusals.{Rule, firstOf, firstRefusal}
 
 -- every rule of a list is passed
 abbrev pub AllPassed : List Rule → Type 0

@@ -40,7 +40,8 @@ pub nodes-clear : (n : ℕ) (run : List ℕ) → clearNodes n run ≡ true → (
 unfolding clearNodes
 nodes-clear zero run e i h = absurd (omega arith)
 nodes-clear (suc n) run e zero h =
-    rw (← getD-take 32 run 31 0 (omega arith)) (node-clear (take 32 run) (and-left (clearNode (take 32 run)) (clearNodes n (drop 32 run)) e))
+    rw (← getD-take 32 run 31 0 (omega arith))
+    (node-clear (take 32 run) (and-left (clearNode (take 32 run)) (clearNodes n (drop 32 run)) e))
 nodes-clear (suc n) run e (suc i) h =
     let k : 32 + (i * 32 + 31) ≡ suc i * 32 + 31 = omega arith in
     rw (← k, ← getD-drop 32 run (i * 32 + 31) 0)
@@ -48,13 +49,15 @@ nodes-clear (suc n) run e (suc i) h =
 
 -- turns of a walk over n nodes, with i of them passed
 open-node : (run : List ℕ) (n i : ℕ) → i < n
-    → clearNodes (n - i) (drop (i * 32) run) ≡ (clearNode (take 32 (drop (i * 32) run)) && clearNodes (n - (i + 1)) (drop ((i + 1) * 32) run))
+    → clearNodes (n - i) (drop (i * 32) run)
+    ≡ (clearNode (take 32 (drop (i * 32) run)) && clearNodes (n - (i + 1)) (drop ((i + 1) * 32) run))
 unfolding clearNodes
 open-node run n i h =
     let e : n - i ≡ suc (n - (i + 1)) = omega arith in
     let d : i * 32 + 32 ≡ (i + 1) * 32 = omega arith in
     ap (λ (m : ℕ). clearNodes m (drop (i * 32) run)) e
-    ∙ ap (λ (l : List ℕ). clearNode (take 32 (drop (i * 32) run)) && clearNodes (n - (i + 1)) l) (drop-drop 32 (i * 32) run ∙ ap (λ (k : ℕ). drop k run) d)
+    ∙ ap (λ (l : List ℕ). clearNode (take 32 (drop (i * 32) run)) && clearNodes (n - (i + 1)) l)
+    (drop-drop 32 (i * 32) run ∙ ap (λ (k : ℕ). drop k run) d)
 
 byte-31 : (run : List ℕ) (i : ℕ) → getD (take 32 (drop (i * 32) run)) 31 0 ≡ getD run (i * 32 + 31) 0
 byte-31 run i = getD-take 32 (drop (i * 32) run) 31 0 (omega arith) ∙ getD-drop (i * 32) run 31 0
@@ -64,7 +67,8 @@ pub walk-more : (run : List ℕ) (n i : ℕ) → i < n → getD run (i * 32 + 31
 unfolding clearNode
 walk-more run n i h k = open-node run n i h ∙ simp (byte-31 run i, lt-ltb (getD run (i * 32 + 31) 0) 64 k)
 
-pub walk-stop : (run : List ℕ) (n i : ℕ) → i < n → 64 ≤ getD run (i * 32 + 31) 0 → clearNodes (n - i) (drop (i * 32) run) ≡ false
+pub walk-stop : (run : List ℕ) (n i : ℕ) → i < n → 64 ≤ getD run (i * 32 + 31) 0
+    → clearNodes (n - i) (drop (i * 32) run) ≡ false
 unfolding clearNode
 walk-stop run n i h k = open-node run n i h ∙ simp (byte-31 run i, le-ltb (getD run (i * 32 + 31) 0) 64 k)
 
@@ -75,18 +79,21 @@ walk-end run n i h =
     ap (λ (m : ℕ). clearNodes m (drop (i * 32) run)) e
 
 -- a part of whole nodes of a run without stray bits has none
-pub part-clear : (d : List ℕ) (b m : ℕ) → b * 32 + m * 32 ≤ length d → noStrayBits d ≡ true → noStrayBits (part d (b * 32) (m * 32)) ≡ true
+pub part-clear : (d : List ℕ) (b m : ℕ) → b * 32 + m * 32 ≤ length d → noStrayBits d ≡ true
+    → noStrayBits (part d (b * 32) (m * 32)) ≡ true
 part-clear d b m h e =
     let l : length (part d (b * 32) (m * 32)) ≡ m * 32 = part-length d (b * 32) (m * 32) h in
     clear-nodes (length (part d (b * 32) (m * 32)) / 32) (part d (b * 32) (m * 32))
     (λ i k.
     let g : b * 32 + (i * 32 + 31) ≡ (b + i) * 32 + 31 = omega arith in
-    rw (getD-part d (b * 32) (m * 32) (i * 32 + 31) (omega arith), g) (nodes-clear (length d / 32) d e (b + i) (omega arith)))
+    rw (getD-part d (b * 32) (m * 32) (i * 32 + 31) (omega arith), g)
+    (nodes-clear (length d / 32) d e (b + i) (omega arith)))
 
 -- nor has the run after whole nodes without stray bits are written to it
 module _ (d s : List ℕ) (b m : ℕ) (sized : length s ≡ m * 32) (fits : b * 32 + length s ≤ length d) where
   pub splice-clear : noStrayBits d ≡ true → noStrayBits s ≡ true → noStrayBits (splice d (b * 32) s) ≡ true
-  splice-clear e f = clear-nodes (length (splice d (b * 32) s) / 32) (splice d (b * 32) s) (λ i k. by-start (ltb i b) i k refl)
+  splice-clear e f =
+      clear-nodes (length (splice d (b * 32) s) / 32) (splice d (b * 32) s) (λ i k. by-start (ltb i b) i k refl)
     where
       old : (i : ℕ) → i < length (splice d (b * 32) s) / 32 → getD d (i * 32 + 31) 0 < 64
       old i k = nodes-clear (length d / 32) d e i (omega (arith, length-splice d (b * 32) s fits))
@@ -96,19 +103,22 @@ module _ (d s : List ℕ) (b m : ℕ) (sized : length s ≡ m * 32) (fits : b * 
       by-end true i k g q =
           let lt : i < b + m = ltb-true i (b + m) q in
           let j : b * 32 + ((i - b) * 32 + 31) ≡ i * 32 + 31 = omega arith in
-          rw (← j, splice-inside d (b * 32) s fits ((i - b) * 32 + 31) (omega arith)) (nodes-clear (length s / 32) s f (i - b) (omega arith))
+          rw (← j, splice-inside d (b * 32) s fits ((i - b) * 32 + 31) (omega arith))
+          (nodes-clear (length s / 32) s f (i - b) (omega arith))
       by-end false i k g q =
           let ge : b + m ≤ i = ltb-false i (b + m) q in
           rw (splice-after d (b * 32) s fits (i * 32 + 31) (omega arith)) (old i k)
 
-      by-start : (t : Bool) (i : ℕ) → i < length (splice d (b * 32) s) / 32 → ltb i b ≡ t → getD (splice d (b * 32) s) (i * 32 + 31) 0 < 64
+      by-start : (t : Bool) (i : ℕ) → i < length (splice d (b * 32) s) / 32 → ltb i b ≡ t
+          → getD (splice d (b * 32) s) (i * 32 + 31) 0 < 64
       by-start true i k q =
           let lt : i < b = ltb-true i b q in
           rw (splice-before d (b * 32) s fits (i * 32 + 31) (omega arith)) (old i k)
       by-start false i k q = by-end (ltb i (b + m)) i k (ltb-false i b q) refl
 
 -- every node of a run without stray bits is clear
-pub clear-at : (n q : ℕ) (run : List ℕ) → clearNodes n run ≡ true → q < n → clearNode (take 32 (drop (q * 32) run)) ≡ true
+pub clear-at : (n q : ℕ) (run : List ℕ) → clearNodes n run ≡ true → q < n
+    → clearNode (take 32 (drop (q * 32) run)) ≡ true
 clear-at n q run e h =
     clear-node (take 32 (drop (q * 32) run))
     (rw (getD-take 32 (drop (q * 32) run) 31 0 (omega arith), getD-drop (q * 32) run 31 0) (nodes-clear n run e q h))

@@ -34,14 +34,16 @@ pub extern "C" fn vz_inspect(
     offset: &mut u64,
     size: &mut u64,
 ) -> u32
-    ensures { λ r. ⌜ r ≡ lentCode 32 (now (commitment .entry)) (inspectAnswer (lentDeal (now (deal .entry))) place .code) ⌝ }
+    ensures { λ r. ⌜ r
+        ≡ lentCode 32 (now (commitment .entry)) (inspectAnswer (lentDeal (now (deal .entry))) place .code) ⌝ }
     ensures { λ r. ⌜ now (state .exit)
         ≡ lentOutput r (stateNumber (inspectAnswer (lentDeal (now (deal .entry))) place .state)) (now (state .entry)) ⌝ }
     ensures { λ r. ⌜ now (commitment .exit)
         ≡ lentOutput r (inspectAnswer (lentDeal (now (deal .entry))) place .commitment) (now (commitment .entry)) ⌝ }
     ensures { λ r. ⌜ now (offset .exit)
         ≡ lentOutput r (inspectAnswer (lentDeal (now (deal .entry))) place .offset) (now (offset .entry)) ⌝ }
-    ensures { λ r. ⌜ now (size .exit) ≡ lentOutput r (inspectAnswer (lentDeal (now (deal .entry))) place .size) (now (size .entry)) ⌝ }
+    ensures { λ r. ⌜ now (size .exit)
+        ≡ lentOutput r (inspectAnswer (lentDeal (now (deal .entry))) place .size) (now (size .entry)) ⌝ }
 {
     if commitment.len() != 32 {
         return WRONG_LENGTH;

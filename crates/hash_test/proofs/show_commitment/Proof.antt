@@ -6,7 +6,8 @@ use Rattle.hash_test.proofs.show_commitment.Statement.{statement}
 use Rattle.hash_test.proofs.show_commitment.Tie as tie
 
 slice-aggregate-commitment : tie.Need-slice-aggregate-commitment
-slice-aggregate-commitment c = let s = c .before .before in sym (length-take-le (s .args .size) (s .args .run .now) (s .pre))
+slice-aggregate-commitment c =
+    let s = c .before .before in sym (length-take-le (s .args .size) (s .args .run .now) (s .pre))
 
 pub show-commitment-spec : {M : Type 1} → statement M
 show-commitment-spec =

@@ -27,7 +27,8 @@ put-requires c κs = search needs
 returns : tie.Need-returns
 returns c =
     let a = c .before .before .before .before .before .args in
-    c .before .put .ensures ∙ copied (replicate 32 0) (now (a .d)) (a .at) 32 refl (c .before .before .before .before .before .pre)
+    c .before .put .ensures
+    ∙ copied (replicate 32 0) (now (a .d)) (a .at) 32 refl (c .before .before .before .before .before .pre)
 
 pub node-at-spec : {M : Type 1} → statement M
 node-at-spec =

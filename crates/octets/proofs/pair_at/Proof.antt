@@ -27,7 +27,8 @@ put-requires c κs = search needs
 returns : tie.Need-returns
 returns c =
     let a = c .before .before .before .before .before .args in
-    c .before .put .ensures ∙ copied (replicate 64 0) (now (a .d)) (a .at) 64 refl (c .before .before .before .before .before .pre)
+    c .before .put .ensures
+    ∙ copied (replicate 64 0) (now (a .d)) (a .at) 64 refl (c .before .before .before .before .before .pre)
 
 pub pair-at-spec : {M : Type 1} → statement M
 pair-at-spec =

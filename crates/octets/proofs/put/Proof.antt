@@ -37,8 +37,12 @@ loop-less c = search needs
 loop-again : tie.Need-loop-again Inv-loop μ-loop
 loop-again c =
     let l = c .before .before in
-    let a = l .before .args in
-    (search needs, paste-next (now (a .d)) (a .at) (now (a .s)) (l .loop .d) (l .loop .i) (omega arith) (omega arith) (l .loop .inv .1), simp length-set (omega arith))
+    let a = l .before .args in (
+      search needs,
+      paste-next (now (a .d)) (a .at) (now (a .s)) (l .loop .d) (l .loop .i) (omega arith) (omega arith)
+          (l .loop .inv .1),
+      simp length-set (omega arith),
+    )
 
 same-length : tie.Need-same-length Inv-loop μ-loop
 same-length c = search needs

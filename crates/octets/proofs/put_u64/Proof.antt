@@ -48,7 +48,8 @@ loop-again c =
     let known = length-bytesOf 8 v in
     let byte = byte-here 8 v i rest (c .loop-test .taken) (l .loop .inv .2) in (
       omega arith,
-      ap (set (l .loop .d) (a .at + i)) byte ∙ paste-next (now (a .d)) (a .at) (bytesOf 8 v) (l .loop .d) i (omega arith) (omega arith) (l .loop .inv .1),
+      ap (set (l .loop .d) (a .at + i)) byte
+          ∙ paste-next (now (a .d)) (a .at) (bytesOf 8 v) (l .loop .d) i (omega arith) (omega arith) (l .loop .inv .1),
       bytes-next 8 v i rest (c .loop-test .taken) (l .loop .inv .2),
       simp length-set (omega arith),
     )

@@ -34,7 +34,8 @@ wide-requires : tie.Need-wide-requires Inv-loop μ-loop
 wide-requires c κs = search needs
 
 -- the number with one byte more, in its bounds
-value-below : (c : tie.After-wide Inv-loop μ-loop) → c .wide .result + 256 * c .before .before .before .loop .value < 256 ^ (8 - (c .before .before .before .loop .i - 1))
+value-below : (c : tie.After-wide Inv-loop μ-loop)
+    → c .wide .result + 256 * c .before .before .before .loop .value < 256 ^ (8 - (c .before .before .before .loop .i - 1))
 value-below c =
     let l = c .before .before .before in
     let a = l .before .before .args in
@@ -43,7 +44,8 @@ value-below c =
     (omega (arith, c .wide .ensures, c .before .shared-slice-known2 .given (a .at + (i - 1))))
     (l .loop .inv .2)
 
-value-fits : (c : tie.After-wide Inv-loop μ-loop) → c .wide .result + 256 * c .before .before .before .loop .value < 2 ^ 64
+value-fits : (c : tie.After-wide Inv-loop μ-loop)
+    → c .wide .result + 256 * c .before .before .before .loop .value < 2 ^ 64
 value-fits c = omega (arith, value-below c, eight (c .before .before .before .loop .i - 1))
 
 mul-value : tie.Need-mul-value Inv-loop μ-loop
@@ -61,7 +63,9 @@ loop-again c =
     let a = l .before .before .args in
     let i = l .loop .i in (
       omega arith,
-      ap (λ (x : ℕ). x + 256 * l .loop .value) (c .wide .ensures) ∙ number-next (now (a .d)) (a .at) 8 i (i - 1) (l .loop .value) (omega arith) (l .loop .inv .0) (omega arith) (l .loop .inv .1),
+      ap (λ (x : ℕ). x + 256 * l .loop .value) (c .wide .ensures)
+          ∙ number-next (now (a .d)) (a .at) 8 i (i - 1) (l .loop .value) (omega arith) (l .loop .inv .0) (omega arith)
+          (l .loop .inv .1),
       value-below c,
     )
 
@@ -70,7 +74,9 @@ returns c =
     let l = c .before in
     let a = l .before .before .args in
     let e : l .loop .i ≡ 0 = omega arith in
-    l .loop .inv .1 ∙ ap (λ (i : ℕ). numberOf (part (now (a .d)) (a .at + i) (8 - i))) e ∙ ap (λ (k : ℕ). numberOf (part (now (a .d)) k 8)) (add-zero (a .at))
+    l .loop .inv .1
+    ∙ ap (λ (i : ℕ). numberOf (part (now (a .d)) (a .at + i) (8 - i))) e
+    ∙ ap (λ (k : ℕ). numberOf (part (now (a .d)) k 8)) (add-zero (a .at))
 
 pub read-u64-spec : {M : Type 1} → statement M
 read-u64-spec =

@@ -32,7 +32,8 @@ returns-2 : tie.Need-returns-2 Inv-loop μ-loop
 returns-2 c =
     let l = c .before .before .before .before in
     let s = l .before .before in
-    sym (l .loop .inv .1 ∙ same-stop (now (s .args .a)) (now (s .args .b)) (l .loop .i) (omega arith) (omega arith) (c .if2 .taken))
+    sym
+    (l .loop .inv .1 ∙ same-stop (now (s .args .a)) (now (s .args .b)) (l .loop .i) (omega arith) (omega arith) (c .if2 .taken))
 
 add-i : tie.Need-add-i Inv-loop μ-loop
 add-i c = search needs
@@ -43,8 +44,11 @@ loop-less c = search needs
 loop-again : tie.Need-loop-again Inv-loop μ-loop
 loop-again c =
     let l = c .before .before .before .before in
-    let s = l .before .before in
-    (search needs, l .loop .inv .1 ∙ same-next (now (s .args .a)) (now (s .args .b)) (l .loop .i) (omega arith) (omega arith) (c .if2 .left))
+    let s = l .before .before in (
+      search needs,
+      l .loop .inv .1
+          ∙ same-next (now (s .args .a)) (now (s .args .b)) (l .loop .i) (omega arith) (omega arith) (c .if2 .left),
+    )
 
 returns-3 : tie.Need-returns-3 Inv-loop μ-loop
 returns-3 c =

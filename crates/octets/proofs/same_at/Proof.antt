@@ -27,7 +27,8 @@ same-requires c κs = search needs
 returns : tie.Need-returns
 returns c =
     let a = c .before .before .before .before .args in
-    c .same .ensures ∙ ap (λ (l : List ℕ). sameBytes l (now (a .s))) (part-range (now (a .d)) (a .at) (length (now (a .s))))
+    c .same .ensures
+    ∙ ap (λ (l : List ℕ). sameBytes l (now (a .s))) (part-range (now (a .d)) (a .at) (length (now (a .s))))
 
 pub same-at-spec : {M : Type 1} → statement M
 same-at-spec =

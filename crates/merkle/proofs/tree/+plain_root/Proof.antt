@@ -41,7 +41,9 @@ pub +plain-root-spec : {M : Type 1} → statement M
     (λ c κs. let s = c .before .before in omega (arith, one-size (s .args .height) (s .args .size) (s .pre .1 .0) (c .if1 .taken)))
     (λ c.
     let s = c .before .before .before in
-    c .node-at .ensures ∙ one-node (s .args .height) (s .args .size) (s .pre .1 .0) (c .before .if1 .taken) (now (s .args .run)) (s .args .at))
+    c .node-at .ensures
+    ∙ one-node (s .args .height) (s .args .size) (s .pre .1 .0) (c .before .if1 .taken) (now (s .args .run))
+    (s .args .at))
     (λ c. search needs)
     (λ c κs.
     let s = c .before .before in
@@ -55,5 +57,10 @@ pub +plain-root-spec : {M : Type 1} → statement M
     (λ c κs. search needs) (λ c κs. search needs)
     (λ c.
     let s = c .before .before .before .before .before .before in
-    simp (c .node-hash .ensures, c .before .join .ensures, c .before .before .plain-root2 .ensures, c .before .before .before .plain-root .ensures)
+    simp (
+      c .node-hash .ensures,
+      c .before .join .ensures,
+      c .before .before .plain-root2 .ensures,
+      c .before .before .before .plain-root .ensures,
+    )
     (over-halves (s .args .height) (s .args .size) (s .pre .1 .0) (c .before .before .before .before .if1 .left) (now (s .args .run)) (s .args .at)))

@@ -1,7 +1,7 @@
 -- `over_eight`: the four nodes above, as bytes, and three nodes over them.
+use mathlib.Core.List.{_++_}
 use Prim.Native.Nat.{ℕ, _+_, _*_, _<_}
 use mathlib.Core.Path.{_≡_, ap, ap₂, _∙_}
-use mathlib.Core.List.{_++_}
 use native.Mathlib.Omega.{arith}
 use Rattle.sha256.specs.Fips.{digest}
 use Rattle.node.specs.Node.{nodeHash}

@@ -33,7 +33,8 @@ returns c =
     let z = c .before .before in
     let p = z .before .before .before .before in
     let s = p .before .before .before .before in
-    filled-written (now (s .args .d)) (s .args .at) (s .args .n) (now (s .args .s)) (s .pre .0) (s .pre .1) (p .put .last .0) (z .fill-zero .last .0) (p .put .ensures) (z .fill-zero .ensures)
+    filled-written (now (s .args .d)) (s .args .at) (s .args .n) (now (s .args .s)) (s .pre .0) (s .pre .1)
+    (p .put .last .0) (z .fill-zero .last .0) (p .put .ensures) (z .fill-zero .ensures)
 
 pub put-filled-spec : {M : Type 1} → statement M
 put-filled-spec =

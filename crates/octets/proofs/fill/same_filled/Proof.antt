@@ -20,7 +20,9 @@ returns c =
     let m = c .before in
     let s = m .before .before .before in
     let a = s .args in
-    sym (ap (λ (b : Bool). b && allZero (part (now (a .d)) (a .at + length (now (a .s))) (a .n - length (now (a .s))))) (sym (m .same-at .ensures) ∙ not-true _ (c .if1 .taken))) ∙ same-filled (now (a .d)) (a .at) (a .n) (now (a .s)) (s .pre .0) (s .pre .1)
+    sym
+    (ap (λ (b : Bool). b && allZero (part (now (a .d)) (a .at + length (now (a .s))) (a .n - length (now (a .s))))) (sym (m .same-at .ensures) ∙ not-true _ (c .if1 .taken)))
+    ∙ same-filled (now (a .d)) (a .at) (a .n) (now (a .s)) (s .pre .0) (s .pre .1)
 
 add-start : tie.Need-add-start
 add-start c = search needs
@@ -49,7 +51,8 @@ returns-2 c =
     let e : a .at + a .n - (a .at + length (now (a .s))) ≡ a .n - length (now (a .s)) = omega arith in
     c .all-zero .ensures
     ∙ ap (λ (k : ℕ). allZero (take k (drop (a .at + length (now (a .s))) (now (a .d))))) e
-    ∙ ap (λ (b : Bool). b && allZero (part (now (a .d)) (a .at + length (now (a .s))) (a .n - length (now (a .s))))) (sym (sym (m .same-at .ensures) ∙ not-false _ (c .before .before .if1 .left)))
+    ∙ ap (λ (b : Bool). b && allZero (part (now (a .d)) (a .at + length (now (a .s))) (a .n - length (now (a .s)))))
+    (sym (sym (m .same-at .ensures) ∙ not-false _ (c .before .before .if1 .left)))
     ∙ same-filled (now (a .d)) (a .at) (a .n) (now (a .s)) (s .pre .0) (s .pre .1)
 
 pub same-filled-spec : {M : Type 1} → statement M
