@@ -58,9 +58,8 @@ def smoke(name):
 
 def build_replay(name):
     """The replay program at a level; Cargo says where it puts it."""
-    kind = "--example" if (ROOT / "rust" / "examples" / "replay").is_dir() else "--bin"
     built = subprocess.run(["cargo", "build", "--release", "--offline", "--quiet", "--manifest-path", ROOT / "rust" / "Cargo.toml",
-                            kind, "replay", "--target-dir", ROOT / "rust" / "target" / "levels" / name,
+                            "--example", "replay", "--target-dir", ROOT / "rust" / "target" / "levels" / name,
                             "--message-format", "json-render-diagnostics"],
                            env=os.environ | {"VIZHUTHAMEN_LIB": str(ARCHIVES[name])}, check=True, stdout=subprocess.PIPE)
     said = map(json.loads, built.stdout.splitlines())

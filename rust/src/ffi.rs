@@ -156,6 +156,7 @@ extern "C" {
 mod tests {
     use super::*;
     use crate::testing::segment;
+    use crate::STREAM_STATE;
 
     const LENGTHS: [usize; 8] = [0, 31, 32, 33, 63, 65, 1071, 1073];
     const PATTERN: u8 = 0xa5;
@@ -230,11 +231,11 @@ mod tests {
     fn the_state_of_a_stream() {
         // A state of another length is neither read nor written, whatever the piece.
         for piece in [&[][..], &[0xff; 32]] {
-            refuses_lengths(1072, |state| unsafe {
+            refuses_lengths(STREAM_STATE, |state| unsafe {
                 vz_stream_take(state.as_mut_ptr(), state.len(), piece.as_ptr(), piece.len())
             });
         }
-        refuses_lengths(1072, |state| unsafe { vz_stream_new(state.as_mut_ptr(), state.len()) });
+        refuses_lengths(STREAM_STATE, |state| unsafe { vz_stream_new(state.as_mut_ptr(), state.len()) });
         let end = |state: &[u8], node: &mut [u8]| {
             let mut count = NUMBER;
             let code = unsafe {
@@ -244,11 +245,11 @@ mod tests {
             assert!(code == 0 || count == NUMBER);
             code
         };
-        refuses_lengths(1072, |state| end(state, &mut [0; 32]));
-        refuses_lengths(32, |node| end(&[0; 1072], node));
+        refuses_lengths(STREAM_STATE, |state| end(state, &mut [0; 32]));
+        refuses_lengths(32, |node| end(&[0; STREAM_STATE], node));
         let mut node = [PATTERN; 32];
-        assert_eq!(end(&[0; 1071], &mut node), 12);
-        assert_eq!(end(&[0; 1072], &mut node), 2);
+        assert_eq!(end(&[0; STREAM_STATE - 1], &mut node), 12);
+        assert_eq!(end(&[0; STREAM_STATE], &mut node), 2);
         assert_eq!(node, [PATTERN; 32]);
     }
 
