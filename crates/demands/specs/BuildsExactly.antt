@@ -5,7 +5,7 @@ use mathlib.Core.List.{List}
 use lib.ListN.{length}
 use Rattle.octets.specs.Splice.{splice}
 use Rattle.lent.specs.LentDeal.{LentDeal}
-use Rattle.build.specs.Build.{buildAnswer, buildOutput}
+use Rattle.builder.specs.Build.{buildAnswer, buildOutput}
 
 -- given enough output, building at an entry place answers 0 and writes exactly the record r; the rest of the output
 -- stays

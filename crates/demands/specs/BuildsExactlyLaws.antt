@@ -14,9 +14,9 @@ use Rattle.octets.specs.SpliceLaws.{splice-whole}
 use Rattle.index.specs.Slots.{entryAt}
 use Rattle.record.specs.Form.{encode}
 use Rattle.lent.specs.LentDeal.{LentDeal}
-use Rattle.build.specs.Build.{fieldsFor, built, notBuilt, buildRules, recordAt}
-use Rattle.build.specs.Build.{answerFor, outputFor, buildAnswer, buildOutput}
-use Rattle.build.specs.declared.BuildAnswer.{BuildAnswer}
+use Rattle.builder.specs.Build.{fieldsFor, built, notBuilt, buildRules, recordAt}
+use Rattle.builder.specs.Build.{answerFor, outputFor, buildAnswer, buildOutput}
+use Rattle.builder.specs.declared.BuildAnswer.{BuildAnswer}
 use Rattle.demands.specs.BuildsExactly.{BuildsExactly}
 
 pub builds-exactly : (deal : LentDeal) (place : ℕ) (r : List ℕ) → recordAt deal place ≡ built r

@@ -24,16 +24,16 @@ use Rattle.record.specs.Check.{dealTerms, checkOf}
 use Rattle.record.specs.CheckLaws.{means-check}
 use Rattle.rules.specs.Refusals.{firstRefusal, unlessRefused}
 use Rattle.record.specs.Form.{encode}
-use Rattle.build.specs.declared.BuildAnswer.{BuildAnswer}
+use Rattle.builder.specs.declared.BuildAnswer.{BuildAnswer}
 use Rattle.lent.specs.LentDeal.{LentDeal, lentDeal, dealSize}
-use Rattle.build.specs.Build.{buildRules, termsOf, fieldsFor, Building, built, notBuilt, recordAt}
-use Rattle.build.specs.Build.{answerFor, outputFor, buildAnswer, buildOutput}
+use Rattle.builder.specs.Build.{buildRules, termsOf, fieldsFor, Building, built, notBuilt, recordAt}
+use Rattle.builder.specs.Build.{answerFor, outputFor, buildAnswer, buildOutput}
 use Rattle.booking.specs.Booking.{keepsSegment, bookAnswer, bookedDeal}
 use Rattle.booking.specs.BookableLaws.{Bookable}
 use Rattle.booking.specs.AlreadyLaws.{answer15}
 use Rattle.booking.specs.Run.{runBookings}
 use Rattle.booking.specs.NeverAgain.{never-again, kept-for-good, kept-is-15}
-use Rattle.build.specs.BuildLaws.{build-means, commitment-length, built-parses, built-accepted}
+use Rattle.builder.specs.BuildLaws.{build-means, commitment-length, built-parses, built-accepted}
 
 -- for any source of nodes that is a tree over the deal
 pub built-checks : (deal : LentDeal) → IsTree (deal .nodes) (deal .bytes) (dealLevel (dealSize deal))

@@ -13,7 +13,7 @@ use Rattle.sizes.specs.SizesLaws.{lent-size}
 use Rattle.record.specs.Form.{parse}
 use Rattle.record.specs.Check.{dealTerms, checkOf}
 use Rattle.lent.specs.LentDeal.{lentDeal}
-use Rattle.build.specs.Build.{recordAt, built}
+use Rattle.builder.specs.Build.{recordAt, built}
 use Rattle.settle.specs.Settle.{placeIn, settleRecords, settleWithDeal}
 use Rattle.settle.specs.declared.Settled.{Settled}
 use Rattle.demands.specs.Settles.{Settles}

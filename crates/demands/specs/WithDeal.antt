@@ -26,9 +26,9 @@ use Rattle.record.specs.Check.{entryFor, checkOf}
 use Rattle.record.specs.CheckLaws.{Accepted, check-means}
 use Rattle.lent.specs.LentDeal.{LentDeal, lentDeal, dealSize}
 use Rattle.lent.specs.LentDealLaws.{none-refusal}
-use Rattle.build.specs.Build.{termsOf, segmentPathOf, entryPathOf, fieldsFor, built, recordAt}
-use Rattle.build.specs.BuildLaws.{Builds, build-means, means-build, built-in-deal, built-valid, built-parses}
-use Rattle.build.specs.BuildLaws.{InDeal, in-deal, segment-start, entry-start, place-node}
+use Rattle.builder.specs.Build.{termsOf, segmentPathOf, entryPathOf, fieldsFor, built, recordAt}
+use Rattle.builder.specs.BuildLaws.{Builds, build-means, means-build, built-in-deal, built-valid, built-parses}
+use Rattle.builder.specs.BuildLaws.{InDeal, in-deal, segment-start, entry-start, place-node}
 use Rattle.settle.specs.Settle.{entryStrings, segmentStrings, stringsOf, placeIn}
 use Rattle.settle.specs.Settle.{dealEntryStrings, dealSegmentStrings, dealStrings, settleWithDeal}
 use Rattle.settle.specs.SettleLaws.{named-commitment, named-offset, named-size}

@@ -121,7 +121,7 @@ fn sixteen_rounds(s: [u32; 8], k: [u32; 16]) -> [u32; 8]
 }
 
 // The hash value after this block.
-pub fn finish(hash: [u32; 8]) -> [u32; 8]
+pub(crate) fn finish(hash: [u32; 8]) -> [u32; 8]
     ensures { λ r. ⌜ r ≡ F.compress hash paddingBlock ⌝ }
 {
     let mut s = hash;

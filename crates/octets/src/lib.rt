@@ -126,20 +126,6 @@ pub fn join(left: [u8; 32], right: [u8; 32]) -> [u8; 64]
     pair
 }
 
-// The left node of a pair.
-pub fn left_half(pair: [u8; 64]) -> [u8; 32]
-    ensures { λ r. ⌜ r ≡ take 32 pair ⌝ }
-{
-    node_at(&pair, 0)
-}
-
-// The right node of a pair.
-pub fn right_half(pair: [u8; 64]) -> [u8; 32]
-    ensures { λ r. ⌜ r ≡ drop 32 pair ⌝ }
-{
-    node_at(&pair, 32)
-}
-
 // Writes 0 over every byte.
 pub fn fill_zero(d: &mut [u8])
     ensures { λ _. ⌜ now (d .exit) ≡ replicate (length (now (d .entry))) 0 ⌝ }

@@ -27,9 +27,9 @@ use Rattle.record.specs.ParsedRecordLaws.{fieldsAt}
 use Rattle.record.specs.declared.ParsedRecord.{ParsedRecord}
 use Rattle.lent.specs.LentDeal.{lentDeal, dealRefusal}
 use Rattle.lent.specs.LentDealLaws.{refusal-none}
-use Rattle.build.specs.Build.{termsOf, segmentPathOf, entryPathOf}
-use Rattle.build.specs.BuildLaws.{InDeal, in-deal, segment-start, entry-start}
-use Rattle.build.specs.BuildLaws.{segment-path-length, entry-path-length, place-node}
+use Rattle.builder.specs.Build.{termsOf, segmentPathOf, entryPathOf}
+use Rattle.builder.specs.BuildLaws.{InDeal, in-deal, segment-start, entry-start}
+use Rattle.builder.specs.BuildLaws.{segment-path-length, entry-path-length, place-node}
 use Rattle.settle.specs.Settle.{notSettled, entryStrings, segmentStrings, dealEntryStrings, dealSegmentStrings}
 use Rattle.settle.specs.Settle.{settleWithDeal}
 use Rattle.settle.specs.SettleLaws.{settledFrom, orCompared, settled-parts}

@@ -18,8 +18,8 @@ use Rattle.sizes.specs.Sizes.{lentSizeAllowed, placeAllowed, dealLevel, entryPa
 use Rattle.sizes.specs.SizesLaws.{lent-size, EntryPlace, entry-place}
 use Rattle.index.specs.Slots.{entryAt}
 use Rattle.lent.specs.LentDeal.{lentDeal}
-use Rattle.build.specs.Build.{termsOf, entryPathOf}
-use Rattle.build.specs.BuildLaws.{entry-node}
+use Rattle.builder.specs.Build.{termsOf, entryPathOf}
+use Rattle.builder.specs.BuildLaws.{entry-node}
 use Rattle.settle.proofs.OwnPath.{OwnPath}
 
 module _ (deal : List ℕ) (lent : lentSizeAllowed (length deal) ≡ true) (place : ℕ)

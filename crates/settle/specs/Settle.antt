@@ -13,7 +13,7 @@ use Rattle.index.specs.Slots.{entryAt}
 use Rattle.record.specs.Form.{Fields, Parsed, parsed, broken, parse}
 use Rattle.record.specs.Check.{DealTerms, entryFor, checkOf}
 use Rattle.lent.specs.LentDeal.{LentDeal, dealSize, dealRefusal}
-use Rattle.build.specs.Build.{termsOf}
+use Rattle.builder.specs.Build.{termsOf}
 use Rattle.settle.specs.declared.Settled.{Settled}
 
 abbrev pub notSettled : ℕ → Settled

@@ -14,7 +14,7 @@ ghost use lib.ListN.{length};
 ghost use Rattle.sizes.specs.Sizes.{dealSizeAllowed, placeAllowed};
 ghost use Rattle.record.specs.ParsedRecordLaws.{fieldsAt};
 ghost use Rattle.lent.specs.LentDeal.{lentDeal, dealRefusal};
-ghost use Rattle.build.specs.Build.{termsOf, entryPathOf};
+ghost use Rattle.builder.specs.Build.{termsOf, entryPathOf};
 ghost use Rattle.settle.specs.Settle.{settleWithDeal};
 ghost use Rattle.settle.specs.AcceptedRecord.{AcceptedRecord};
 ghost use Rattle.settle.specs.Comparing.{entryWithDeal, segmentWithDeal};

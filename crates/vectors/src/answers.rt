@@ -121,7 +121,7 @@ fn book(deal: &mut [u8], segment: &[u8]) {
 }
 
 fn build(deal: &[u8], place: u64, out: &mut [u8]) {
-    let built = build::build(deal, place, out);
+    let built = builder::build(deal, place, out);
     show::code(built.code);
     show::number(built.length as u64);
     show::digest(out);
@@ -233,7 +233,7 @@ fn answer_reading(operation: u64, a: &[u8], b: &[u8], x: u64, y: u64) {
     }
 }
 
-pub fn answer(operation: u64, a: &mut [u8], b: &mut [u8], x: u64, y: u64) {
+pub(crate) fn answer(operation: u64, a: &mut [u8], b: &mut [u8], x: u64, y: u64) {
     if operation == 7 {
         book(a, b);
         show::end();

@@ -3,16 +3,16 @@ fn wide(x: u8) -> u64 {
     x as u64
 }
 
-pub fn code(x: u8) {
+pub(crate) fn code(x: u8) {
     io::print_decimal(1, wide(x));
 }
 
-pub fn number(n: u64) {
+pub(crate) fn number(n: u64) {
     io::write_all(1, b" ");
     io::print_decimal(1, n);
 }
 
-pub fn bytes(s: &[u8]) {
+pub(crate) fn bytes(s: &[u8]) {
     io::write_all(1, b" ");
     let mut i = 0;
     while i < s.len() {
@@ -22,12 +22,12 @@ pub fn bytes(s: &[u8]) {
 }
 
 // The SHA-256 of bytes that are too many to print.
-pub fn digest(s: &[u8]) {
+pub(crate) fn digest(s: &[u8]) {
     let hashed = sha256::sha256(s);
     let digest = hashed.digest;
     bytes(&digest);
 }
 
-pub fn end() {
+pub(crate) fn end() {
     io::write_all(1, b"\n");
 }

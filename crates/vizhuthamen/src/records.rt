@@ -5,7 +5,7 @@ ghost use mathlib.Core.Path.{_≡_};
 ghost use Rattle.record.specs.Check.{dealTerms, checkOf};
 ghost use Rattle.fields.specs.FieldAt.{fieldAt, fieldCode};
 ghost use Rattle.lent.specs.LentDeal.{lentDeal};
-ghost use Rattle.build.specs.Build.{buildAnswer, buildOutput};
+ghost use Rattle.builder.specs.Build.{buildAnswer, buildOutput};
 ghost use Rattle.vizhuthamen.specs.Export.{lentOutput, fieldTag, fieldStart, fieldLength, fieldNext};
 
 // Builds the record of the kept entry at a place of a deal.
@@ -17,7 +17,7 @@ pub extern "C" fn vz_build(deal: &[u8], place: u64, record: &mut [u8], length: &
         ≡ lentOutput r (buildAnswer (lentDeal (now (deal .entry))) place (now («record» .entry)) .length)
         (now (length .entry)) ⌝ }
 {
-    let answer = build::build(deal, place, record);
+    let answer = builder::build(deal, place, record);
     write_u64(answer.code == 0, answer.length as u64, length);
     answer.code as u32
 }

@@ -13,8 +13,8 @@ use Rattle.sizes.specs.Sizes.{area}
 use Rattle.record.specs.Form.{Fields}
 use Rattle.record.specs.ParsedRecordLaws.{fieldsAt}
 use Rattle.lent.specs.LentDeal.{lentDeal}
-use Rattle.build.specs.Build.{segmentPathOf}
-use Rattle.build.specs.BuildLaws.{InDeal, segment-start}
+use Rattle.builder.specs.Build.{segmentPathOf}
+use Rattle.builder.specs.BuildLaws.{InDeal, segment-start}
 use Rattle.settle.specs.AcceptedRecordLaws.{accepted, within}
 use Rattle.settle.specs.Comparing.{segmentsCompared}
 use Rattle.settle.proofs.OwnPath.{OwnPath, path-room, node-room, path-written, written-length, written-fits}

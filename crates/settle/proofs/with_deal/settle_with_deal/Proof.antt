@@ -14,7 +14,7 @@ use Rattle.sizes.specs.Sizes.{entryPosition}
 use Rattle.sizes.specs.SizesLaws.{lent-size}
 use Rattle.record.specs.Check.{dealTerms, checkOf}
 use Rattle.lent.specs.LentDeal.{lentDeal, dealRefusal}
-use Rattle.build.specs.Build.{termsOf, entryPathOf}
+use Rattle.builder.specs.Build.{termsOf, entryPathOf}
 use Rattle.settle.specs.AcceptedRecord.{AcceptedRecord}
 use Rattle.settle.specs.AcceptedRecordLaws.{accepted}
 use Rattle.settle.proofs.OwnPath.{OwnPath, path-room, path-written, written-length, written-fits}

@@ -6,10 +6,10 @@ use borrow.Author.Tests.{not-true, not-false}
 use borrow.Author.Needs.{needs}
 use Rattle.sizes.specs.SizesLaws.{lent-size, entry-place}
 use Rattle.lent.specs.LentDealLaws.{refusal-none}
-use Rattle.build.proofs.Answers.{Passed, KeptHere, kept-here, deal-refused, place-refused}
-use Rattle.build.proofs.Answers.{entry-refused, output-short, record-answered}
-use Rattle.build.proofs.building.build.Statement.{statement}
-use Rattle.build.proofs.building.build.Tie as tie
+use Rattle.builder.proofs.Answers.{Passed, KeptHere, kept-here, deal-refused, place-refused}
+use Rattle.builder.proofs.Answers.{entry-refused, output-short, record-answered}
+use Rattle.builder.proofs.building.build.Statement.{statement}
+use Rattle.builder.proofs.building.build.Tie as tie
 
 refusal-requires : tie.Need-refusal-requires
 refusal-requires c κs = search needs

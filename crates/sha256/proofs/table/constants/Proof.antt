@@ -4,8 +4,8 @@ use Prim.Native.Nat.{ℕ, _*_}
 use native.Mathlib.Omega.{arith}
 use lib.ListN.{take, drop}
 use Rattle.sha256.specs.Fips.{constants}
-use Rattle.sha256.proofs.block.constants.Statement.{statement}
-use Rattle.sha256.proofs.block.constants.Tie as tie
+use Rattle.sha256.proofs.table.constants.Statement.{statement}
+use Rattle.sha256.proofs.table.constants.Tie as tie
 
 at : (turn i : ℕ) → turn ≡ i → take 16 (drop (16 * i) constants) ≡ take 16 (drop (16 * turn) constants)
 at turn i e = sym (ap (λ (n : ℕ). take 16 (drop (16 * n) constants)) e)

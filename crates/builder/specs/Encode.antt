@@ -3,7 +3,7 @@ use Prim.Native.Nat.{ℕ}
 use mathlib.Core.List.{List}
 use Rattle.record.specs.Form.{fields, encode}
 use Rattle.lent.specs.LentDeal.{LentDeal}
-use Rattle.build.specs.Build.{segmentPathOf, entryPathOf}
+use Rattle.builder.specs.Build.{segmentPathOf, entryPathOf}
 
 -- the record for an entry of a deal: its commitment, offset and size, and its place
 unfoldable pub recordFor : LentDeal → List ℕ → ℕ → ℕ → ℕ → List ℕ

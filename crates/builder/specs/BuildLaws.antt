@@ -34,8 +34,8 @@ use Rattle.record.specs.Form.{parsed, parse, encode}
 use Rattle.record.specs.FormLaws.{Sized, parse-encode}
 use Rattle.record.specs.CheckLaws.{Accepted}
 use Rattle.lent.specs.LentDeal.{LentDeal, dealSize}
-use Rattle.build.specs.Build.{termsOf, segmentPathOf, entryPathOf, fieldsFor}
-use Rattle.build.specs.Build.{built, notBuilt, buildRules, recordAt}
+use Rattle.builder.specs.Build.{termsOf, segmentPathOf, entryPathOf, fieldsFor}
+use Rattle.builder.specs.Build.{built, notBuilt, buildRules, recordAt}
 
 -- what a record that was built is
 pub record Builds (deal : LentDeal) (place : ℕ) (r : List ℕ) : Type 0 where

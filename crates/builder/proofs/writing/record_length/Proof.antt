@@ -1,7 +1,7 @@
 use borrow.Author.Needs.{needs}
 use Rattle.record.specs.Form.{recordLength}
-use Rattle.build.proofs.writing.record_length.Statement.{statement}
-use Rattle.build.proofs.writing.record_length.Tie as tie
+use Rattle.builder.proofs.writing.record_length.Statement.{statement}
+use Rattle.builder.proofs.writing.record_length.Tie as tie
 
 deal-level-requires : tie.Need-deal-level-requires
 deal-level-requires c κs = search needs

@@ -6,8 +6,8 @@ use Rattle.paths.specs.Siblings.{siblings}
 use Rattle.paths.specs.SiblingsLaws.{run-path-length}
 use Rattle.fields.specs.WrittenLaws.{field-written}
 use borrow.Author.Needs.{needs}
-use Rattle.build.proofs.writing.put_path.Statement.{statement}
-use Rattle.build.proofs.writing.put_path.Tie as tie
+use Rattle.builder.proofs.writing.put_path.Statement.{statement}
+use Rattle.builder.proofs.writing.put_path.Tie as tie
 
 mul-put-head : tie.Need-mul-put-head
 mul-put-head c = search needs

@@ -7,11 +7,11 @@ use Rattle.octets.specs.LittleEndian.{bytesOf}
 use Rattle.octets.specs.LittleEndianLaws.{length-bytesOf}
 use Rattle.fields.specs.WrittenLaws.{wrote-field}
 use Rattle.record.specs.Form.{rowOf, recordLength}
-use Rattle.build.proofs.RecordWritten.{WorkedOut, segment-asked, entry-asked, segment-path-sized}
-use Rattle.build.proofs.RecordWritten.{entry-path-sized, SegmentPath, EntryPath, record-written}
+use Rattle.builder.proofs.RecordWritten.{WorkedOut, segment-asked, entry-asked, segment-path-sized}
+use Rattle.builder.proofs.RecordWritten.{entry-path-sized, SegmentPath, EntryPath, record-written}
 use borrow.Author.Needs.{needs}
-use Rattle.build.proofs.writing.write_record.Statement.{statement}
-use Rattle.build.proofs.writing.write_record.Tie as tie
+use Rattle.builder.proofs.writing.write_record.Statement.{statement}
+use Rattle.builder.proofs.writing.write_record.Tie as tie
 
 -- the field before each, and where the function starts, before the levels and the position are worked out
 abbrev four : tie.After-put-path → tie.After-put-number3

@@ -17,12 +17,12 @@ use Rattle.index.specs.SlotsLaws.{answer-kept, answer-not-kept}
 use Rattle.index.specs.declared.Row.{Row}
 use Rattle.lent.specs.LentDeal.{lentDeal, dealRefusal}
 use Rattle.lent.specs.LentDealLaws.{refusal-none, refused-answer}
-use Rattle.build.specs.Build.{entryRules, fieldsFor, built, notBuilt, recordAt, buildAnswer, buildOutput}
-use Rattle.build.specs.BuildLaws.{InDeal, in-deal, means-build}
+use Rattle.builder.specs.Build.{entryRules, fieldsFor, built, notBuilt, recordAt, buildAnswer, buildOutput}
+use Rattle.builder.specs.BuildLaws.{InDeal, in-deal, means-build}
 use Rattle.record.specs.Form.{encode, recordLength}
-use Rattle.build.specs.Encode.{recordFor}
-use Rattle.build.specs.EncodeLaws.{record-of-entry, commitment-in-length, record-length}
-use Rattle.build.specs.declared.BuildAnswer.{BuildAnswer}
+use Rattle.builder.specs.Encode.{recordFor}
+use Rattle.builder.specs.EncodeLaws.{record-of-entry, commitment-in-length, record-length}
+use Rattle.builder.specs.declared.BuildAnswer.{BuildAnswer}
 
 -- an answer, and what the output holds afterwards
 abbrev pub Answered : List ℕ → ℕ → List ℕ → BuildAnswer → List ℕ → Type 0

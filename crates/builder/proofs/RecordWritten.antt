@@ -14,10 +14,10 @@ use Rattle.fields.specs.Table.{writeContents}
 use Rattle.fields.specs.WrittenLaws.{WroteAll, all-written}
 use Rattle.record.specs.Form.{layout, Fields, fields, contentsOf, encode, recordLength}
 use Rattle.lent.specs.LentDeal.{lentDeal}
-use Rattle.build.specs.Build.{segmentPathOf, entryPathOf}
-use Rattle.build.specs.BuildLaws.{InDeal, segment-path-length, entry-path-length}
-use Rattle.build.specs.Encode.{recordFor}
-use Rattle.build.specs.EncodeLaws.{record-length}
+use Rattle.builder.specs.Build.{segmentPathOf, entryPathOf}
+use Rattle.builder.specs.BuildLaws.{InDeal, segment-path-length, entry-path-length}
+use Rattle.builder.specs.Encode.{recordFor}
+use Rattle.builder.specs.EncodeLaws.{record-length}
 
 -- the deal's level, and the level and position of the segment's node, as the code works them out
 pub record WorkedOut (deal : List ℕ) (entry : Row) (place top level position : ℕ) : Type 0 where

@@ -13,9 +13,9 @@ use Rattle.fields.specs.Table.{tableLength}
 use Rattle.record.specs.Form.{layout, encode, recordLength}
 use Rattle.record.specs.FormLaws.{encode-length}
 use Rattle.lent.specs.LentDeal.{LentDeal, dealSize}
-use Rattle.build.specs.Build.{fieldsFor}
-use Rattle.build.specs.BuildLaws.{InDeal, in-deal, segment-path-length, entry-path-length, Builds}
-use Rattle.build.specs.Encode.{recordFor}
+use Rattle.builder.specs.Build.{fieldsFor}
+use Rattle.builder.specs.BuildLaws.{InDeal, in-deal, segment-path-length, entry-path-length, Builds}
+use Rattle.builder.specs.Encode.{recordFor}
 
 -- the record for the bytes of an entry
 pub record-of-entry : (deal : LentDeal) (e : List ℕ) (place : ℕ)

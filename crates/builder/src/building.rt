@@ -4,7 +4,7 @@ use crate::writing::record_length;
 use crate::writing::write_record;
 ghost use mathlib.Core.Path.{_≡_};
 ghost use Rattle.lent.specs.LentDeal.{lentDeal};
-ghost use Rattle.build.specs.Build.{buildAnswer, buildOutput};
+ghost use Rattle.builder.specs.Build.{buildAnswer, buildOutput};
 
 // The refusal of a record.
 fn refused(code: u8) -> BuildAnswer

@@ -14,7 +14,7 @@ use Rattle.entries.specs.Entry.{commitmentIn, offsetIn, sizeIn}
 use Rattle.index.specs.Slots.{entryAt, kept}
 use Rattle.record.specs.Form.{Fields, encode}
 use Rattle.record.specs.Check.{DealTerms, dealTerms}
-use Rattle.build.specs.declared.BuildAnswer.{BuildAnswer}
+use Rattle.builder.specs.declared.BuildAnswer.{BuildAnswer}
 
 -- what a record of the deal is checked against: its own commitment and length
 abbrev pub termsOf : LentDeal → DealTerms

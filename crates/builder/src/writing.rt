@@ -12,8 +12,8 @@ ghost use Rattle.paths.specs.Siblings.{siblings};
 ghost use Rattle.sizes.specs.SizesLaws.{LentSize, SegmentSize};
 ghost use Rattle.lent.specs.LentDeal.{lentDeal};
 ghost use Rattle.record.specs.Form.{recordLength};
-ghost use Rattle.build.specs.BuildLaws.{InDeal};
-ghost use Rattle.build.specs.Encode.{recordFor};
+ghost use Rattle.builder.specs.BuildLaws.{InDeal};
+ghost use Rattle.builder.specs.Encode.{recordFor};
 
 // The length of a record in a lent deal of d bytes, for a segment of a size.
 pub(crate) fn record_length(d: u64, size: u64) -> usize
