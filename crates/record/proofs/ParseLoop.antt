@@ -12,7 +12,7 @@ use Rattle.fields.specs.FieldAt.{fieldFor}
 use Rattle.fields.specs.Spans.{Spans, spans, misplaced, before, spansFrom}
 use Rattle.fields.specs.SpansLaws.{before-one, spans-step, spans-refused, span-lies}
 use Rattle.fields.specs.declared.Field.the-variants.{Content, Refused}
-use Rattle.record.specs.Form.{layout, rowOf}
+use Rattle.record.specs.Form.{layout, tableRow}
 use Rattle.record.specs.ParsedRecord.{unread, readAt, parsedRecord}
 use Rattle.record.specs.declared.ParsedRecord.{ParsedRecord}
 
@@ -31,10 +31,10 @@ module _ (r : List ℕ) where
 
   pub next-row : (starts lengths : List ℕ) (at i j : ℕ) {tag start n next : ℕ} → UpTo starts lengths at i → j ≡ suc i
       → i < 6 → length starts ≡ 6 → length lengths ≡ 6
-      → fieldFor (rowOf i) r at ≡ Content tag start n next → UpTo (set starts i start) (set lengths i n) next j
+      → fieldFor (tableRow i) r at ≡ Content tag start n next → UpTo (set starts i start) (set lengths i n) next j
   next-row starts lengths at i j {start = start} {n} {next} u e h s l f =
       u
-      ∙ ap (before (take i starts) (take i lengths)) (spans-step layout r (rowOf 6) i at h f)
+      ∙ ap (before (take i starts) (take i lengths)) (spans-step layout r (tableRow 6) i at h f)
       ∙ before-one (take i starts) (take i lengths) start n (spansFrom (drop (suc i) layout) r next)
       ∙ ap₂ (λ (x y : List ℕ). before x y (spansFrom (drop (suc i) layout) r next))
       (sym (take-suc-set starts i start (omega arith)))
@@ -44,12 +44,12 @@ module _ (r : List ℕ) where
 
   -- a row that is not there
   pub no-row : {answer : ParsedRecord} (starts lengths : List ℕ) (at i : ℕ) → answer ≡ unread 3
-      → UpTo starts lengths at i → i < 6 → fieldFor (rowOf i) r at ≡ Refused
+      → UpTo starts lengths at i → i < 6 → fieldFor (tableRow i) r at ≡ Refused
       → answer ≡ parsedRecord r
   unfolding parsedRecord
   no-row starts lengths at i a u h f =
       a ∙ sym (ap (readAt r) (u ∙ ap (before (take i starts) (take i lengths))
-      (spans-refused layout r (rowOf 6) i at h f)))
+      (spans-refused layout r (tableRow 6) i at h f)))
 
   -- all rows, and nothing after them or something
   module _ (starts lengths : List ℕ) (at i : ℕ) (u : UpTo starts lengths at i) (e : i ≡ 6) where
@@ -78,32 +78,32 @@ module _ (r : List ℕ) where
 
     commitment-length : getD lengths 0 0 ≡ 32
     commitment-length = eqb-true (getD lengths 0 0) 32
-        (span-lies layout r (rowOf 6) 0 starts lengths e 0 (omega arith) .allowed)
+        (span-lies layout r (tableRow 6) 0 starts lengths e 0 (omega arith) .allowed)
 
     offset-length : getD lengths 1 0 ≡ 8
     offset-length = eqb-true (getD lengths 1 0) 8
-        (span-lies layout r (rowOf 6) 0 starts lengths e 1 (omega arith) .allowed)
+        (span-lies layout r (tableRow 6) 0 starts lengths e 1 (omega arith) .allowed)
 
     size-length : getD lengths 2 0 ≡ 8
     size-length = eqb-true (getD lengths 2 0) 8
-        (span-lies layout r (rowOf 6) 0 starts lengths e 2 (omega arith) .allowed)
+        (span-lies layout r (tableRow 6) 0 starts lengths e 2 (omega arith) .allowed)
 
     place-length : getD lengths 3 0 ≡ 8
     place-length = eqb-true (getD lengths 3 0) 8
-        (span-lies layout r (rowOf 6) 0 starts lengths e 3 (omega arith) .allowed)
+        (span-lies layout r (tableRow 6) 0 starts lengths e 3 (omega arith) .allowed)
 
     pub commitment-fits : getD starts 0 0 + 32 ≤ length r
-    commitment-fits = fixed 0 32 (span-lies layout r (rowOf 6) 0 starts lengths e 0
+    commitment-fits = fixed 0 32 (span-lies layout r (tableRow 6) 0 starts lengths e 0
         (omega arith) .within) commitment-length
 
     pub offset-fits : getD starts 1 0 + 8 ≤ length r
-    offset-fits = fixed 1 8 (span-lies layout r (rowOf 6) 0 starts lengths e 1 (omega arith) .within) offset-length
+    offset-fits = fixed 1 8 (span-lies layout r (tableRow 6) 0 starts lengths e 1 (omega arith) .within) offset-length
 
     pub size-fits : getD starts 2 0 + 8 ≤ length r
-    size-fits = fixed 2 8 (span-lies layout r (rowOf 6) 0 starts lengths e 2 (omega arith) .within) size-length
+    size-fits = fixed 2 8 (span-lies layout r (tableRow 6) 0 starts lengths e 2 (omega arith) .within) size-length
 
     pub place-fits : getD starts 3 0 + 8 ≤ length r
-    place-fits = fixed 3 8 (span-lies layout r (rowOf 6) 0 starts lengths e 3 (omega arith) .within) place-length
+    place-fits = fixed 3 8 (span-lies layout r (tableRow 6) 0 starts lengths e 3 (omega arith) .within) place-length
 
     pub fields-there : {commitment : List ℕ} {offset size place : ℕ} → commitment ≡ part r (getD starts 0 0) 32
         → offset ≡ numberOf (part r (getD starts 1 0) 8)

@@ -26,8 +26,8 @@ layout =
     ∷ []
 
 -- a row of the table, from 0
-abbrev pub rowOf : ℕ → FieldRule
-rowOf n = getD layout n (fieldRule 0 (Exactly 0))
+abbrev pub tableRow : ℕ → FieldRule
+tableRow n = getD layout n (fieldRule 0 (Exactly 0))
 
 -- a record's fields
 pub record Fields : Type 0 where
@@ -46,8 +46,7 @@ fields commitment offset size place segmentPath entryPath =
       offset = offset;
       size = size;
       place = place;
-      segmentPath =
-          segmentPath;
+      segmentPath = segmentPath;
       entryPath = entryPath;
     }
 

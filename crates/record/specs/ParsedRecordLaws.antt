@@ -9,7 +9,7 @@ use Rattle.octets.specs.Splice.{part}
 use Rattle.fields.specs.Table.{Contents, contents, readContents}
 use Rattle.fields.specs.Spans.{Spans, spans, misplaced, spansFrom, partsOf, contentsAt}
 use Rattle.fields.specs.SpansLaws.{contents-spans, span-lies, spans-counted, parts-at}
-use Rattle.record.specs.Form.{layout, rowOf, Fields, fields, parsed, broken, fieldsIn, parse}
+use Rattle.record.specs.Form.{layout, tableRow, Fields, fields, parsed, broken, fieldsIn, parse}
 use Rattle.record.specs.FieldsOf.{parsedFields, fieldsOf}
 use Rattle.record.specs.ParsedRecord.{readAt, parsedRecord}
 use Rattle.record.specs.declared.ParsedRecord.{ParsedRecord}
@@ -80,7 +80,7 @@ module _ (r : List ℕ) where
       go : (x : Spans) → spansFrom layout r 0 ≡ x → Within r (readAt r x)
       go (spans ss ns) q =
           record {
-            segment-path-within = span-lies layout r (rowOf 0) 0 ss ns q 4 (omega arith) .within;
-            entry-path-within = span-lies layout r (rowOf 0) 0 ss ns q 5 (omega arith) .within;
+            segment-path-within = span-lies layout r (tableRow 0) 0 ss ns q 4 (omega arith) .within;
+            entry-path-within = span-lies layout r (tableRow 0) 0 ss ns q 5 (omega arith) .within;
           }
       go misplaced q = record { segment-path-within = omega arith; entry-path-within = omega arith }

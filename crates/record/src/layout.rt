@@ -5,7 +5,7 @@ ghost use mathlib.Core.Path.{_≡_};
 ghost use Prim.Native.Nat.{_<_};
 ghost use Rattle.fields.specs.Table.{fieldRule};
 ghost use Rattle.fields.specs.declared.LengthRule.the-variants.{Exactly};
-ghost use Rattle.record.specs.Form.{wholeNodes, rowOf};
+ghost use Rattle.record.specs.Form.{wholeNodes, tableRow};
 
 // The rows of the table, in its order, and how many they are.
 pub const COMMITMENT: usize = 0;
@@ -48,7 +48,7 @@ fn nodes(tag: u8) -> FieldRule
 // A row of the table.
 pub fn row(number: usize) -> FieldRule
     requires { ⌜ number < 6 ⌝ }
-    ensures { λ r. ⌜ r ≡ rowOf number ⌝ }
+    ensures { λ r. ⌜ r ≡ tableRow number ⌝ }
 {
     match number {
         COMMITMENT => fixed(1, 32),

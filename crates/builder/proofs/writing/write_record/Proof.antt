@@ -6,7 +6,7 @@ use denote.Ref.{now}
 use Rattle.octets.specs.LittleEndian.{bytesOf}
 use Rattle.octets.specs.LittleEndianLaws.{length-bytesOf}
 use Rattle.fields.specs.WrittenLaws.{wrote-field}
-use Rattle.record.specs.Form.{rowOf, recordLength}
+use Rattle.record.specs.Form.{tableRow, recordLength}
 use Rattle.builder.proofs.RecordWritten.{WorkedOut, segment-asked, entry-asked, segment-path-sized}
 use Rattle.builder.proofs.RecordWritten.{entry-path-sized, SegmentPath, EntryPath, record-written}
 use borrow.Author.Needs.{needs}
@@ -152,32 +152,32 @@ returns c =
     record-written w (now (a .out)) size (entered p .pre .1) (
       _,
       _,
-      wrote-field (rowOf 0) (a .entry .commitment) (f1 .before .row .ensures) size (f1 .put-node .ensures .0)
+      wrote-field (tableRow 0) (a .entry .commitment) (f1 .before .row .ensures) size (f1 .put-node .ensures .0)
           (f1 .put-node .ensures .1),
       (
         _,
         _,
-        wrote-field (rowOf 1) (bytesOf 8 (a .entry .offset)) (f2 .before .row2 .ensures)
+        wrote-field (tableRow 1) (bytesOf 8 (a .entry .offset)) (f2 .before .row2 .ensures)
             (length-bytesOf 8 (a .entry .offset)) (f2 .put-number .ensures .0) (f2 .put-number .ensures .1),
         (
           _,
           _,
-          wrote-field (rowOf 2) (bytesOf 8 (a .entry .size)) (f3 .before .row3 .ensures)
+          wrote-field (tableRow 2) (bytesOf 8 (a .entry .size)) (f3 .before .row3 .ensures)
               (length-bytesOf 8 (a .entry .size)) (f3 .put-number2 .ensures .0) (f3 .put-number2 .ensures .1),
           (
             _,
             _,
-            wrote-field (rowOf 3) (bytesOf 8 (a .place)) (f4 .before .row4 .ensures) (length-bytesOf 8 (a .place))
+            wrote-field (tableRow 3) (bytesOf 8 (a .place)) (f4 .before .row4 .ensures) (length-bytesOf 8 (a .place))
                 (f4 .put-number3 .ensures .0) (f4 .put-number3 .ensures .1),
             (
               _,
               _,
-              wrote-field (rowOf 4) (SegmentPath w) (f5 .before .before .row5 .ensures) (segment-path-sized w)
+              wrote-field (tableRow 4) (SegmentPath w) (f5 .before .before .row5 .ensures) (segment-path-sized w)
                   (f5 .put-path .ensures .0) (f5 .put-path .ensures .1),
               (
                 _,
                 _,
-                wrote-field (rowOf 5) (EntryPath w) (f6 .before .before .row6 .ensures) (entry-path-sized w)
+                wrote-field (tableRow 5) (EntryPath w) (f6 .before .before .row6 .ensures) (entry-path-sized w)
                     (f6 .put-path2 .ensures .0) (f6 .put-path2 .ensures .1),
                 refl,
               ),

@@ -1,7 +1,7 @@
 -- Each row by its number.
 use mathlib.Core.Path.{_≡_, sym, ap, _∙_}
 use native.Mathlib.Omega.{arith}
-use Rattle.record.specs.Form.{rowOf}
+use Rattle.record.specs.Form.{tableRow}
 use borrow.Author.Needs.{needs}
 use Rattle.record.proofs.layout.row.Statement.{statement}
 use Rattle.record.proofs.layout.row.Tie as tie
@@ -25,19 +25,19 @@ nodes-requires-2 : tie.Need-nodes-requires-2
 nodes-requires-2 c κs = search needs
 
 returns : tie.Need-returns
-returns c = c .fixed .ensures ∙ ap rowOf (sym (c .before .match .keys1))
+returns c = c .fixed .ensures ∙ ap tableRow (sym (c .before .match .keys1))
 
 returns-2 : tie.Need-returns-2
-returns-2 c = c .fixed2 .ensures ∙ ap rowOf (sym (c .before .match .keys2))
+returns-2 c = c .fixed2 .ensures ∙ ap tableRow (sym (c .before .match .keys2))
 
 returns-3 : tie.Need-returns-3
-returns-3 c = c .fixed3 .ensures ∙ ap rowOf (sym (c .before .match .keys3))
+returns-3 c = c .fixed3 .ensures ∙ ap tableRow (sym (c .before .match .keys3))
 
 returns-4 : tie.Need-returns-4
-returns-4 c = c .fixed4 .ensures ∙ ap rowOf (sym (c .before .match .keys4))
+returns-4 c = c .fixed4 .ensures ∙ ap tableRow (sym (c .before .match .keys4))
 
 returns-5 : tie.Need-returns-5
-returns-5 c = c .nodes .ensures ∙ ap rowOf (sym (c .before .match .keys5))
+returns-5 c = c .nodes .ensures ∙ ap tableRow (sym (c .before .match .keys5))
 
 returns-6 : tie.Need-returns-6
 returns-6 c =
@@ -52,7 +52,7 @@ returns-6 c =
       none .0 .1,
       none .1,
     ) in
-    c .nodes2 .ensures ∙ ap rowOf (sym last)
+    c .nodes2 .ensures ∙ ap tableRow (sym last)
 
 pub row-spec : {M : Type 1} → statement M
 row-spec =
