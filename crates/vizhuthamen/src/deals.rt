@@ -1,10 +1,10 @@
 // Lent deals.
+use crate::numbers::state_number;
 use crate::output::WRONG_LENGTH;
-use crate::output::write_32_bytes;
-use crate::output::write_u32;
+use crate::output::write_entry;
+use crate::output::write_three;
 use crate::output::write_u64;
 use crate::output::written_with;
-use index::SlotState;
 ghost use mathlib.Core.Path.{_≡_};
 ghost use Rattle.lent.specs.LentDeal.{lentDeal};
 ghost use Rattle.index.specs.Inspect.{inspectAnswer};
@@ -12,17 +12,6 @@ ghost use Rattle.index.specs.Tally.{tallyAnswer};
 ghost use Rattle.index.specs.Find.{findNumbers};
 ghost use Rattle.booking.specs.Booking.{bookAnswer, bookedDeal};
 ghost use Rattle.vizhuthamen.specs.Export.{lentCode, lentOutput, lentOutputOr, stateNumber};
-
-// The number of a slot's state.
-fn state_number(state: SlotState) -> u32
-    ensures { λ r. ⌜ r ≡ stateNumber state ⌝ }
-{
-    match state {
-        SlotState::Free => 0,
-        SlotState::Standing => 1,
-        SlotState::Kept => 2,
-    }
-}
 
 // What stands at an entry place of a deal.
 #[no_mangle]
@@ -49,13 +38,19 @@ pub extern "C" fn vz_inspect(
         return WRONG_LENGTH;
     }
     let answer = index::inspect(deal, place);
-    let written = answer.code == 0;
     let slot = answer.state;
     let bytes = answer.commitment;
-    write_u32(written, state_number(slot), state);
-    write_32_bytes(written, bytes, commitment);
-    write_u64(written, answer.offset, offset);
-    write_u64(written, answer.size, size);
+    write_entry(
+        answer.code == 0,
+        state_number(slot),
+        bytes,
+        answer.offset,
+        answer.size,
+        state,
+        commitment,
+        offset,
+        size,
+    );
     answer.code as u32
 }
 
@@ -69,10 +64,15 @@ pub extern "C" fn vz_tally(deal: &[u8], blank: &mut u64, damaged: &mut u64, vali
     ensures { λ r. ⌜ now (valid .exit) ≡ lentOutput r (tallyAnswer (now (deal .entry)) .valid) (now (valid .entry)) ⌝ }
 {
     let answer = index::tally(deal);
-    let written = answer.code == 0;
-    write_u64(written, answer.blank, blank);
-    write_u64(written, answer.damaged, damaged);
-    write_u64(written, answer.valid, valid);
+    write_three(
+        answer.code == 0,
+        answer.blank,
+        answer.damaged,
+        answer.valid,
+        blank,
+        damaged,
+        valid,
+    );
     answer.code as u32
 }
 
@@ -94,10 +94,15 @@ pub extern "C" fn vz_find(
         ≡ lentOutput r (findNumbers (lentDeal (now (deal .entry))) (now (commitment .entry)) .place) (now (place .entry)) ⌝ }
 {
     let answer = index::find_numbers(deal, commitment);
-    let written = answer.code == 0;
-    write_u64(written, answer.offset, offset);
-    write_u64(written, answer.size, size);
-    write_u64(written, answer.place, place);
+    write_three(
+        answer.code == 0,
+        answer.offset,
+        answer.size,
+        answer.place,
+        offset,
+        size,
+        place,
+    );
     answer.code as u32
 }
 

@@ -1,10 +1,9 @@
 // The numbers of an index, and its entries.
+use crate::numbers::kind_number;
 use crate::output::WRONG_LENGTH;
-use crate::output::write_32_bytes;
 use crate::output::write_64_bytes;
-use crate::output::write_u32;
+use crate::output::write_entry;
 use crate::output::write_u64;
-use entries::EntryKind;
 ghost use mathlib.Core.Path.{_≡_};
 ghost use Rattle.sizes.specs.Numbers.{indexNumbers};
 ghost use Rattle.entries.specs.Entry.{kindNumber, madeEntry, readEntry};
@@ -40,17 +39,6 @@ pub extern "C" fn vz_make_entry(commitment: &[u8], offset: u64, size: u64, entry
     answer.code as u32
 }
 
-// The number of an entry's kind.
-fn kind_number(kind: EntryKind) -> u32
-    ensures { λ r. ⌜ r ≡ kindNumber kind ⌝ }
-{
-    match kind {
-        EntryKind::Blank => 0,
-        EntryKind::Damaged => 1,
-        EntryKind::Valid => 2,
-    }
-}
-
 // What the bytes of an entry say.
 #[no_mangle]
 pub extern "C" fn vz_read_entry(
@@ -73,12 +61,18 @@ pub extern "C" fn vz_read_entry(
         return WRONG_LENGTH;
     }
     let answer = entries::read_entry(entry);
-    let written = answer.code == 0;
     let entry_kind = answer.kind;
     let bytes = answer.commitment;
-    write_u32(written, kind_number(entry_kind), kind);
-    write_32_bytes(written, bytes, commitment);
-    write_u64(written, answer.offset, offset);
-    write_u64(written, answer.size, size);
+    write_entry(
+        answer.code == 0,
+        kind_number(entry_kind),
+        bytes,
+        answer.offset,
+        answer.size,
+        kind,
+        commitment,
+        offset,
+        size,
+    );
     answer.code as u32
 }

@@ -3,6 +3,7 @@
 pub mod deals; // deals.rt: inspecting a slot, the tally of an index, finding and booking a segment
 pub mod hashing; // hashing.rt: SHA-256 and commitments
 pub mod index_entries; // index_entries.rt: index numbers and entries
+mod numbers; // numbers.rt: what stands for the kind of an entry and the state of a slot
 mod output; // output.rt: what is written to lent outputs
 pub mod padding; // padding.rt: raw archives to segments and back
 pub mod records; // records.rt: building and checking a record, and reading its fields

@@ -52,3 +52,47 @@ pub(crate) fn write_64_bytes(written: bool, bytes: [u8; 64], output: &mut [u8])
         octets::put_pair(output, 0, bytes);
     }
 }
+
+// Writes three numbers to their outputs, or leaves these.
+pub(crate) fn write_three(
+    written: bool,
+    first: u64,
+    second: u64,
+    third: u64,
+    first_output: &mut u64,
+    second_output: &mut u64,
+    third_output: &mut u64,
+)
+    ensures { λ _. ⌜ now («first_output» .exit) ≡ choose written first (now («first_output» .entry)) ⌝ }
+    ensures { λ _. ⌜ now («second_output» .exit) ≡ choose written second (now («second_output» .entry)) ⌝ }
+    ensures { λ _. ⌜ now («third_output» .exit) ≡ choose written third (now («third_output» .entry)) ⌝ }
+{
+    write_u64(written, first, first_output);
+    write_u64(written, second, second_output);
+    write_u64(written, third, third_output);
+}
+
+// Writes a number, a commitment, an offset and a size to their outputs, or leaves these.
+pub(crate) fn write_entry(
+    written: bool,
+    number: u32,
+    commitment: [u8; 32],
+    offset: u64,
+    size: u64,
+    number_output: &mut u32,
+    commitment_output: &mut [u8],
+    offset_output: &mut u64,
+    size_output: &mut u64,
+)
+    requires { ⌜ length (now «commitment_output») ≡ 32 ⌝ }
+    ensures { λ _. ⌜ now («number_output» .exit) ≡ choose written number (now («number_output» .entry)) ⌝ }
+    ensures { λ _. ⌜ now («commitment_output» .exit)
+        ≡ choose written commitment (now («commitment_output» .entry)) ⌝ }
+    ensures { λ _. ⌜ now («offset_output» .exit) ≡ choose written offset (now («offset_output» .entry)) ⌝ }
+    ensures { λ _. ⌜ now («size_output» .exit) ≡ choose written size (now («size_output» .entry)) ⌝ }
+{
+    write_u32(written, number, number_output);
+    write_32_bytes(written, commitment, commitment_output);
+    write_u64(written, offset, offset_output);
+    write_u64(written, size, size_output);
+}

@@ -1,25 +1,17 @@
 use mathlib.Core.Path.{refl}
-use denote.Ref.{now}
 use borrow.Author.Needs.{needs}
 use Rattle.vizhuthamen.proofs.Outputs.{wrong-length, right-length}
 use Rattle.vizhuthamen.proofs.hashing.vz_sha256.Statement.{statement}
 use Rattle.vizhuthamen.proofs.hashing.vz_sha256.Tie as tie
 
 returns : tie.Need-returns
-returns c =
-    let a = c .before .before .before .args in
-    (wrong-length 32 (now (a .digest)) _ (c .if1 .taken), refl)
+returns c = (wrong-length 32 _ _ (c .if1 .taken), refl)
 
 returns-2 : tie.Need-returns-2
 returns-2 c =
     let w = c .before .before .before in
     let k = w .before .before .before .before in
-    let i = k .before in
-    let a = i .before .before .before .args in
-    rw (← k .sha256 .ensures) (
-      right-length 32 (now (a .digest)) (k .sha256 .result .code) (i .if1 .left),
-      w .write-32-bytes .ensures,
-    )
+    rw (← k .sha256 .ensures) (right-length 32 _ _ (k .before .if1 .left), w .write-32-bytes .ensures)
 
 pub vz-sha256-spec : {M : Type 1} → statement M
 vz-sha256-spec =

@@ -10,7 +10,7 @@ returns : tie.Need-returns
 returns c =
     let state = now (c .before .before .args .state) in
     let wrong = c .if1 .taken in
-    (wrong-length packedLength state 0 wrong, left-alone packedLength state packedStart wrong)
+    (wrong-length packedLength _ 0 wrong, left-alone packedLength state packedStart wrong)
 
 returns-2 : tie.Need-returns-2
 returns-2 c =
@@ -19,7 +19,7 @@ returns-2 c =
     let i = n .before in
     let state = now (i .before .before .args .state) in
     let right = i .if1 .left in (
-      right-length packedLength state 0 right,
+      right-length packedLength _ 0 right,
       p .pack .ensures ∙ ap packed (n .new .ensures) ∙ written-over packedLength state packedStart right,
     )
 

@@ -12,7 +12,7 @@ returns : tie.Need-returns
 returns c =
     let state = now (c .before .before .before .args .state) in
     let wrong = c .if1 .taken in
-    (wrong-length packedLength state _ wrong, left-alone packedLength state _ wrong)
+    (wrong-length packedLength _ _ wrong, left-alone packedLength state _ wrong)
 
 returns-2 : tie.Need-returns-2
 returns-2 c =
@@ -29,7 +29,7 @@ returns-2 c =
     = t .take .ensures ∙ ap (λ (s : Stream). takePiece s (now (a .piece))) (u .unpack .ensures) in (
       l .lasting-code .ensures
           ∙ ap (λ (s : Stream). lastingCode (s .code)) e
-          ∙ right-length packedLength state (lastingCode (after .code)) right,
+          ∙ right-length packedLength _ (lastingCode (after .code)) right,
       p .pack .ensures ∙ ap packed e ∙ written-over packedLength state (packed after) right,
     )
 
