@@ -1,11 +1,11 @@
 -- `plain_root`: one node, or the node over the commitments of the halves; the height falls with each call.
-use Prim.Native.Nat.{ℕ, _<_}
+use Prim.Native.Nat.{ℕ}
 use mathlib.Core.Path.{_∙_}
 use denote.Ref.{now}
 use native.Mathlib.Omega.{arith}
 use borrow.Author.Needs.{needs}
-use borrow.Fn.Kinds.{In}
-use borrow.Fn.PlainCycle.{Measures, is, falls, and}
+use borrow.Fn.PlainCycle.{Measures}
+use Rattle.merkle.proofs.Heights.{at-height, below-height}
 use Rattle.merkle.proofs.Cuts.{one-size, one-node, half-sized, two-halves, over-halves}
 use Rattle.merkle.proofs.tree.plain_root.Reads as plain
 use Rattle.merkle.proofs.tree.plain_root.Kinds as plain-kinds
@@ -19,24 +19,18 @@ use Rattle.merkle.proofs.tree.+plain_root.Tie.{close}
 abbrev μ-plain : Measures 1 plain-kinds.ps ℕ
 μ-plain κs a = a .1 .1 .1 .0
 
-abbrev plain-at : ℕ → In 1 plain-kinds.ps
-plain-at t = and 1 plain-kinds.ps (is 1 plain-kinds.ps μ-plain t) plain.Pre
-
-abbrev plain-below : ℕ → In 1 plain-kinds.ps
-plain-below t = and 1 plain-kinds.ps (falls 1 plain-kinds.ps _<_ μ-plain t) plain.Pre
-
 pub +plain-root-spec : {M : Type 1} → statement M
 +plain-root-spec = close μ-plain λ t. plain-lts.spec (
   node-at-reads.Asked,
   node-at-reads.Learnt,
-  plain-below t,
+  below-height plain-kinds.ps μ-plain plain.Pre t,
   plain.Post,
   join-reads.Asked,
   join-reads.Learnt,
   node-hash-reads.Asked,
   node-hash-reads.Learnt,
 )
-    (plain-at t)
+    (at-height plain-kinds.ps μ-plain plain.Pre t)
     plain.Post
     (λ c κs. let s = c .before .before in omega (arith, one-size (s .args .height) (s .args .size) (s .pre .1 .0) (c .if1 .taken)))
     (λ c.
