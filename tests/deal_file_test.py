@@ -82,6 +82,13 @@ class Locks(Deals):
     def waiting(self, *words):
         return subprocess.Popen([self.program, *words], cwd=self.folder, stdout=subprocess.PIPE, stderr=subprocess.PIPE)
 
+    def waiting_booking(self):
+        """A lock of a deal, and a booking that waits until it ends."""
+        self.deal_of(1024, (128,))
+        self.put("segment", self.segment())
+        held = self.held()
+        return held, self.waiting("book", "deal", "segment")
+
     def test_a_booking_waits_and_says_so_after_a_second(self):
         self.deal_of(1024, (128,))
         self.put("segment", self.segment())
@@ -97,10 +104,7 @@ class Locks(Deals):
         self.assertEqual((call.returncode, out[:9]), (0, b"offset 12"))
 
     def test_a_short_wait_is_not_told(self):
-        self.deal_of(1024, (128,))
-        self.put("segment", self.segment())
-        held = self.held()
-        call = self.waiting("book", "deal", "segment")
+        held, call = self.waiting_booking()
         time.sleep(0.05)
         held.close()
         _, err = call.communicate(timeout=10)
@@ -108,10 +112,7 @@ class Locks(Deals):
 
     def test_the_lock_holds_over_a_replacement(self):
         """A waiter that gets the lock of a file that is no longer the deal goes on to the new one."""
-        self.deal_of(1024, (128,))
-        segment = self.put("segment", self.segment())
-        held = self.held()
-        call = self.waiting("book", "deal", "segment")
+        held, call = self.waiting_booking()
         time.sleep(0.2)
         other = MODEL.book(self.get("deal"), self.segment())[3]
         self.put("new", other)
@@ -122,7 +123,7 @@ class Locks(Deals):
         self.assertIsNone(call.poll())
         second.close()
         call.communicate(timeout=10)
-        self.assertEqual((call.returncode, self.get("deal")), (0, MODEL.book(other, segment)[3]))
+        self.assertEqual((call.returncode, self.get("deal")), (0, MODEL.book(other, self.get("segment"))[3]))
 
     def test_the_lock_is_one_under_every_name(self):
         self.deal_of(1024, (128,))
@@ -138,10 +139,7 @@ class Locks(Deals):
         self.assertEqual(sorted(p.name for p in self.path("folder").iterdir()), ["link"])
 
     def test_the_lock_ends_with_its_process(self):
-        self.deal_of(1024, (128,))
-        self.put("segment", self.segment())
-        held = self.held()
-        call = self.waiting("book", "deal", "segment")
+        held, call = self.waiting_booking()
         time.sleep(0.1)
         call.kill()
         call.communicate()

@@ -1,8 +1,7 @@
 //! A deal in memory: its slots, finding a segment, booking one.
 use crate::codes::{accepted, Refusal};
-use crate::entry::Entry;
+use crate::entry::{written, Entry};
 use crate::ffi;
-use crate::node::Node;
 
 /// The largest deal that is held in memory, in bytes.
 pub const MAX_DEAL: usize = 1 << 24;
@@ -62,24 +61,10 @@ pub enum Booking {
 
 /// What stands at an entry place of a deal. Refusals: 2, 11, 6.
 pub fn inspect(deal: &[u8], place: u64) -> Result<Slot, Refusal> {
-    let mut state = 0;
-    let mut commitment = [0; 32];
-    let (mut offset, mut size) = (0, 0);
-    // SAFETY: both slices are live, and all that is written are locals of their own.
-    let code = unsafe {
-        ffi::vz_inspect(
-            deal.as_ptr(),
-            deal.len(),
-            place,
-            &mut state,
-            commitment.as_mut_ptr(),
-            commitment.len(),
-            &mut offset,
-            &mut size,
-        )
-    };
-    accepted(code)?;
-    let entry = Entry { commitment: Node(commitment), offset, size };
+    // SAFETY: both slices are live, and what is written are locals of their own.
+    let (state, entry) = written(|state, node, offset, size| unsafe {
+        ffi::vz_inspect(deal.as_ptr(), deal.len(), place, state, node.as_mut_ptr(), node.len(), offset, size)
+    })?;
     Ok(match state {
         0 => Slot::Free,
         1 => Slot::Standing(entry),
@@ -140,6 +125,7 @@ pub fn book(deal: &mut [u8], segment: &[u8]) -> Result<Booking, Refusal> {
 mod tests {
     use super::*;
     use crate::entry::make_entry;
+    use crate::node::Node;
     use crate::testing::segment;
     use crate::tree::commitment;
 

@@ -131,26 +131,24 @@ fn commit_stream(file: &Stream) -> Result<Answer, Failure> {
 
 fn pad(raw: &Stream, output: Option<Stream>) -> Result<Answer, Failure> {
     let raw = files::read(raw)?;
-    let progress = Progress::start("padding", raw.bytes.len());
-    let segment = match vizhuthamen::pad(&raw.bytes) {
+    let segment = match Progress::during("padding", raw.bytes.len(), || vizhuthamen::pad(&raw.bytes)) {
         Ok(segment) => segment,
         Err(refusal) => {
             let note = format!("{}; an archive has from 1 to {MAX_RAW} bytes", raw.described());
             return Ok(Answer::refused(refusal).with_note(note));
         }
     };
-    drop(progress);
     put_or_show("segment", output, &segment, &raw)
 }
 
 fn unpad(raw_length: u64, segment: &Stream, output: Option<Stream>) -> Result<Answer, Failure> {
     let segment = files::read(segment)?;
-    let progress = Progress::start("unpadding", segment.bytes.len());
-    let raw = match vizhuthamen::unpad(raw_length, &segment.bytes) {
+    let unpadded =
+        Progress::during("unpadding", segment.bytes.len(), || vizhuthamen::unpad(raw_length, &segment.bytes));
+    let raw = match unpadded {
         Ok(raw) => raw,
         Err(refusal) => return Ok(unpad_refused(refusal, raw_length, &segment)),
     };
-    drop(progress);
     put_or_show("raw", output, &raw, &segment)
 }
 
@@ -181,12 +179,11 @@ fn tally(deal: &Stream) -> Result<Answer, Failure> {
 
 fn find(deal: &Stream, commitment: &[u8], output: Option<Stream>) -> Result<Answer, Failure> {
     let deal = files::read_deal(deal)?;
-    let progress = Progress::start("searching", deal.bytes.len());
-    let found = match vizhuthamen::find(&deal.bytes, commitment) {
+    let found = Progress::during("searching", deal.bytes.len(), || vizhuthamen::find(&deal.bytes, commitment));
+    let found = match found {
         Ok(found) => found,
         Err(refusal) => return Ok(refused(refusal, &deal)),
     };
-    drop(progress);
     let answer = Answer::done("done")
         .with_value("offset", Json::Number(found.offset))
         .with_value("size", Json::Number(found.size))
@@ -196,12 +193,10 @@ fn find(deal: &Stream, commitment: &[u8], output: Option<Stream>) -> Result<Answ
 
 fn build(deal: &Stream, place: u64, output: Option<Stream>) -> Result<Answer, Failure> {
     let deal = files::read_deal(deal)?;
-    let progress = Progress::start("building", deal.bytes.len());
-    let record = match vizhuthamen::build(&deal.bytes, place) {
+    let record = match Progress::during("building", deal.bytes.len(), || vizhuthamen::build(&deal.bytes, place)) {
         Ok(record) => record,
         Err(refusal) => return Ok(refused(refusal, &deal)),
     };
-    drop(progress);
     put_or_show("record", output, &record, &deal)
 }
 

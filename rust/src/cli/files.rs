@@ -202,12 +202,37 @@ mod tests {
 
     const ACCESS: Access = Access { wait: true, new_owner: false };
 
-    /// An empty folder of its own for one test.
-    fn folder(name: &str) -> PathBuf {
+    /// A folder of its own for one test, which goes when the test ends.
+    struct Folder(PathBuf);
+
+    impl std::ops::Deref for Folder {
+        type Target = Path;
+
+        fn deref(&self) -> &Path {
+            &self.0
+        }
+    }
+
+    impl Drop for Folder {
+        fn drop(&mut self) {
+            let _ = fs::remove_dir_all(&self.0);
+        }
+    }
+
+    /// An empty folder.
+    fn folder(name: &str) -> Folder {
         let path = std::env::temp_dir().join(format!("vizhuthamen-test-{}-{name}", std::process::id()));
         let _ = fs::remove_dir_all(&path);
         fs::create_dir(&path).unwrap();
-        path
+        Folder(path)
+    }
+
+    /// A folder with a deal file, whose bytes are "old".
+    fn old_deal(name: &str) -> (Folder, PathBuf) {
+        let folder = folder(name);
+        let path = folder.join("deal");
+        fs::write(&path, b"old").unwrap();
+        (folder, path)
     }
 
     fn names(folder: &Path) -> Vec<String> {
@@ -219,9 +244,8 @@ mod tests {
 
     #[test]
     fn a_replaced_file_keeps_its_permissions_and_leaves_nothing_beside_it() {
-        let folder = folder("replace");
-        let (path, link) = (folder.join("deal"), folder.join("link"));
-        fs::write(&path, b"old").unwrap();
+        let (folder, path) = old_deal("replace");
+        let link = folder.join("link");
         fs::set_permissions(&path, fs::Permissions::from_mode(0o640)).unwrap();
         std::os::unix::fs::symlink(&path, &link).unwrap();
         let deal = DealFile::open(&link, ACCESS).unwrap();
@@ -231,7 +255,6 @@ mod tests {
         assert_eq!(fs::metadata(&path).unwrap().permissions().mode() & 0o777, 0o640);
         assert!(fs::symlink_metadata(&link).unwrap().is_symlink());
         assert_eq!(names(&folder), ["deal", "deal.vz", "link"]);
-        fs::remove_dir_all(folder).unwrap();
     }
 
     #[test]
@@ -243,14 +266,11 @@ mod tests {
         let part = Part { target: target.clone(), bytes: b"bytes", keep: None };
         assert!(matches!(change::put(&Home::of(&target), &[part], || Ok(())), Err(change::Trouble::Nothing(_))));
         assert_eq!(names(&folder), ["full"]);
-        fs::remove_dir_all(folder).unwrap();
     }
 
     #[test]
     fn several_files_or_none() {
-        let folder = folder("several");
-        let path = folder.join("deal");
-        fs::write(&path, b"old").unwrap();
+        let (folder, path) = old_deal("several");
         let deal = DealFile::open(&path, ACCESS).unwrap();
         let other = |name: &str| Part { target: folder.join(name), bytes: b"other", keep: None };
         fs::create_dir(folder.join("taken")).unwrap();
@@ -263,27 +283,21 @@ mod tests {
         deal.replace(b"new", vec![other("other")]).unwrap();
         assert_eq!(names(&folder), ["deal", "deal.vz", "other", "taken"]);
         assert_eq!(fs::read(&path).unwrap(), b"new");
-        fs::remove_dir_all(folder).unwrap();
     }
 
     #[test]
     fn a_deal_that_other_hands_change_is_not_replaced() {
-        let folder = folder("hands");
-        let path = folder.join("deal");
-        fs::write(&path, b"old").unwrap();
+        let (folder, path) = old_deal("hands");
         let deal = DealFile::open(&path, ACCESS).unwrap();
         fs::write(folder.join("mine"), b"mine").unwrap();
         fs::rename(folder.join("mine"), &path).unwrap();
         assert_eq!(deal.replace(b"new", vec![]).unwrap_err().status, 74);
         assert_eq!((names(&folder), fs::read(&path).unwrap()), (vec!["deal".to_string()], b"mine".to_vec()));
-        fs::remove_dir_all(folder).unwrap();
     }
 
     #[test]
     fn a_name_that_a_dead_process_has_left_is_taken_over() {
-        let folder = folder("dead");
-        let path = folder.join("deal");
-        fs::write(&path, b"old").unwrap();
+        let (folder, path) = old_deal("dead");
         for number in [0, 3, 8] {
             fs::write(folder.join(format!(".deal.vz-new.{number}")), b"dead").unwrap();
         }
@@ -293,7 +307,6 @@ mod tests {
         fs::write(folder.join("out"), b"old").unwrap();
         replace(&folder.join("out"), b"new").unwrap();
         assert_eq!(names(&folder), ["deal", "out"]);
-        fs::remove_dir_all(folder).unwrap();
     }
 
     #[test]
@@ -320,7 +333,6 @@ mod tests {
         }
         assert_eq!(read, vec![7; PIECE + 5]);
         assert!(pieces.described().ends_with("file has 1048581 bytes"));
-        fs::remove_dir_all(folder).unwrap();
     }
 
     #[test]
@@ -341,7 +353,6 @@ mod tests {
         write(&folder.join("other"), b"again", &content).unwrap();
         assert_eq!(fs::read(folder.join("other")).unwrap(), b"again");
         assert_eq!(names(&folder), ["deal", "other"]);
-        fs::remove_dir_all(folder).unwrap();
     }
 
     #[test]
@@ -355,6 +366,5 @@ mod tests {
         assert_eq!(store::create(&path, 512).unwrap_err().status, 74);
         assert_eq!(store::create(&path, 1024).unwrap_err().status, 65);
         assert_eq!(fs::read(&path).unwrap(), b"kept");
-        fs::remove_dir_all(folder).unwrap();
     }
 }

@@ -18,6 +18,12 @@ impl Progress {
         progress
     }
 
+    /// Does work on a number of bytes, and announces it meanwhile.
+    pub fn during<T>(what: &'static str, bytes: usize, work: impl FnOnce() -> T) -> T {
+        let _progress = Progress::start(what, bytes);
+        work()
+    }
+
     /// Announces work on bytes whose number is known only as they arrive. It is shown once they are many.
     pub fn arriving(what: &'static str) -> Progress {
         Progress { what, shown: false }
