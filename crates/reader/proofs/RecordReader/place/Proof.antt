@@ -1,4 +1,5 @@
--- `RecordReader::place` meets its contract: a walk of its MIR, by hand. The borrow is looked into for the place, and shut again.
+-- `RecordReader::place` meets its contract: a walk of its MIR, by hand. The borrow is looked into for the place, and
+-- shut again.
 -- Assumes nothing.
 use mathlib.Core.Path.{refl}
 use Prim.Native.Nat.{ℕ, _<_, _^_}
@@ -15,8 +16,10 @@ use ghost.Atoms.{Atoms}
 use contract.Lifetimes.{AllOutlive}
 use contract.Monad.{Fun}
 use contract.Running.{givenOf, tables, tablesOf}
-use types.Kit.{Given, ‵, _⊛_, ⋆, _$_, _∵_, !, qed, by, move, keep, drop, split, join, fsplit, fsplit3, fjoin, fjoin3, feqI, suffices, frame, done}
-use types.Run.{look, init, forget, stop, hop, fld, from, load, of-opd, assigns, returns, enter, alloc1, alloc0, params1, pass1, pass0, free1, free0}
+use types.Kit.{Given, ‵, _⊛_, ⋆, _$_, _∵_, !, qed, by, move, keep, drop, split, join, fsplit, fsplit3, fjoin, fjoin3}
+use types.Kit.{feqI, suffices, frame, done}
+use types.Run.{look, init, forget, stop, hop, fld, from, load, of-opd, assigns, returns, enter, alloc1, alloc0, params1}
+use types.Run.{pass1, pass0, free1, free0}
 use types.Part.{whole, sub, look-in}
 use sound.WpLaws.{WpFn-mono}
 use denote.RattleType.{RattleType, owns}
@@ -57,7 +60,9 @@ behind = plain (λ κs. T.the-row (namedLft 2 1 tt κs))
 abbrev stayed : Stays (place.ended .signature .params) (place.ended .kept)
 stayed = (stay-none-ref (0 ∷ []) tt behind yes, tt)
 
-module _ {M : Type 1} (𝓤 : URA M) (H : Heap 𝓤) (A : Atoms 𝓤) (W : Given 𝓤 H A) (mem : Memory → SProp 𝓤) (run : Routine → Fun 𝓤) (κ κ′ : Lft) (q q′ : Share) (bounds : AllOutlive 2 (place.signature .outlives) (κ, (κ′, tt))) (b o : ℕ) (γ : GName) (h : RecordReader) where
+module _ {M : Type 1} (𝓤 : URA M) (H : Heap 𝓤) (A : Atoms 𝓤) (W : Given 𝓤 H A) (mem : Memory → SProp 𝓤)
+    (run : Routine → Fun 𝓤) (κ κ′ : Lft) (q q′ : Share)
+    (bounds : AllOutlive 2 (place.signature .outlives) (κ, (κ′, tt))) (b o : ℕ) (γ : GName) (h : RecordReader) where
   abbrev x : RefT RecordReader × Unit {0}
   x = (record { ptr = (b, o); name = γ; now = h }, tt)
 
@@ -74,37 +79,61 @@ module _ {M : Type 1} (𝓤 : URA M) (H : Heap 𝓤) (A : Atoms 𝓤) (W : Given
   L = T′.the-laws (α κ′)
 
   abbrev Post : Val → SProp 𝓤
-  Post = walkOf 𝓤 H A place.ended stayed (place.clauses 𝓤 H A mem run) .post (((κ, (κ′, tt)), (q, (q′, tt)), bounds, x, at), tt)
+  Post = walkOf 𝓤 H A place.ended stayed (place.clauses 𝓤 H A mem run) .post
+      (((κ, (κ′, tt)), (q, (q′, tt)), bounds, x, at), tt)
 
-  exits : h .place < 2 ^ 64 → ent 𝓤 (⋆ 𝓤 H A (‵ (flft κ q) ∷ (‵ (flft κ′ q′) ⊛ ‵ ftrue) ∷ ‵ (fres γ (B κ′ .coded .code h)) ∷ ‵ (fshr-bor κ (λ s. partAt (B κ′) s h b o)) ∷ [])) (Post (vint w64 (h .place)))
+  exits : h .place < 2 ^ 64 → ent 𝓤 (⋆ 𝓤 H A (‵ (flft κ q) ∷ (‵ (flft κ′ q′) ⊛ ‵ ftrue)
+      ∷ ‵ (fres γ (B κ′ .coded .code h)) ∷ ‵ (fshr-bor κ (λ s. partAt (B κ′) s h b o)) ∷ []))
+      (Post (vint w64 (h .place)))
   exits g =
-      qed W (‵ (flft κ q) ∷ (‵ (flft κ′ q′) ⊛ ‵ ftrue) ∷ ‵ (fres γ (B κ′ .coded .code h)) ∷ ‵ (fshr-bor κ (λ s. partAt (B κ′) s h b o)) ∷ []) ∵
-      suffices ! _ (ends-at 𝓤 H A place.ended stayed (place.clauses 𝓤 H A mem run) W (((κ, (κ′, tt)), (q, (q′, tt)), bounds, x, at), tt) (vint w64 (h .place)) (h .place) (tt, tt) (tt, tt)) $ says ! refl $
-      join ! $ frame ! $ feqI ! (List Val) (vptr b o ∷ []) (vptr b o ∷ []) refl $ fjoin3 ! $ nothing ! $ move ! (1 ∷ 0 ∷ []) $ fjoin ! $ frame ! $
+      qed W (‵ (flft κ q) ∷ (‵ (flft κ′ q′) ⊛ ‵ ftrue) ∷ ‵ (fres γ (B κ′ .coded .code h))
+      ∷ ‵ (fshr-bor κ (λ s. partAt (B κ′) s h b o)) ∷ []) ∵
+      suffices ! _ (ends-at 𝓤 H A place.ended stayed (place.clauses 𝓤 H A mem run) W
+      (((κ, (κ′, tt)), (q, (q′, tt)), bounds, x, at), tt) (vint w64 (h .place)) (h .place) (tt, tt) (tt, tt)) $
+      says ! refl $
+      join ! $ frame ! $ feqI ! (List Val) (vptr b o ∷ []) (vptr b o ∷ []) refl $ fjoin3 ! $ nothing ! $
+      move ! (1 ∷ 0 ∷ []) $ fjoin ! $ frame ! $
       owned ! usize (Is usize) (uint-makes 𝓤 H A W w64) (h .place) _ (refl, g) $ done !
 
   module _ (C : Calls 𝓤 H) (Λ : Loops 𝓤 H) where
-    walk : ent 𝓤 (onEntry 𝓤 H A place.signature (κ, (κ′, tt)) (q, (q′, tt)) x at) (WpFn 𝓤 H C Λ code.function (vptr b o ∷ []) Post)
+    walk : ent 𝓤 (onEntry 𝓤 H A place.signature (κ, (κ′, tt)) (q, (q′, tt)) x at)
+        (WpFn 𝓤 H C Λ code.function (vptr b o ∷ []) Post)
     walk =
-        qed W ((‵ (flft κ q) ⊛ ‵ (flft κ′ q′) ⊛ ‵ ftrue) ∷ ‵ (owns (ShrRef (named 0) κ (B κ′) ∷ []) x at) ∷ []) ∵ enter ! C Λ code.function (vptr b o ∷ []) _ $
+        qed W ((‵ (flft κ q) ⊛ ‵ (flft κ′ q′) ⊛ ‵ ftrue) ∷ ‵ (owns (ShrRef (named 0) κ (B κ′) ∷ []) x at) ∷ []) ∵ enter
+        ! C Λ code.function (vptr b o ∷ []) _ $
         alloc1 ! (λ l₀. alloc1 ! (λ l₁. alloc0 ! $ params1 ! $ pass1 ! (init ! 0 refl (tt, tt)) $ pass0 ! $
         move ! (5 ∷ []) $ fsplit ! $ fsplit3 ! $ drop ! $ move ! (7 ∷ []) $ split ! $ move ! (3 ∷ 0 ∷ []) $
-        looks ! tt (B κ′) (Is (B κ′)) (shows 𝓤 H A (B κ′)) (LL.vals D L) (LL.tells D L) (LL.copy D (T′.the-copy (α κ′)) 𝓤 H A W) h b o (λ q″ vs.
-        spelt ! (B κ′) (Is (B κ′)) (shows 𝓤 H A (B κ′)) (LL.vals D L) (LL.tells D L) q″ h vs b o $ move ! (1 ∷ []) $ peeks ! (B κ′) (Is (B κ′)) (shows 𝓤 H A (B κ′)) h (mach ∷ []) (λ g. move ! (1 ∷ 0 ∷ []) $
-        -- [a share of the struct's cell; what a reader owns; what shuts it; the fractured borrow; 'a's token; res; true; _1; …; room for _0; …]
-        assigns ! (of-opd ! (load ! (from ! (hop ! (look ! 7 refl) (fld ! refl (stop !)))) (look-in ! 0 (sub ! 1 refl (whole !))))) (from ! (stop !)) (init ! 9 refl (tt, record { fits = g .1 .1 .1 .0 .1 })) $
+        looks ! tt (B κ′) (Is (B κ′)) (shows 𝓤 H A (B κ′)) (LL.vals D L) (LL.tells D L)
+        (LL.copy D (T′.the-copy (α κ′)) 𝓤 H A W) h b o (λ q″ vs.
+        spelt ! (B κ′) (Is (B κ′)) (shows 𝓤 H A (B κ′)) (LL.vals D L) (LL.tells D L) q″ h vs b o $ move ! (1 ∷ []) $
+        peeks ! (B κ′) (Is (B κ′)) (shows 𝓤 H A (B κ′)) h (mach ∷ []) (λ g. move ! (1 ∷ 0 ∷ []) $
+        -- [a share of the struct's cell; what a reader owns; what shuts it; the fractured borrow; 'a's token; res;
+        -- true; _1; …; room for _0; …]
+        assigns ! (of-opd ! (load ! (from ! (hop ! (look ! 7 refl) (fld ! refl (stop !))))
+        (look-in ! 0 (sub ! 1 refl (whole !))))) (from ! (stop !))
+        (init ! 9 refl (tt, record { fits = g .1 .1 .1 .0 .1 })) $
         shuts ! tt (B κ′) q″ h (mach ∷ []) b o $
         -- [the token; the fractured borrow; 'a's token; res; true; _1; …; _0; …]
-        returns ! (look ! 7 refl) $ forget ! 5 refl $ forget ! 7 refl $ move ! (7 ∷ 8 ∷ []) $ free1 ! $ move ! (5 ∷ 6 ∷ []) $ free1 ! $ free0 ! $ keep ! (0 ∷ 2 ∷ 3 ∷ 1 ∷ []) $ by ! (exits (g .1 .1 .1 .0 .1))))))
+        returns ! (look ! 7 refl) $ forget ! 5 refl $ forget ! 7 refl $ move ! (7 ∷ 8 ∷ []) $ free1 ! $
+        move ! (5 ∷ 6 ∷ []) $ free1 ! $ free0 ! $ keep ! (0 ∷ 2 ∷ 3 ∷ 1 ∷ []) $ by ! (exits (g .1 .1 .1 .0 .1))))))
 
-module _ {M : Type 1} (𝓤 : URA M) (H : Heap 𝓤) (A : Atoms 𝓤) (W : Given 𝓤 H A) (mem : Memory → SProp 𝓤) (run : Routine → Fun 𝓤) where
-  place-walks : (C : Calls 𝓤 H) (Λ : Loops 𝓤 H) → Walks 𝓤 H A place.ended stayed (WpFn 𝓤 H C Λ code.function) (place.clauses 𝓤 H A mem run)
-  place-walks C Λ = walked 𝓤 H A place.ended stayed (place.clauses 𝓤 H A mem run) (WpFn 𝓤 H C Λ code.function) (λ κs. (ptr-vals, tt)) (λ κs. (shr-tells (named 0) (κs .0) (B (κs .1 .0)), tt))
-      (λ κs qs bounds a _ _. via 𝓤 _ (fst∗ 𝓤 _ (emp 𝓤)) (walk 𝓤 H A W mem run (κs .0) (κs .1 .0) (qs .0) (qs .1 .0) bounds (a .0 .ptr .0) (a .0 .ptr .1) (a .0 .name) (a .0 .now) C Λ))
+module _ {M : Type 1} (𝓤 : URA M) (H : Heap 𝓤) (A : Atoms 𝓤) (W : Given 𝓤 H A) (mem : Memory → SProp 𝓤)
+    (run : Routine → Fun 𝓤) where
+  place-walks : (C : Calls 𝓤 H) (Λ : Loops 𝓤 H)
+      → Walks 𝓤 H A place.ended stayed (WpFn 𝓤 H C Λ code.function) (place.clauses 𝓤 H A mem run)
+  place-walks C Λ = walked 𝓤 H A place.ended stayed (place.clauses 𝓤 H A mem run) (WpFn 𝓤 H C Λ code.function)
+      (λ κs. (ptr-vals, tt)) (λ κs. (shr-tells (named 0) (κs .0) (B (κs .1 .0)), tt))
+      (λ κs qs bounds a _ _. via 𝓤 _ (fst∗ 𝓤 _ (emp 𝓤))
+      (walk 𝓤 H A W mem run (κs .0) (κs .1 .0) (qs .0) (qs .1 .0) bounds (a .0 .ptr .0) (a .0 .ptr .1) (a .0 .name)
+      (a .0 .now) C Λ))
 
-place-meets : {M : Type 1} (𝓤 : URA M) (H : Heap 𝓤) (A : Atoms 𝓤) → Given 𝓤 H A → (mem : Memory → SProp 𝓤) (run : Routine → Fun 𝓤) (𝓣 : Tables 𝓤 H)
+place-meets : {M : Type 1} (𝓤 : URA M) (H : Heap 𝓤) (A : Atoms 𝓤) → Given 𝓤 H A
+    → (mem : Memory → SProp 𝓤) (run : Routine → Fun 𝓤) (𝓣 : Tables 𝓤 H)
     → Meets 𝓤 H A place.signature (WpFn 𝓤 H (𝓣 .C) (𝓣 .Λ) code.function) (place.spec 𝓤 H A mem run)
-place-meets 𝓤 H A W mem run 𝓣 = walk-meets 𝓤 H A place.ended stayed W (goes-none-ref 𝓤 H A W 2 (0 ∷ []) tt behind yes, tt) (place.clauses 𝓤 H A mem run) (WpFn 𝓤 H (𝓣 .C) (𝓣 .Λ) code.function) (WpFn-mono 𝓤 H (W .laws) 𝓣 code.function) (place-walks 𝓤 H A W mem run (𝓣 .C) (𝓣 .Λ))
+place-meets 𝓤 H A W mem run 𝓣 = walk-meets 𝓤 H A place.ended stayed W
+    (goes-none-ref 𝓤 H A W 2 (0 ∷ []) tt behind yes, tt) (place.clauses 𝓤 H A mem run)
+    (WpFn 𝓤 H (𝓣 .C) (𝓣 .Λ) code.function) (WpFn-mono 𝓤 H (W .laws) 𝓣 code.function)
+    (place-walks 𝓤 H A W mem run (𝓣 .C) (𝓣 .Λ))
 
 pub place-spec : {M : Type 1} → stated.statement M
 unfolding code.routine tablesOf
