@@ -1,5 +1,5 @@
-// Reads from standard input a deal's commitment (32 bytes), its size (8, little-endian) and a record to the end, and prints
-// the check's code in decimal and a newline.
+// Reads from standard input a deal's commitment (32 bytes), its size (8, little-endian) and a record to the end, and
+// prints the check's code in decimal and a newline.
 
 fn wide(code: u8) -> u64 {
     code as u64

@@ -10,7 +10,7 @@ use lib.Seq.{getD-drop, getD-append-add}
 use Rattle.sha256.specs.Table.{table}
 use Rattle.sha256.specs.Fips.{_⊞_, constants, σ0, σ1, scheduleWord, nextWord, schedule, rounds, pad, zeroBytes}
 use Rattle.sha256.specs.Fips.{lengthByte, blockAt, wordAt, hashValue, compress, initial, digest, sha256}
-use Rattle.sha256.specs.TableLaws.{table-ext}
+use Rattle.sha256.specs.TableLaws.{getD-table, table-ext}
 use Rattle.sha256.specs.BlockLaws.{schedule-of, rounds-sums}
 use Rattle.sha256.specs.PaddingLaws.{pad-length, pad-block}
 use Rattle.node.specs.PaddingBlock.{paddingBlock, paddingSchedule, paddingSums}
@@ -32,13 +32,9 @@ unfolding paddingSchedule
 padding-schedule = schedule-of paddingBlock paddingSchedule 48 (omega arith) refl word-is-next
 
 -- the sums' table
-is-sum : ℕ → ℕ → Bool
-is-sum i x = eqb x (getD constants i 0 ⊞ getD paddingSchedule i 0)
-
 sum-is : (i : ℕ) → i < 64 → getD paddingSums i 0 ≡ getD constants i 0 ⊞ getD paddingSchedule i 0
-unfolding paddingSums paddingSchedule constants is-sum
-sum-is i h =
-    eqb→eq (getD paddingSums i 0) (getD constants i 0 ⊞ getD paddingSchedule i 0) (at is-sum paddingSums tt i h)
+unfolding paddingSums
+sum-is i h = getD-table (λ i. getD constants i 0 ⊞ getD paddingSchedule i 0) 64 i h
 
 -- the rounds of the padding block, with the sums as constants and no schedule
 pub padding-rounds : (h : List ℕ) → rounds paddingSums [] h 64 ≡ rounds constants (schedule paddingBlock) h 64
@@ -67,8 +63,16 @@ second-block m e =
     let b : 64 + 4 * i + 1 ≡ 64 + (0 + 4 * i + 1) = omega arith in
     let c : 64 + 4 * i + 2 ≡ 64 + (0 + 4 * i + 2) = omega arith in
     let d : 64 + 4 * i + 3 ≡ 64 + (0 + 4 * i + 3) = omega arith in
-    rw
-    (d, c, b, a, padding-at m e (0 + 4 * i), padding-at m e (0 + 4 * i + 1), padding-at m e (0 + 4 * i + 2), padding-at m e (0 + 4 * i + 3)))
+    rw (
+      d,
+      c,
+      b,
+      a,
+      padding-at m e (0 + 4 * i),
+      padding-at m e (0 + 4 * i + 1),
+      padding-at m e (0 + 4 * i + 2),
+      padding-at m e (0 + 4 * i + 3),
+    ))
     ∙ padding-words
 
 -- SHA-256 of 64 bytes

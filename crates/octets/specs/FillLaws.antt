@@ -115,7 +115,8 @@ module _ (d : List ℕ) (at n : ℕ) (s : List ℕ) (fits : length s ≤ n) (roo
       ap (λ (b : Bool). sameBytes (part d at (length s)) s && b)
       (zero-same rest ∙ ap (λ (k : ℕ). sameBytes rest (replicate k 0)) l)
       ∙ sym
-      (same-append (part d at (length s)) rest s (replicate (n - length s) 0) (part-length d at (length s) (omega arith)))
+      (same-append (part d at (length s)) rest s (replicate (n - length s) 0)
+      (part-length d at (length s) (omega arith)))
       ∙ ap (λ (v : List ℕ). sameBytes v (s ++ replicate (n - length s) 0))
       (part-append d at (length s) (n - length s) ∙ ap (part d at) m)
 
@@ -126,4 +127,5 @@ filled-after n xs at m h k =
     let r = filled-reaches n xs in
     let l : length (part (zeroFilled n xs) at m) ≡ m = part-length (zeroFilled n xs) at m (omega arith) in
     ext-getD 0 (part (zeroFilled n xs) at m) (replicate m 0) (l ∙ sym (length-replicate m 0))
-    (λ i g. getD-part (zeroFilled n xs) at m i (omega arith) ∙ filled-at n xs (at + i) ∙ List·getD-eq-default xs 0 (omega arith) ∙ sym (zeros-at m i))
+    (λ i g. getD-part (zeroFilled n xs) at m i (omega arith) ∙ filled-at n xs (at + i)
+    ∙ List·getD-eq-default xs 0 (omega arith) ∙ sym (zeros-at m i))

@@ -145,7 +145,9 @@ splice-append d at next s t h e =
     let n : at + length s + length t ≡ at + length (s ++ t) = omega (arith, length-append s t) in
     ap₂ (λ (x y : List ℕ). x ++ t ++ y)
     (take-at (take at d ++ s) (drop (at + length s) d) next l)
-    (sym (drop-drop (length t) next (splice d at s)) ∙ ap (drop (length t)) (drop-at (take at d ++ s) (drop (at + length s) d) next l) ∙ drop-drop (length t) (at + length s) d)
+    (sym (drop-drop (length t) next (splice d at s))
+    ∙ ap (drop (length t)) (drop-at (take at d ++ s) (drop (at + length s) d) next l)
+    ∙ drop-drop (length t) (at + length s) d)
     ∙ ap₂ _++_ (append-assoc (take at d) s t) (ap (λ (k : ℕ). drop k d) n)
 
 -- the same, where together they replace the whole string

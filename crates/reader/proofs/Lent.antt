@@ -45,8 +45,8 @@ module _ {M : Type 1} {𝓤 : URA M} {H : Heap 𝓤} {A : Atoms 𝓤} {K : Type 
       use2 W (‵ (flft (a ∷ κ) (PosShare·left q))) (W .lfts .lft-meet (a ∷ []) κ (PosShare·left q)) $
       -- [a ∷ κ's token; κ's; the way back; the value]
       move t (3 ∷ []) $ use1 W (later (some (λ (γ : GName). ‵
-          (MutRef (named 0) (a ∷ κ) R .own (record { ptr = (b, o); name = γ; now = h }) (vptr b o ∷ []))
-          ⊛ ‵ (flent (a ∷ κ) (Body (mem R) b o γ))))) (lends-ref 𝓤 H A W R (named 0) (a ∷ κ) h b o) $
+      (MutRef (named 0) (a ∷ κ) R .own (record { ptr = (b, o); name = γ; now = h }) (vptr b o ∷ []))
+      ⊛ ‵ (flent (a ∷ κ) (Body (mem R) b o γ))))) (lends-ref 𝓤 H A W R (named 0) (a ∷ κ) h b o) $
       await t z $ pick t (λ γ. split t $ move t (0 ∷ 2 ∷ 3 ∷ 1 ∷ 4 ∷ []) $ k a γ))
 
   pub comes-back : K → Soaks G → (R : RattleType) (κ : Lft) (q : Share) (h : R .Denot) (b o : ℕ) (a : ℕ) (γ : GName)

@@ -145,5 +145,6 @@ filled-clear n run h = by-test (noStrayBits run) refl
         (λ t.
         true≢false
         (sym (clear-nodes (length run / 32) run
-        (λ i k. rw (← filled-at n run (i * 32 + 31)) (nodes-clear (length (zeroFilled n run) / 32) (zeroFilled n run) t i (omega (arith, l)))))
+        (λ i k. rw (← filled-at n run (i * 32 + 31))
+        (nodes-clear (length (zeroFilled n run) / 32) (zeroFilled n run) t i (omega (arith, l)))))
         ∙ e))

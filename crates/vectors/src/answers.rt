@@ -32,7 +32,8 @@ fn piece_end(at: usize, length: u8, total: usize) -> usize
     at + length as usize
 }
 
-// A stream after pieces of these lengths, and the rest of the bytes in one piece. The code that sticks after each may be shown.
+// A stream after pieces of these lengths, and the rest of the bytes in one piece. The code that sticks after each may
+// be shown.
 fn take_pieces(bytes: &[u8], lengths: &[u8], shown: bool) -> Stream {
     let mut state = Stream::new();
     let mut at: usize = 0;
@@ -159,8 +160,8 @@ fn settle_records(first: &[u8], b: &[u8], size: u64, y: u64) {
     settled(answer);
 }
 
-// The strings of two paths from one position compared, each path after the node that it starts from: 17 and the two strings at
-// the first difference from the top, or 0 and zeros. The two need not lead to one node.
+// The strings of two paths from one position compared, each path after the node that it starts from: 17 and the two
+// strings at the first difference from the top, or 0 and zeros. The two need not lead to one node.
 fn compare(position: u64, a: &[u8], b: &[u8]) {
     if a.len() != b.len() {
         return;

@@ -1,5 +1,5 @@
-// Replays calls of the library's routines that stand in its standard input, and prints their answers, a line each. The calls
-// and the answers come from an independent program, tests/vectors.py.
+// Replays calls of the library's routines that stand in its standard input, and prints their answers, a line each. The
+// calls and the answers come from an independent program, tests/vectors.py.
 mod answers; // answers.rt: the calls, one function for each routine
 mod show; // show.rt: numbers and bytes on standard output
 
@@ -19,8 +19,8 @@ fn replay(operation: u64, a: &mut [u8], b: &mut [u8], x: u64, y: u64) {
     answers::answer(operation, a, b, x, y);
 }
 
-// Reads a call: five little-endian numbers (operation, length of a, length of b, x, y), then the bytes a and b. Says whether
-// there was one.
+// Reads a call: five little-endian numbers (operation, length of a, length of b, x, y), then the bytes a and b. Says
+// whether there was one.
 fn replay_next() -> bool {
     let mut header = [0u8; 40];
     if io::read_full(0, &mut header) != 40 {

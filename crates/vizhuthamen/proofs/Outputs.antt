@@ -1,4 +1,5 @@
--- The length of a lent output: the code (`lentCode`), and the output afterwards, where it is wrong and where it is right.
+-- The length of a lent output: the code (`lentCode`), and the output afterwards, where it is wrong and where it is
+-- right.
 use mathlib.Core.Path.{_≡_, _∙_}
 use Prim.Native.Nat.{ℕ}
 use mathlib.Core.List.{List}

@@ -26,7 +26,8 @@ pub extern "C" fn vz_inspect(
     ensures { λ r. ⌜ r
         ≡ lentCode 32 (now (commitment .entry)) (inspectAnswer (lentDeal (now (deal .entry))) place .code) ⌝ }
     ensures { λ r. ⌜ now (state .exit)
-        ≡ lentOutput r (stateNumber (inspectAnswer (lentDeal (now (deal .entry))) place .state)) (now (state .entry)) ⌝ }
+        ≡ lentOutput r (stateNumber (inspectAnswer (lentDeal (now (deal .entry))) place .state))
+        (now (state .entry)) ⌝ }
     ensures { λ r. ⌜ now (commitment .exit)
         ≡ lentOutput r (inspectAnswer (lentDeal (now (deal .entry))) place .commitment) (now (commitment .entry)) ⌝ }
     ensures { λ r. ⌜ now (offset .exit)
@@ -87,11 +88,14 @@ pub extern "C" fn vz_find(
 ) -> u32
     ensures { λ r. ⌜ r ≡ findNumbers (lentDeal (now (deal .entry))) (now (commitment .entry)) .code ⌝ }
     ensures { λ r. ⌜ now (offset .exit)
-        ≡ lentOutput r (findNumbers (lentDeal (now (deal .entry))) (now (commitment .entry)) .offset) (now (offset .entry)) ⌝ }
+        ≡ lentOutput r (findNumbers (lentDeal (now (deal .entry))) (now (commitment .entry)) .offset)
+        (now (offset .entry)) ⌝ }
     ensures { λ r. ⌜ now (size .exit)
-        ≡ lentOutput r (findNumbers (lentDeal (now (deal .entry))) (now (commitment .entry)) .size) (now (size .entry)) ⌝ }
+        ≡ lentOutput r (findNumbers (lentDeal (now (deal .entry))) (now (commitment .entry)) .size)
+        (now (size .entry)) ⌝ }
     ensures { λ r. ⌜ now (place .exit)
-        ≡ lentOutput r (findNumbers (lentDeal (now (deal .entry))) (now (commitment .entry)) .place) (now (place .entry)) ⌝ }
+        ≡ lentOutput r (findNumbers (lentDeal (now (deal .entry))) (now (commitment .entry)) .place)
+        (now (place .entry)) ⌝ }
 {
     let answer = index::find_numbers(deal, commitment);
     write_three(

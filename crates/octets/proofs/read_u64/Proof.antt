@@ -35,7 +35,8 @@ wide-requires c κs = search needs
 
 -- the number with one byte more, in its bounds
 value-below : (c : tie.After-wide Inv-loop μ-loop)
-    → c .wide .result + 256 * c .before .before .before .loop .value < 256 ^ (8 - (c .before .before .before .loop .i - 1))
+    → c .wide .result + 256 * c .before .before .before .loop .value
+    < 256 ^ (8 - (c .before .before .before .loop .i - 1))
 value-below c =
     let l = c .before .before .before in
     let a = l .before .before .args in

@@ -33,7 +33,8 @@ returns-2 c =
     let l = c .before .before .before .before in
     let s = l .before .before in
     sym
-    (l .loop .inv .1 ∙ same-stop (now (s .args .a)) (now (s .args .b)) (l .loop .i) (omega arith) (omega arith) (c .if2 .taken))
+    (l .loop .inv .1 ∙ same-stop (now (s .args .a)) (now (s .args .b)) (l .loop .i) (omega arith) (omega arith)
+    (c .if2 .taken))
 
 add-i : tie.Need-add-i Inv-loop μ-loop
 add-i c = search needs

@@ -220,8 +220,16 @@ module _ {M : Type 1} (𝓤 : URA M) (H : Heap 𝓤) (A : Atoms 𝓤) (W : Given
     lfts = (a ∷ κ, (κ, tt))
 
     abbrev to-next : NextField 𝓤 H A at-mem run .Ghost
-    to-next = ((lfts, (PosShare·left q, (PosShare·right q, tt)), (meet-⊑-right (a ∷ []) κ, tt), lent,
-        (vptr l 0 ∷ [], tt)), tt)
+    to-next = (
+      (
+        lfts,
+        (PosShare·left q, (PosShare·right q, tt)),
+        (meet-⊑-right (a ∷ []) κ, tt),
+        lent,
+        (vptr l 0 ∷ [], tt),
+      ),
+      tt,
+    )
 
     abbrev Ref : Fml
     Ref = MutRef (named 0) (a ∷ κ) (B κ) .own (lent .0) (vptr l 0 ∷ [])
@@ -337,8 +345,13 @@ module _ {M : Type 1} (𝓤 : URA M) (H : Heap 𝓤) (A : Atoms 𝓤) (W : Given
     -- the next turn, with p fields left to pass
     abbrev next-turn : (t : Variables) (f : Field) (p : ℕ) → p < 2 ^ 64 → f ≡ fieldAt (now s) (t .place) → p
         ≡ leftAfter f (t .left) → Holds (not (eqb (t .left) 0)) → Variables
-    next-turn t f p small e d more = record { left = p; place = after t .place; small = small; same = one-passed
-        (t .left) (now s) (t .place) p f e d more .1 ∙ t .same }
+    next-turn t f p small e d more = record {
+      left = p;
+      place = after t .place;
+      small = small;
+      same = one-passed
+          (t .left) (now s) (t .place) p f e d more .1 ∙ t .same;
+    }
 
     turns : (t : Variables) → Sq W (At t) (runs C Λ En mir.turn-1 (anyQ (Turned t)))
     unfolding afterTurn
@@ -477,9 +490,10 @@ module _ {M : Type 1} (𝓤 : URA M) (H : Heap 𝓤) (A : Atoms 𝓤) (W : Given
       → Triple 𝓤 (𝓣 .C #reader·next-field) (NextField 𝓤 H A mem run)
       → Triple 𝓤 (𝓣 .C #reader·left-after) (LeftAfter 𝓤 H A mem run)
       → Meets 𝓤 H A field.signature (WpFn 𝓤 H (𝓣 .C) (𝓣 .Λ) code.function) (field.spec 𝓤 H A mem run)
-  field-meets known-new known-next known-left = walk-meets 𝓤 H A field.ended stayed W
-      (goes-none-slice 𝓤 H A W 1 (0 ∷ []) tt (plain (λ _. u8)) yes,
-      (goes-none 𝓤 H A W 1 (λ _. usize) yes (λ κs x f. refl), tt)) (field.clauses 𝓤 H A mem run)
+  field-meets known-new known-next known-left = walk-meets 𝓤 H A field.ended stayed W (
+    goes-none-slice 𝓤 H A W 1 (0 ∷ []) tt (plain (λ _. u8)) yes,
+    (goes-none 𝓤 H A W 1 (λ _. usize) yes (λ κs x f. refl), tt),
+  ) (field.clauses 𝓤 H A mem run)
       (WpFn 𝓤 H (𝓣 .C) (𝓣 .Λ) code.function) (WpFn-mono 𝓤 H (W .laws) 𝓣 code.function)
       (field-walks known-new known-next known-left)
 

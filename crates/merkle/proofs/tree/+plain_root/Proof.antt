@@ -32,7 +32,8 @@ pub +plain-root-spec : {M : Type 1} → statement M
 )
     (at-height plain-kinds.ps μ-plain plain.Pre t)
     plain.Post
-    (λ c κs. let s = c .before .before in omega (arith, one-size (s .args .height) (s .args .size) (s .pre .1 .0) (c .if1 .taken)))
+    (λ c κs. let s = c .before .before in
+    omega (arith, one-size (s .args .height) (s .args .size) (s .pre .1 .0) (c .if1 .taken)))
     (λ c.
     let s = c .before .before .before in
     c .node-at .ensures
@@ -40,14 +41,24 @@ pub +plain-root-spec : {M : Type 1} → statement M
     (s .args .at))
     (λ c. search needs)
     (λ c κs.
-    let s = c .before .before in
-    (omega (arith, s .pre .0), (half-sized (s .args .height) (s .args .size) (s .pre .1 .0) (c .if1 .left), omega (arith, s .pre .1 .1))))
+    let s = c .before .before in (
+      omega (arith, s .pre .0),
+      (
+        half-sized (s .args .height) (s .args .size) (s .pre .1 .0) (c .if1 .left),
+        omega (arith, s .pre .1 .1),
+      ),
+    ))
     (λ c. let s = c .before .before .before in omega (arith, s .pre .1 .1))
     (λ c. search needs)
     (λ c κs.
     let s = c .before .before .before in
-    let e = two-halves (s .args .height) (s .args .size) (s .pre .1 .0) (c .before .if1 .left) in
-    (omega (arith, s .pre .0), (half-sized (s .args .height) (s .args .size) (s .pre .1 .0) (c .before .if1 .left), omega (arith, s .pre .1 .1))))
+    let e = two-halves (s .args .height) (s .args .size) (s .pre .1 .0) (c .before .if1 .left) in (
+      omega (arith, s .pre .0),
+      (
+        half-sized (s .args .height) (s .args .size) (s .pre .1 .0) (c .before .if1 .left),
+        omega (arith, s .pre .1 .1),
+      ),
+    ))
     (λ c κs. search needs) (λ c κs. search needs)
     (λ c.
     let s = c .before .before .before .before .before .before in
@@ -57,4 +68,5 @@ pub +plain-root-spec : {M : Type 1} → statement M
       c .before .before .plain-root2 .ensures,
       c .before .before .before .plain-root .ensures,
     )
-    (over-halves (s .args .height) (s .args .size) (s .pre .1 .0) (c .before .before .before .before .if1 .left) (now (s .args .run)) (s .args .at)))
+    (over-halves (s .args .height) (s .args .size) (s .pre .1 .0) (c .before .before .before .before .if1 .left)
+    (now (s .args .run)) (s .args .at)))

@@ -31,7 +31,8 @@ returns c =
     let s = p .before .before .before .before in
     p .put .ensures
     ∙ ap (splice (replicate 32 0) 0)
-    (take-all (length (now (s .args .d)) - s .args .at) (drop (s .args .at) (now (s .args .d))) (le-of-eq (length-drop (s .args .at) (now (s .args .d)))))
+    (take-all (length (now (s .args .d)) - s .args .at) (drop (s .args .at) (now (s .args .d)))
+    (le-of-eq (length-drop (s .args .at) (now (s .args .d)))))
     ∙ splice-zeros 32 (drop (s .args .at) (now (s .args .d)))
     ∙ sym (filled-end (now (s .args .d)) (s .args .at) 32 (s .pre .0) (s .pre .1))
 

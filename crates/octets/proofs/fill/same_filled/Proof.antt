@@ -21,7 +21,8 @@ returns c =
     let s = m .before .before .before in
     let a = s .args in
     sym
-    (ap (λ (b : Bool). b && allZero (part (now (a .d)) (a .at + length (now (a .s))) (a .n - length (now (a .s))))) (sym (m .same-at .ensures) ∙ not-true _ (c .if1 .taken)))
+    (ap (λ (b : Bool). b && allZero (part (now (a .d)) (a .at + length (now (a .s))) (a .n - length (now (a .s)))))
+    (sym (m .same-at .ensures) ∙ not-true _ (c .if1 .taken)))
     ∙ same-filled (now (a .d)) (a .at) (a .n) (now (a .s)) (s .pre .0) (s .pre .1)
 
 add-start : tie.Need-add-start

@@ -181,8 +181,8 @@ module _ {M : Type 1} (𝓤 : URA M) (H : Heap 𝓤) (A : Atoms 𝓤) (W : Given
       qed W (‵ (fobs γ (B κ′ .coded .code (moved p))) ∷ ‵ (fbor κ (Body (mem (B κ′)) b o γ)) ∷ ‵ (flft κ q)
       ∷ ‵ (S.the-row .own f (u ∷ [])) ∷ (‵ (flft κ′ q′) ⊛ ‵ ftrue) ∷ []) ∵
       suffices ! _ (ends-at 𝓤 H A next-field.ended stayed (next-field.clauses 𝓤 H A at-mem run) W
-          (((κ, (κ′, tt)), (q, (q′, tt)), bounds, x, at), tt) u f (moved p, tt) (tt, tt)) $
-          says ! (e, ap moved (e′ ∙ ap (λ (g : Field). nextPlace g (h .place)) e)) $
+      (((κ, (κ′, tt)), (q, (q′, tt)), bounds, x, at), tt) u f (moved p, tt) (tt, tt)) $
+      says ! (e, ap moved (e′ ∙ ap (λ (g : Field). nextPlace g (h .place)) e)) $
       move ! (2 ∷ 4 ∷ []) $ join ! $ frame ! $ feqI ! (List Val) (vptr b o ∷ []) (vptr b o ∷ []) refl $ fjoin3 ! $
       nothing ! $ move ! (1 ∷ 0 ∷ []) $ fjoin ! $ done !
 

@@ -8,8 +8,7 @@ use Rattle.vizhuthamen.proofs.output.write_64_bytes.Tie as tie
 returns : tie.Need-returns
 returns c =
     let p = c .before .before in
-    let s = p .before .before .before .before in
-    rw (p .before .before .if1 .taken) (p .put-pair .ensures .0 ∙ splice-whole (now (s .args .output)) (s .args .bytes) (cc))
+    rw (p .before .before .if1 .taken) (p .put-pair .ensures .0 ∙ splice-whole _ _ (cc))
 
 returns-2 : tie.Need-returns-2
 returns-2 c = rw (c .if1 .left)

@@ -14,7 +14,7 @@ returns-3 : tie.Need-returns-3
 returns-3 c =
     let w = c .before .before .before .before in
     let k = w .before .before .before in
-    let code = both-right 64 64 _ _ (k .settle-records .result .code) (k .before .before .if1 .left) (k .before .if2 .left) in
+    let code = both-right 64 64 _ _ _ (k .before .before .if1 .left) (k .before .if2 .left) in
     rw (← k .settle-records .ensures) (w .write-settled .ensures .0 ∙ code, w .write-settled .ensures .1)
 
 pub vz-settle-records-spec : {M : Type 1} → statement M
