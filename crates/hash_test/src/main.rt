@@ -71,9 +71,10 @@ fn digests() {
     let a = [97u8; 300];
     show_digest(b"abc");
     show_digest(b"abcdbcdecdefdefgefghfghighijhijkijkljklmklmnlmnomnopnopq");
-    show_digest(
-        b"abcdefghbcdefghicdefghijdefghijkefghijklfghijklmghijklmnhijklmnoijklmnopjklmnopqklmnopqrlmnopqrsmnopqrstnopqrstu",
-    );
+    let mut two_blocks = [0u8; 112];
+    octets::put(&mut two_blocks, 0, b"abcdefghbcdefghicdefghijdefghijkefghijklfghijklmghijklmn");
+    octets::put(&mut two_blocks, 56, b"hijklmnoijklmnopjklmnopqklmnopqrlmnopqrsmnopqrstnopqrstu");
+    show_digest(&two_blocks);
     show_digest(&a[..0]);
     show_digest(&a[..1]);
     show_digest(&a[..55]);

@@ -234,27 +234,28 @@ fn answer_reading(operation: u64, a: &[u8], b: &[u8], x: u64, y: u64) {
     }
 }
 
-pub(crate) fn answer(operation: u64, a: &mut [u8], b: &mut [u8], x: u64, y: u64) {
+// All calls: those that write too.
+fn answer_any(operation: u64, a: &mut [u8], b: &mut [u8], x: u64, y: u64) {
     if operation == 7 {
         book(a, b);
-        show::end();
         return;
     }
     if operation == 8 {
         build(a, x, b);
-        show::end();
         return;
     }
     if operation == 17 {
         pad(a, b);
-        show::end();
         return;
     }
     if operation == 18 {
         unpad(x, a, b);
-        show::end();
         return;
     }
     answer_reading(operation, a, b, x, y);
+}
+
+pub(crate) fn answer(operation: u64, a: &mut [u8], b: &mut [u8], x: u64, y: u64) {
+    answer_any(operation, a, b, x, y);
     show::end();
 }
