@@ -62,8 +62,8 @@ array-borrow-prefix-a c = search needs
 slice-aggregate-replay : tie.Need-slice-aggregate-replay
 slice-aggregate-replay c =
     let b = c .before .before in
-    let n = b .before .before .before .before .before .before .before .before .before .before .before .read-u64 .result in
-    sym (length-take-le n (b .buffer .result) (omega (arith, b .buffer .ensures)))
+    let k = b .before .before .before .before .before .before .before .before .before .before .before in
+    sym (length-take-le (k .read-u64 .result) (b .buffer .result) (omega (arith, b .buffer .ensures)))
 
 array-borrow-prefix-b : tie.Need-array-borrow-prefix-b
 array-borrow-prefix-b c = omega (arith, c .before .buffer2 .ensures)
@@ -71,8 +71,8 @@ array-borrow-prefix-b c = omega (arith, c .before .buffer2 .ensures)
 slice-aggregate-replay-2 : tie.Need-slice-aggregate-replay-2
 slice-aggregate-replay-2 c =
     let b = c .before .before in
-    let n = b .before .before .before .before .before .before .before .before .before .before .read-u642 .result in
-    sym (length-take-le n (b .buffer2 .result) (omega (arith, b .buffer2 .ensures)))
+    let k = b .before .before .before .before .before .before .before .before .before .before in
+    sym (length-take-le (k .read-u642 .result) (b .buffer2 .result) (omega (arith, b .buffer2 .ensures)))
 
 replay-requires : tie.Need-replay-requires
 replay-requires c κs = search needs
