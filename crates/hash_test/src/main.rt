@@ -72,8 +72,16 @@ fn digests() {
     show_digest(b"abc");
     show_digest(b"abcdbcdecdefdefgefghfghighijhijkijkljklmklmnlmnomnopnopq");
     let mut two_blocks = [0u8; 112];
-    octets::put(&mut two_blocks, 0, b"abcdefghbcdefghicdefghijdefghijkefghijklfghijklmghijklmn");
-    octets::put(&mut two_blocks, 56, b"hijklmnoijklmnopjklmnopqklmnopqrlmnopqrsmnopqrstnopqrstu");
+    octets::put(
+        &mut two_blocks,
+        0,
+        b"abcdefghbcdefghicdefghijdefghijkefghijklfghijklmghijklmn",
+    );
+    octets::put(
+        &mut two_blocks,
+        56,
+        b"hijklmnoijklmnopjklmnopqklmnopqrlmnopqrsmnopqrstnopqrstu",
+    );
     show_digest(&two_blocks);
     show_digest(&a[..0]);
     show_digest(&a[..1]);
