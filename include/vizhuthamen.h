@@ -5,9 +5,10 @@
  * pointer may be dangling only where its length is 0, and is never NULL. Memory that is written must not overlap any
  * other argument.
  *
- * An output that has one fixed length is refused with 12, before all else, where it has another. Outputs are written
- * with code 0 (also with 15 in vz_book, and with 17 in the two settlings) and left as they were with every other code.
- * A stream's state is written by vz_stream_take with every code but 12.
+ * An output that has one fixed length is refused with 12, before all else, where it has another; a tree is refused with
+ * 12 right after 11. Outputs are written with code 0 (numbers also with 15 in the bookings, strings with 17 in the
+ * settlings) and left as they were with every other code. A stream's state is written by vz_stream_take with every code
+ * but 12.
  */
 #ifndef VIZHUTHAMEN_H
 #define VIZHUTHAMEN_H
@@ -32,7 +33,7 @@ enum {
   VZ_SEGMENT_PATH = 9,       /* the segment path does not lead to the deal commitment */
   VZ_ENTRY_PATH = 10,        /* the entry path does not lead to it */
   VZ_STRAY_BITS = 11,        /* a node of a lent run, deal, stream or segment has stray bits */
-  VZ_OUTPUT = 12,            /* a lent output is too short, or not of its one length */
+  VZ_OUTPUT = 12,            /* a lent output is too short, or an output or a tree is not of its one length */
   VZ_NO_SLOT = 13,           /* no slot is free */
   VZ_NO_PLACE = 14,          /* no free place */
   VZ_ALREADY_KEPT = 15,      /* the segment is kept already */
@@ -136,6 +137,37 @@ uint32_t vz_settle_records(const uint8_t *commitment, size_t commitment_len, uin
  * pair as above. Codes: 2, 11, those of the check against the deal's own commitment and length, 17. */
 uint32_t vz_settle_with_deal(const uint8_t *deal, size_t deal_len, const uint8_t *record, size_t record_len,
                              uint8_t *left, size_t left_len, uint8_t *right, size_t right_len);
+
+/* The tree of a deal of D bytes: a buffer that the caller keeps beside the deal, with every inner node of its tree,
+ * heights from the bottom, left to right: node i of height h, from 1 on, stands at D - D / 2^(h - 1) + 32 i, and the
+ * deal's commitment in the last 32 bytes. It has D - 32 bytes; any other length, longer ones too, is refused with 12.
+ *
+ * The functions that take a tree take every inner node that they need as it stands there, and hash little of the deal.
+ * With a tree that was filled for the deal, where since then both were changed by vz_tree_fill and vz_book_with_tree
+ * alone, their answers are those of the functions without one. With any other tree they answer too, but a record that
+ * is built may be refused by vz_check, a kept segment may be booked again, and the two strings of a settling may have
+ * two node hashes. */
+
+/* Writes every inner node of a deal into its tree. Codes: 2, 11, 12. */
+uint32_t vz_tree_fill(const uint8_t *deal, size_t deal_len, uint8_t *tree, size_t tree_len);
+
+/* vz_book with the tree in hand. An entry is kept where its commitment is the node over its area in the tree. With 0
+ * every node above the bytes that are written to the deal is worked out anew, from the bottom up; no other byte of the
+ * tree changes. Codes: 2, 4, 11, 12, 15, 13, 14. */
+uint32_t vz_book_with_tree(uint8_t *deal, size_t deal_len, uint8_t *tree, size_t tree_len, const uint8_t *segment,
+                           size_t segment_len, uint64_t *offset, uint64_t *place);
+
+/* vz_build with the tree in hand: whether the entry is kept, and the nodes of both paths, are read there. Codes: 2, 11,
+ * 12 (tree), 6, 16, 12 (record). */
+uint32_t vz_build_with_tree(const uint8_t *deal, size_t deal_len, const uint8_t *tree, size_t tree_len, uint64_t place,
+                            uint8_t *record, size_t record_len, uint64_t *length);
+
+/* vz_settle_with_deal with the tree in hand: the record is checked against the tree's last node and deal_len, and the
+ * deal's strings are the pairs of nodes in the tree, and the entry's 64 bytes of the deal. Codes: 2, 11, 12, those of
+ * the check, 17. */
+uint32_t vz_settle_with_tree(const uint8_t *deal, size_t deal_len, const uint8_t *tree, size_t tree_len,
+                             const uint8_t *record, size_t record_len, uint8_t *left, size_t left_len, uint8_t *right,
+                             size_t right_len);
 
 /* The field at a place of a record: its tag, where its content starts, the content's length, the next field's place.
  * Codes: 3 where no field lies there. */

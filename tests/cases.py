@@ -1,125 +1,7 @@
-"""Calls of the library's routines, random and adversarial, with the answers of the independent model.
-
-A case is a header of five little-endian u64 (operation, length of a, length of b, x, y), then the bytes a and b. Its answer is one
-line of text: the code, the numbers in decimal, the bytes in hex. `encode` and `answer` say what each operation takes and prints.
-"""
-import hashlib
-
-from model import (MAX_RAW, Model, area, filled, index_numbers, le, pad, power, segment_bit, segment_length, sha256,
-                   unpad)
-
-# The operations by number, as crates/vectors and rust/examples/replay/operation.rs have them. CHECK_INPUT is of the program check_record,
-# and COMPARE of the code that settling shares (two paths from one position): no routines of their own.
-(SHA256, COMMITMENT, NUMBERS, MAKE, READ, FIND, BOOK, BUILD, CHECK, SETTLE, SETTLE_DEAL, FIELDS, CHECK_INPUT, INSPECT, COMPARE, STREAM, PAD,
- UNPAD, TALLY) = range(1, 20)
-
-NAMES = {SHA256: "sha256", COMMITMENT: "commitment", NUMBERS: "index_numbers", MAKE: "make_entry", READ: "read_entry", FIND: "find",
-         BOOK: "book", BUILD: "build", CHECK: "check", SETTLE: "settle_records", SETTLE_DEAL: "settle_with_deal", FIELDS: "read_field",
-         TALLY: "tally"}
-
-MODEL = Model()
-
-
-def encode(case):
-    op, a, b, x, y = case
-    return le(op) + le(len(a)) + le(len(b)) + le(x) + le(y) + a + b
-
-
-def line(*parts):
-    return " ".join(p.hex() if isinstance(p, (bytes, bytearray)) else str(int(p)) for p in parts) + "\n"
-
-
-def digest(data):
-    return hashlib.sha256(data).digest()
-
-
-def fields(record):
-    """The fields read in turn from place 0, whatever their tags: tag, start, length, next; then the place that is no field."""
-    at, out = 0, []
-    while at + 3 <= len(record):
-        n = record[at + 1] + 256 * record[at + 2]
-        if at + 3 + n > len(record):
-            break
-        out += [record[at], at + 3, n, at + 3 + n]
-        at += 3 + n
-    return out + [at]
-
-
-def answer(case):
-    op, a, b, x, y = case
-    m = MODEL
-    if op == SHA256:
-        return line(*sha256(a))
-    if op == COMMITMENT:
-        return line(*m.commitment(a))
-    if op == NUMBERS:
-        return line(*index_numbers(x))
-    if op == MAKE:
-        return line(*m.make_entry(a, x, y))
-    if op == READ:
-        return line(*m.read_entry(a))
-    if op == FIND:  # the view as its length and its SHA-256
-        code, o, s, p = m.find(a, b)
-        return line(code, o, s, p, s, digest(a[o : o + s]))
-    if op == BOOK:  # the deal afterwards as its SHA-256
-        code, o, p, deal = m.book(a, b)
-        return line(code, o, p, digest(deal))
-    if op == BUILD:  # b is the output before, x the place; the output afterwards as its SHA-256
-        code, record = m.build(a, x)
-        if code == 0 and len(b) < len(record):
-            code = 12
-        out = record + b[len(record):] if code == 0 else b
-        return line(code, len(record) if code == 0 else 0, digest(out))
-    if op == CHECK:  # a is the record, b the commitment, x the deal size
-        return line(m.check(b, x, a))
-    if op == SETTLE:  # a is the first record; b the commitment, y bytes long, and then the second record
-        return line(*m.settle_records(b[:y], x, a, b[y:]))
-    if op == SETTLE_DEAL:  # a is the deal, b the record
-        return line(*m.settle_deal(a, b))
-    if op == FIELDS:
-        return line(0, *fields(a))
-    if op == CHECK_INPUT:
-        return line(check_input(a))
-    if op == COMPARE:  # a and b are a node and a path each, x the position
-        nodes = lambda data: [data[i : i + 32] for i in range(32, len(data), 32)]
-        return line(*m.settled(m.path_strings(a[:32], x, nodes(a)), m.path_strings(b[:32], x, nodes(b))))
-    if op == INSPECT:  # a is the deal, x the place
-        return line(*m.inspect(a, x))
-    if op == STREAM:  # a are the bytes, b the lengths of the pieces but the last; after the answer the code that sticks after each
-        code, node, count, codes = m.stream(pieces(a, b))
-        return line(code, node, count, *codes)
-    if op == PAD:  # a are the raw bytes, b is the output before; the output afterwards as its SHA-256
-        code, n, out = pad(a, b)
-        return line(code, n, digest(out))
-    if op == UNPAD:  # a is the segment, b the output before, x the raw length; the output afterwards as its SHA-256
-        code, n, out = unpad(x, a, b)
-        return line(code, n, digest(out))
-    if op == TALLY:  # a is the deal
-        return line(*m.tally(a))
-    raise ValueError(op)
-
-
-def pieces(data, lengths):
-    """Pieces of these lengths, as far as the bytes go, and then the rest in one piece."""
-    out, at = [], 0
-    for n in lengths:
-        out.append(data[at : at + n])
-        at += n
-    return [*out, data[at:]]
-
-
-def check_input(data):
-    """What the program check_record prints for its input."""
-    if len(data) < 32:
-        return 1
-    if len(data) < 40:
-        return 2
-    if len(data) > 40 + 4096:
-        return 3
-    return MODEL.check(data[:32], int.from_bytes(data[32:40], "little"), data[40:])
-
-
-# ---- what the calls are made of
+"""Calls of the library's routines, random and adversarial."""
+from model import MAX_RAW, area, filled, height, index_numbers, node_place, pad, power, segment_bit, segment_length
+from operations import (BOOK, BUILD, CHECK, COMMITMENT, FIELDS, FILL, FIND, INSPECT, MAKE, MODEL, NAMES, NUMBERS, PAD, PLAIN_FORM, READ,
+                        SETTLE, SETTLE_DEAL, SETTLE_TREE, SHA256, STREAM, UNPAD, Case)
 
 RAW_LENGTHS = (1, 2, 31, 32, 63, 64, 126, 127, 128, 254, 255, 381, 508, 1016)
 TOTALS = (0, 1, 31, 32, 33, 63, 64, 65, 96, 127, 128, 256, 1000, 1024, 2048, 4064, 4096)
@@ -291,18 +173,80 @@ def place(rng, d):
     return start + 64 * rng.randrange(n)
 
 
-def kept_places(data):
+def standing_places(data):
+    """The places of a deal's standing entries; most of them are kept."""
     code, n, start = index_numbers(len(data))
     if code or len(data) > 1 << 24:
         return []
-    return [start + 64 * i for i in range(n) if MODEL.kept(data, i)]
+    return [start + 64 * i for i in range(n) if MODEL.standing(data, i)]
 
 
-def record_of(rng, data):
-    """A record of the deal, or one of another shape."""
-    places = kept_places(data)
+def kept_places(data):
+    start = index_numbers(len(data))[2]
+    return [p for p in standing_places(data) if MODEL.kept(data, (p - start) // 64)]
+
+
+def area_at(data, p):
+    """Offset and area of the valid entry at a place."""
+    _, _, _, o, s = MODEL.read_entry(data[p : p + 64])
+    return o, area(s)
+
+
+def believing(data, tree):
+    """The tree with the commitment of each standing entry over its area: all are kept by this tree."""
+    out = bytearray(tree)
+    for p in standing_places(data):
+        o, a = area_at(data, p)
+        at = node_place(len(data), height(a), o // a)
+        out[at : at + 32] = data[p : p + 32]
+    return bytes(out)
+
+
+def stale_tree(rng, data):
+    """The tree of the deal as it was before one of its entries, with its segment, came in."""
+    before, places = bytearray(data), standing_places(data)
+    for p in rng.sample(places, min(1, len(places))):
+        o, a = area_at(data, p)
+        before[o : o + a], before[p : p + 64] = bytes(a), bytes(64)
+    return MODEL.fill(bytes(before), bytes(len(data) - 32))[1]
+
+
+def spoilt_tree(rng, tree):
+    """The tree with a few nodes changed: in one bit, to any bytes, to zeros, to another node of it."""
+    out = bytearray(tree)
+    for _ in range(rng.choice((1, 1, 2, 5))):
+        at, other = (32 * rng.choice((rng.randrange(len(tree) // 32), -1 - rng.randrange(7))) % len(tree) for _ in range(2))
+        flipped = bytearray(out[at : at + 32])
+        flipped[rng.randrange(32)] ^= 1 << rng.randrange(8)
+        out[at : at + 32] = rng.choice((flipped, rng.randbytes(32), node(rng), bytes(32), out[other : other + 32]))
+    return bytes(out)
+
+
+def tree(rng, data):
+    """A tree for a deal: its own, stale, spoilt, one that believes the index, any bytes; now and then of another length."""
+    n = max(len(data) - 32, 0)
+    if not rng.randrange(12):
+        return rng.randbytes(rng.choice((0, 31, 32, n // 2, max(n - 1, 0), max(n - 32, 0), n + 1, n + 32, 2 * n + 32)))
+    code, own = MODEL.fill(data, bytes(n))
+    if code:
+        return rng.randbytes(n)
+    kind = rng.randrange(8)
+    if kind == 0:
+        return stale_tree(rng, data)
+    if kind <= 2:
+        return spoilt_tree(rng, own)
+    if kind == 3:
+        return believing(data, rng.choice((own, rng.randbytes(n))))
+    if kind == 4:
+        return rng.randbytes(n - 32) + rng.choice((own[-32:], rng.randbytes(32)))
+    return own
+
+
+def record_of(rng, data, tree=None):
+    """A record of the deal, with a tree in hand the one that it gives, or one of another shape."""
+    places = standing_places(data)
     if places and rng.randrange(6):
-        code, r = MODEL.build(data, rng.choice(places))
+        code, r = MODEL.build(data, rng.choice(places), tree)
         if code == 0:
             return r
     d = len(data) if power(len(data)) and len(data) >= 512 else 512
@@ -371,14 +315,15 @@ def deal_size(rng, data):
     return len(data) if rng.randrange(8) else any_number(rng)
 
 
-def case(rng, op, sizes):
+def small_case(rng, op):
+    """A call that takes no deal."""
     if op == SHA256:
-        return op, rng.randbytes(rng.choice((0, 1, 55, 56, 63, 64, 65, 119, 120, 128, rng.randrange(2000)))), b"", 0, 0
+        return op, rng.randbytes(rng.choice((0, 1, 55, 56, 63, 64, 65, 119, 120, 128, rng.randrange(2000))))
     if op == COMMITMENT:
         data = run(rng, rng.choice((32, 64, 128, 256, 512, 1024, 2048, 4096, 0, 31, 33, 96, rng.randrange(3000))))
-        return op, maybe_strayed(rng, data), b"", 0, 0
+        return op, maybe_strayed(rng, data)
     if op == NUMBERS:
-        return op, b"", b"", rng.choice((any_number(rng), 1 << rng.randrange(40))), 0
+        return op, b"", b"", rng.choice((any_number(rng), 1 << rng.randrange(40)))
     if op == MAKE:
         return op, rng.choice((node(rng), rng.randbytes(32), rng.randbytes(rng.randrange(40)))), b"", any_number(rng), any_number(rng)
     if op == READ:
@@ -386,50 +331,66 @@ def case(rng, op, sizes):
         if rng.randrange(2):
             e[rng.randrange(64)] ^= 1 << rng.randrange(8)
         one_bit = (1 << rng.randrange(512)).to_bytes(64, "little")
-        return op, rng.choice((bytes(e), bytes(e), bytes(e), bytes(64), one_bit, bytes(e)[:63], bytes(e) + b"0", b"")), b"", 0, 0
+        return op, rng.choice((bytes(e), bytes(e), bytes(e), bytes(64), one_bit, bytes(e)[:63], bytes(e) + b"0", b""))
     if op == STREAM:
         data = run(rng, rng.choice((*TOTALS, 1 << rng.randrange(5, 13), rng.randrange(3000))))
-        return op, maybe_strayed(rng, data), cuts(rng, len(data)), 0, 0
-    if op in (PAD, UNPAD):
-        return padding_case(rng, op)
-    data = odd_deal(rng, sizes)
+        return op, maybe_strayed(rng, data), cuts(rng, len(data))
+    return padding_case(rng, op)
+
+
+def segment_for(rng, data):
+    """A segment to book: any, one of a length that is not allowed, one that is there; now and then with stray bits."""
+    d = len(data)
+    if rng.randrange(4):
+        seg = run(rng, segment_size(rng, d if d >= 512 else 512))
+    else:
+        seg = run(rng, rng.choice((0, 1, 64, 127, 130, d // 2 + 1, d, 96)))
+    places = standing_places(data)
+    if places and not rng.randrange(3):
+        _, _, _, o, s = MODEL.read_entry(data[(p := rng.choice(places)) : p + 64])
+        seg = data[o : o + rng.choice((s, s, s, s - 1, s + 1))]
+    if len(seg) >= 32 and not rng.randrange(15):
+        seg = seg[:31] + b"\xff" + seg[32:]
+    return seg
+
+
+def settling_case(rng, data):
+    r, s = maybe_spoilt(rng, record_of(rng, data)), maybe_spoilt(rng, record_of(rng, data))
+    return SETTLE, r, rng.choice((s, r)), deal_size(rng, data), 0, root_of(rng, data)
+
+
+def deal_case(rng, op, data):
+    """A call that takes a deal, or a record of one."""
     if op == FIND:
-        return op, data, commitment_for(rng, data), 0, 0
+        return op, data, commitment_for(rng, data)
     if op == BOOK:
-        d = len(data)
-        if rng.randrange(4):
-            seg = run(rng, segment_size(rng, d if d >= 512 else 512))
-        else:
-            seg = run(rng, rng.choice((0, 1, 64, 127, 130, d // 2 + 1, d, 96)))
-        places = kept_places(data)
-        if places and not rng.randrange(3):  # one that is there
-            p = rng.choice(places)
-            _, _, _, o, s = MODEL.read_entry(data[p : p + 64])
-            seg = data[o : o + rng.choice((s, s, s, s - 1, s + 1))]
-        if len(seg) >= 32 and not rng.randrange(15):
-            seg = seg[:31] + b"\xff" + seg[32:]
-        return op, data, seg, 0, 0
+        return op, data, segment_for(rng, data)
     if op == BUILD:
-        places = kept_places(data)
+        places = standing_places(data)
         p = rng.choice(places) if places and rng.randrange(4) else place(rng, len(data))
-        return op, data, rng.randbytes(rng.choice((0, 201, 202, 233, 234, 300, 1000, 2000))), p, 0
+        return op, data, rng.randbytes(rng.choice((0, 201, 202, 233, 234, 300, 1000, 2000))), p
     if op == CHECK:
-        return op, maybe_spoilt(rng, record_of(rng, data)), root_of(rng, data), deal_size(rng, data), 0
+        return op, maybe_spoilt(rng, record_of(rng, data)), root_of(rng, data), deal_size(rng, data)
     if op == SETTLE:
-        c = root_of(rng, data)
-        r, s = maybe_spoilt(rng, record_of(rng, data)), maybe_spoilt(rng, record_of(rng, data))
-        if rng.randrange(2):
-            s = r
-        return op, r, c + s, deal_size(rng, data), len(c)
+        return settling_case(rng, data)
     if op == SETTLE_DEAL:
-        return op, data, maybe_spoilt(rng, record_of(rng, data)), 0, 0
+        return op, data, maybe_spoilt(rng, record_of(rng, data))
     if op == FIELDS:
-        return op, maybe_spoilt(rng, record_of(rng, data)), b"", 0, 0
+        return op, maybe_spoilt(rng, record_of(rng, data))
     if op == INSPECT:
-        return op, data, b"", place(rng, len(data)), 0
-    if op == TALLY:
-        return op, data, b"", 0, 0
-    raise ValueError(op)
+        return op, data, b"", place(rng, len(data))
+    return op, data
+
+
+def case(rng, op, sizes):
+    if op in (SHA256, COMMITMENT, NUMBERS, MAKE, READ, STREAM, PAD, UNPAD):
+        return small_case(rng, op)
+    made = Case(*deal_case(rng, PLAIN_FORM.get(op, op), odd_deal(rng, sizes)))
+    if op == FILL or op in PLAIN_FORM:
+        made = made._replace(op=op, c=tree(rng, made.a))
+    if op == SETTLE_TREE and rng.randrange(2):
+        made = made._replace(b=maybe_spoilt(rng, record_of(rng, made.a, made.c)))
+    return made
 
 
 def cases(rng, count, sizes=(512, 512, 1024, 2048, 4096), ops=tuple(NAMES)):

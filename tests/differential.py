@@ -16,10 +16,11 @@ import time
 from collections import Counter
 from pathlib import Path
 
-from cases import (BOOK, BUILD, CHECK, CHECK_INPUT, COMMITMENT, FIELDS, FIND, INSPECT, MAKE, MODEL, NAMES, NUMBERS, PAD, READ, SETTLE,
-                   SETTLE_DEAL, SHA256, STREAM, TALLY, UNPAD, answer, cases, deal, encode, node, paddings, place, run, spoil, strayed,
-                   streams)
+import tree_cases
+from cases import cases, deal, node, paddings, place, run, spoil, strayed, streams
 from model import MAX_RAW, area, index_numbers
+from operations import (BOOK, BOOK_TREE, BUILD, BUILD_TREE, CHECK, COMMITMENT, FIELDS, FILL, FIND, INSPECT, MAKE, MODEL, NAMES, NUMBERS, PAD,
+                        READ, SETTLE, SETTLE_DEAL, SETTLE_TREE, SHA256, STREAM, TALLY, UNPAD, Case, answer, encode)
 from vectors import large_deals
 
 ROOT = Path(__file__).resolve().parent.parent
@@ -27,11 +28,13 @@ FAILURE = ROOT / "target" / "differential-failure.bin"
 ROUTINES = NAMES | {INSPECT: "inspect", STREAM: "stream", PAD: "pad", UNPAD: "unpad"}
 BATCH = 2000
 
-# The codes that a run of the default length must meet. 17 needs a collision of SHA-256, and 2 of sha256 a long message (--large).
+# The codes that a run of the default length must meet. 17 needs a collision of SHA-256, or a tree that is not the deal's, and 2 of
+# sha256 a long message (--large).
 CODES = {SHA256: {0}, COMMITMENT: {0, 2, 11}, NUMBERS: {0, 2}, MAKE: {0, 1, 8}, READ: {0, 2}, FIND: {0, 1, 2, 11, 16},
          BOOK: {0, 2, 4, 11, 13, 14, 15}, BUILD: {0, 2, 6, 11, 12, 16}, CHECK: {*range(11), 19}, SETTLE: {*range(11), 18, 19},
          SETTLE_DEAL: {0, *range(2, 12), 19}, FIELDS: {0}, INSPECT: {0, 2, 6, 11}, STREAM: {0, 2, 11},
-         PAD: {0, 2, 12}, UNPAD: {0, 2, 11, 12, 24}, TALLY: {0, 2, 11}}
+         PAD: {0, 2, 12}, UNPAD: {0, 2, 11, 12, 24}, TALLY: {0, 2, 11}, FILL: {0, 2, 11, 12}, BOOK_TREE: {0, 2, 4, 11, 12, 13, 14, 15},
+         BUILD_TREE: {0, 2, 6, 11, 12, 16}, SETTLE_TREE: {0, *range(2, 13), 17, 19}}
 ENOUGH = 50_000
 
 
@@ -63,8 +66,8 @@ class Comparison:
     def differs(self, call, got, expected):
         FAILURE.parent.mkdir(exist_ok=True)
         FAILURE.write_bytes(encode(call))
-        op, a, b, x, y = call
-        raise Difference(f"{ROUTINES[op]}, arguments of {len(a)} and {len(b)} bytes, numbers {x} and {y}\n"
+        op, a, b, x, y, c = Case(*call)
+        raise Difference(f"{ROUTINES[op]}, arguments of {len(a)}, {len(b)} and {len(c)} bytes, numbers {x} and {y}\n"
                          f"  library: {got.rstrip()}\n  model:   {expected.rstrip()}\n"
                          f"the case again: {' '.join(self.command)} < {FAILURE}")
 
@@ -112,7 +115,7 @@ def long_records(rng):
         nodes = [[rng.randbytes(32) for _ in range(n)] for n in (u, v)]
         r = MODEL.encode(node(rng), 0, 128, 256, *nodes)
         yield CHECK, r, bytes(32), 512, 0
-        yield SETTLE, r, bytes(32) + r, 512, 32
+        yield SETTLE, r, r, 512, 0, bytes(32)
         yield FIELDS, r, b"", 0, 0
         yield SETTLE_DEAL, bytes(512), r, 0, 0
     yield FIELDS, bytes(65538) + b"\1\xff\xff" + bytes(65535) + b"\7\0", b"", 0, 0
@@ -137,6 +140,9 @@ def limits():
         yield INSPECT, bytes(n), b"", n - 64, 0
         yield TALLY, bytes(n), b"", 0, 0
         yield SETTLE_DEAL, bytes(n), b"", 0, 0
+        yield FILL, bytes(n), b"", 0, 0, bytes(full)  # the tree is shown by its SHA-256: 2^24 bytes at most
+        for op in (BUILD_TREE, SETTLE_TREE):
+            yield op, bytes(n), b"", 0, 0, bytes(n - 32)
 
 
 def large_calls(rng, d, sizes):
@@ -163,7 +169,7 @@ def large_calls(rng, d, sizes):
         yield BUILD, data, rng.randbytes(len(r) - 1), p, 0
         yield CHECK, r, root, d, 0
         for record in (r, spoil(rng, r)):
-            yield SETTLE, r, root + record, d, 32
+            yield SETTLE, r, record, d, 0, root
             yield SETTLE_DEAL, data, record, 0, 0
     yield BUILD, data, rng.randbytes(2000), place(rng, d), 0
     yield from spoilt_deal(rng, data, places)
@@ -193,12 +199,19 @@ def batches(options):
     yield "streams of every total", streams(random.Random(f"{options.seed}/streams"))
     yield "raw bytes there and back", paddings(random.Random(f"{options.seed}/paddings"))
     yield "entries that are not kept", false_entries(random.Random(f"{options.seed}/entries"), min(500, options.count))
+    rng = random.Random(f"{options.seed}/trees")
+    yield "trees: the refusals in their order", tree_cases.orders(rng)
+    yield "trees kept over bookings, and stale ones", tree_cases.runs(rng, 40)
+    yield "trees: deals changed behind them", tree_cases.changed_deals(rng, min(300, options.count))
     if options.large:
         rng = random.Random(f"{options.seed}/large")
         yield "lengths at their bounds", limits()
         for _ in range(4):
             yield "deals of 2^20 bytes", large_calls(rng, 1 << 20, [128, 1 << 12, 128, 1 << 18, 1 << 19, 1 << 10, 256, 1 << 15, 128, 64])
         yield "deals of 2^24 bytes", large_calls(rng, 1 << 24, [128, 1 << 23, 1 << 16, 1 << 10])
+        for mixed in (False, True):
+            yield "trees of 2^20 bytes", tree_cases.kept_tree(rng, 1 << 20, [128, 1 << 12, 1 << 18, 130, 1 << 15, 1, 1 << 10, 128], mixed)
+        yield "trees of 2^24 bytes", tree_cases.kept_tree(rng, 1 << 24, [1 << 20, 130], False)
     for i, calls in enumerate(random_batches(options.seed, options.count)):
         yield f"batch {i}", calls
 

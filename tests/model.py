@@ -118,6 +118,27 @@ def index_numbers(d):
     return 0, n, d - 64 * n
 
 
+def height(size):
+    """The height of the node over a power of two of bytes: a node itself has height 0."""
+    return (size // 32).bit_length() - 1
+
+
+def tree_allowed(d, tree):
+    """Whether a tree buffer has the length that a deal of d bytes asks for; none is needed."""
+    return tree is None or len(tree) == d - 32
+
+
+def node_place(d, h, i):
+    """Where node i of height h, from 1 on, stands in the tree buffer of a deal of d bytes."""
+    return d - d // 2 ** (h - 1) + 32 * i
+
+
+def node_in(tree, d, offset, size):
+    """The node over the bytes at an offset, as it stands in the tree buffer."""
+    at = node_place(d, height(size), offset // size)
+    return tree[at : at + 32]
+
+
 class Model:
     def __init__(self, hashes=None):
         self.h = hashes or Hashes()
@@ -213,12 +234,14 @@ class Model:
             return c, o, s
         return None
 
-    def kept(self, deal, i):
+    def kept(self, deal, i, tree=None):
+        """What is kept in slot i: (commitment, offset, size) or None. With a tree buffer, by the node that stands there."""
         row = self.standing(deal, i)
         if row is None:
             return None
         c, o, s = row
-        return row if self.tree(deal[o : o + area(s)])[-1][0] == c else None
+        node = self.tree(deal[o : o + area(s)])[-1][0] if tree is None else node_in(tree, len(deal), o, area(s))
+        return row if node == c else None
 
     @staticmethod
     def lent_allowed(d):
@@ -267,8 +290,8 @@ class Model:
         return 16, 0, 0, 0
 
     # ---- book
-    def book(self, deal, segment):
-        """Code, offset, place, the deal afterwards."""
+    def book(self, deal, segment, tree=None):
+        """Code, offset, place, the deal afterwards. A tree buffer is read alone; see `book_with_tree`."""
         d, s = len(deal), len(segment)
         if not self.lent_allowed(d):
             return 2, 0, 0, deal
@@ -277,10 +300,12 @@ class Model:
         whole, a = filled(segment), area(s)
         if stray(deal) or stray(whole):
             return 11, 0, 0, deal
+        if not tree_allowed(d, tree):
+            return 12, 0, 0, deal
         _, n, start = index_numbers(d)
         rows = [self.standing(deal, i) for i in range(n)]
         for i, row in enumerate(rows):
-            if row and row[2] == s and deal[row[1] : row[1] + a] == whole and self.kept(deal, i):
+            if row and row[2] == s and deal[row[1] : row[1] + a] == whole and self.kept(deal, i, tree):
                 return 15, row[1], start + 64 * i, deal
         slots = [i for i, row in enumerate(rows) if row is None]
         if not slots:
@@ -296,6 +321,44 @@ class Model:
         p = start + 64 * slots[0]
         out[p : p + 64] = self.entry(self.tree(whole)[-1][0], o, s)
         return 0, o, p, bytes(out)
+
+    # ---- the tree beside the deal
+    def fill(self, deal, tree):
+        """Code, the tree buffer afterwards."""
+        if not self.lent_allowed(len(deal)):
+            return 2, tree
+        if stray(deal):
+            return 11, tree
+        if not tree_allowed(len(deal), tree):
+            return 12, tree
+        return 0, b"".join(node for level in self.tree(deal)[1:] for node in level)
+
+    def levels(self, deal, tree):
+        """All levels, the nodes of level 0 first: hashed from the deal, or with a tree buffer the others as they stand there."""
+        if tree is None:
+            return self.tree(deal)
+        nodes = lambda data: [data[i : i + 32] for i in range(0, len(data), 32)]
+        levels, rest = [nodes(deal)], nodes(tree)
+        while rest:
+            n = len(levels[-1]) // 2
+            levels.append(rest[:n])
+            rest = rest[n:]
+        return levels
+
+    def renewed(self, deal, tree, parts):
+        """The tree buffer once every node above these parts (start, length) of the deal is worked out anew, from the bottom up."""
+        levels = self.levels(deal, tree)
+        for h in range(1, len(levels)):
+            for i in range(len(levels[h])):
+                first, end = 32 * i << h, 32 * (i + 1) << h
+                if any(first < start + length and start < end for start, length in parts):
+                    levels[h][i] = self.h.node(levels[h - 1][2 * i] + levels[h - 1][2 * i + 1])
+        return b"".join(node for level in levels[1:] for node in level)
+
+    def book_with_tree(self, deal, tree, segment):
+        """Code, offset, place, the deal afterwards, the tree buffer afterwards."""
+        code, o, p, after = self.book(deal, segment, tree)
+        return code, o, p, after, self.renewed(after, tree, ((o, area(len(segment))), (p, 64))) if code == 0 else tree
 
     # ---- records
     @staticmethod
@@ -354,29 +417,31 @@ class Model:
             return 10
         return 0
 
-    def build(self, deal, place):
+    def build(self, deal, place, tree=None):
         """Code and record."""
         d = len(deal)
         if not self.lent_allowed(d):
             return 2, b""
         if stray(deal):
             return 11, b""
+        if not tree_allowed(d, tree):
+            return 12, b""
         _, n, start = index_numbers(d)
         if place % 64 or not start <= place < d:
             return 6, b""
-        row = self.kept(deal, (place - start) // 64)
+        row = self.kept(deal, (place - start) // 64, tree)
         if row is None:
             return 16, b""
         c, o, s = row
-        tree = self.tree(deal)
-        return 0, self.encode(c, o, s, place, self.path(tree, area(s), o // area(s)), self.path(tree, 64, place // 64))
+        levels = self.levels(deal, tree)
+        return 0, self.encode(c, o, s, place, self.path(levels, area(s), o // area(s)), self.path(levels, 64, place // 64))
 
     @staticmethod
-    def path(tree, size, q):
-        level = (size // 32).bit_length() - 1
+    def path(levels, size, q):
+        level = height(size)
         out = []
-        while level < len(tree) - 1:
-            out.append(tree[level][q ^ 1])
+        while level < len(levels) - 1:
+            out.append(levels[level][q ^ 1])
             q //= 2
             level += 1
         return out
@@ -402,27 +467,29 @@ class Model:
             return 18, ZERO64, ZERO64
         return self.settled(self.strings(r), self.strings(s))
 
-    def settle_deal(self, deal, record):
+    def settle_deal(self, deal, record, tree=None):
         d = len(deal)
         if not self.lent_allowed(d):
             return 2, ZERO64, ZERO64
         if stray(deal):
             return 11, ZERO64, ZERO64
-        tree = self.tree(deal)
-        code = self.check(tree[-1][0], d, record)
+        if not tree_allowed(d, tree):
+            return 12, ZERO64, ZERO64
+        levels = self.levels(deal, tree)
+        code = self.check(levels[-1][0], d, record)
         if code:
             return code, ZERO64, ZERO64
         c, o, s, p, u, v = self.parse(record)
-        pairs = lambda size, q: self.pairs(tree, size, q)
+        pairs = lambda size, q: self.pairs(levels, size, q)
         return self.settled(self.strings(record), pairs(64, p // 64) + [deal[p : p + 64]] + pairs(area(s), o // area(s)))
 
     @staticmethod
-    def pairs(tree, size, q):
+    def pairs(levels, size, q):
         """The deal's pairs of nodes along a path, from the top down."""
-        level = (size // 32).bit_length() - 1
+        level = height(size)
         out = []
-        while level < len(tree) - 1:
-            out.append(tree[level][q & ~1] + tree[level][q | 1])
+        while level < len(levels) - 1:
+            out.append(levels[level][q & ~1] + levels[level][q | 1])
             q //= 2
             level += 1
         return out[::-1]

@@ -1,10 +1,9 @@
 """Runs the independent model on the papers' own worked values. Prints one line; exits non-zero at the first difference."""
-import hashlib
 import random
 import sys
 
-from model import (BLANK, DAMAGED, MAX_RAW, VALID, Hashes, Model, Weak, area, index_numbers, le, pad, segment_length, sha256, stray, unpad,
-                   ZERO32)
+from model import (BLANK, DAMAGED, MAX_RAW, VALID, Model, Weak, area, index_numbers, node_in, node_place, pad, segment_length, sha256, stray,
+                   unpad, ZERO32, ZERO64)
 
 
 def expect(what, got, want):
@@ -131,10 +130,147 @@ def collisions():
     return shown
 
 
+# The commitments of 64, 128, 256 and 512 zero bytes, as Filecoin's implementations list them.
+ZEROS = [bytes.fromhex(digits) for digits in (
+    "f5a5fd42d16a20302798ef6ed309979b43003d2320d9f0e8ea9831a92759fb0b",
+    "3731bb99ac689f66eef5973e4a94da188f4ddcae580724fc6f3fd60dfd488333",
+    "642a607ef886b004bf2c1978463ae1d4693ac0f410eb2d1b7a47fe205e5e750f",
+    "57a2381a28652bf47f6bef7aca679be4aede5871ab5cf3eb2c08114488cb8526")]
+
+
+def filled_trees():
+    """Every inner node stands once in the buffer, where the formula says, and no byte is left over."""
+    m, rng = Model(), random.Random(7)
+    zeros = b"".join(node * (8 >> i) for i, node in enumerate(ZEROS))
+    expect("the tree of 512 zeros", m.fill(bytes(512), bytes(480)), (0, zeros))
+    for d in (512, 1024, 4096):
+        deal = segment(rng, d)
+        tree = m.fill(deal, rng.randbytes(d - 32))[1]
+        levels = m.tree(deal)
+        places = [(node_place(d, h, i), levels[h][i]) for h in range(1, len(levels)) for i in range(len(levels[h]))]
+        expect(f"the places of {d} bytes", [at for at, _ in places], list(range(0, d - 32, 32)))
+        expect(f"the nodes of {d} bytes", b"".join(node for _, node in places), tree)
+        expect(f"the last node of {d} bytes", tree[-32:], m.commitment(deal)[1])
+        expect(f"the levels of {d} bytes", m.levels(deal, tree), levels)
+
+
+def tree_lengths():
+    """A tree of any other length is 12: after 2, 4 and 11, before all that is read from it."""
+    m, rng = Model(), random.Random(8)
+    deal = m.book(bytes(512), segment(rng, 128))[3]
+    strayed = deal[:31] + b"\x40" + deal[32:]
+    for n in (0, 32, 479, 481, 512, 992):
+        tree = rng.randbytes(n)
+        forms = lambda data: (m.fill(data, tree)[0], m.book_with_tree(data, tree, deal[:128])[0], m.build(data, 300, tree)[0],
+                              m.settle_deal(data, b"", tree)[0])
+        expect(f"a tree of {n} bytes", forms(deal), (12,) * 4)
+        expect(f"a tree of {n} bytes with stray bits", forms(strayed), (11,) * 4)
+        expect(f"a tree of {n} bytes with a deal of 500", forms(deal[:500]), (2,) * 4)
+        expect(f"a tree of {n} bytes with a long segment", m.book_with_tree(strayed, tree, bytes(257)), (4, 0, 0, strayed, tree))
+
+
+def same_as_plain(m, rng, deal):
+    """With the deal's own tree each form answers as the plain one, and booking leaves the new deal's own tree."""
+    d = len(deal)
+    code, tree = m.fill(deal, bytes(d - 32))
+    for size in (1, 100, 128, 130, d // 4, d // 2):
+        for s in (segment(rng, 1024)[:size], deal[:size]):
+            got = m.book_with_tree(deal, tree, s)
+            expect("booking with the deal's tree", got[:4], m.book(deal, s))
+            expect("the tree after booking", (code, got[4]), m.fill(got[3], tree) if got[0] == 0 else (code, tree))
+    start = index_numbers(d)[2]
+    for place in (*range(start, d, 64), 0, 300):
+        code, record = m.build(deal, place)
+        expect("building with the deal's tree", m.build(deal, place, tree), (code, record))
+        for r in (record, record[:-1], record[:-1] + b"\x39"):
+            expect("settling with the deal's tree", m.settle_deal(deal, r, tree), m.settle_deal(deal, r))
+
+
+def true_trees():
+    """Runs of bookings with the tree in hand, and deals that others have made."""
+    for seed in range(6):
+        rng = random.Random(f"tree/{seed}")
+        m = Model() if seed % 2 else Model(Weak(4))
+        d = rng.choice((512, 1024, 2048))
+        deal = segment(rng, d) if seed < 4 else bytes(d)
+        tree = m.fill(deal, bytes(d - 32))[1]
+        for _ in range(5):
+            *_, deal, tree = m.book_with_tree(deal, tree, segment(rng, 256)[: rng.choice((1, 100, 128, 130, 256))])
+            expect("the tree kept over bookings", (0, tree), m.fill(deal, tree))
+            same_as_plain(m, rng, deal)
+        deal = bytearray(deal)
+        deal[rng.randrange(d // 64) * 32] ^= 1
+        same_as_plain(m, rng, bytes(deal))
+
+
+def stale_trees():
+    """Filled, then booked by the plain form: the segment is not kept by that tree, so building says 16, and it is booked again."""
+    m, rng = Model(), random.Random(9)
+    tree = m.fill(bytes(1024), bytes(992))[1]
+    for s in (b"x", segment(rng, 130)):
+        code, o, p, deal = m.book(bytes(1024), s)
+        expect("booked by the plain form", (code, o, p), (0, 0, 768))
+        expect("building with the stale tree", m.build(deal, p, tree), (16, b""))
+        code, again, q, after, renewed = m.book_with_tree(deal, tree, s)
+        expect("booking with the stale tree", (code, again, q), (0, area(len(s)), 832))
+        expect("settling with the stale tree", m.settle_deal(deal, m.build(deal, p)[1], tree), (9, ZERO64, ZERO64))
+        expect("building what was booked with it", m.build(after, q, renewed)[0], 0)
+
+
+def other_trees():
+    """Whatever a tree holds, its nodes are taken as they stand there: kept, the paths, the last node, the deal's strings."""
+    m, rng = Model(), random.Random(10)
+    deal, s = bytes(1024), segment(rng, 256)
+    _, o, p, deal = m.book(m.book(deal, segment(rng, 128))[3], s)
+    tree, record = m.fill(deal, bytes(992))[1], m.build(deal, p)[1]
+    put = lambda node, h, i: tree[: node_place(1024, h, i)] + node + tree[node_place(1024, h, i) + 32:]
+    root = put(node_of(rng), 5, 0)
+    expect("a record with another last node", m.settle_deal(deal, record, root), (9, ZERO64, ZERO64))
+    expect("building with another last node", m.build(deal, p, root), (0, record))
+    sibling = put(node_of(rng), 3, 0)
+    built = m.build(deal, p, sibling)[1]
+    expect("a record of another sibling", (m.check(tree[-32:], 1024, built), m.settle_deal(deal, built, sibling)[0]), (9, 9))
+    expect("another sibling with stray bits", m.check(tree[-32:], 1024, m.build(deal, p, put(b"\xff" * 32, 3, 0))[1]), 19)
+    code, v, w = m.settle_deal(deal, record, sibling)
+    expect("a pair that does not collide", (code, v[32:], m.h.node(v) == m.h.node(w)), (17, w[32:], False))
+    own = put(node_of(rng), 3, 1)
+    expect("kept by the bytes alone", (m.build(deal, p, own)[0], m.book_with_tree(deal, own, s)[0]), (16, 0))
+    named = node_of(rng)
+    forged = deal[:p] + m.entry(named, o, 256) + deal[p + 64:]
+    own = put(named, 3, 1)
+    expect("kept by no tree but this one", (m.build(forged, p)[0], m.book(forged, s)[0]), (16, 0))
+    expect("kept by this tree", (m.build(forged, p, own)[0], *m.book_with_tree(forged, own, s)[:3]), (0, 15, o, p))
+
+
+def renewed_trees():
+    """Booking works out anew the nodes above what is written and writes no other, whatever the tree holds; the segment's nodes and the
+    entry's may be worked out one after the other, in either order."""
+    m, rng = Model(), random.Random(11)
+    for d in (512, 1024, 4096):
+        for size in (1, 128, 130, d // 2):
+            old = rng.randbytes(d - 32)
+            code, o, p, deal, new = m.book_with_tree(bytes(d), old, segment(rng, d)[:size])
+            expect(f"booking {size} bytes", code, 0)
+            whole, entry = (o, area(size)), (p, 64)
+            for first, second in ((whole, entry), (entry, whole)):
+                expect("one part after the other", m.renewed(deal, m.renewed(deal, old, (first,)), (second,)), new)
+            above = {(h, i) for start, n in (whole, entry) for h in range(1, d.bit_length() - 5)
+                     for i in range(start // (32 << h), (start + n - 1) // (32 << h) + 1)}
+            changed = {(h, i) for h in range(1, d.bit_length() - 5) for i in range(d // (32 << h))
+                       if node_in(old, d, i * (32 << h), 32 << h) != node_in(new, d, i * (32 << h), 32 << h)}
+            expect(f"the nodes that change with {size} bytes", changed, above)
+
+
 published_values()
 streams()
 paddings()
 worked_runs()
 kinds()
 records()
+filled_trees()
+tree_lengths()
+true_trees()
+stale_trees()
+other_trees()
+renewed_trees()
 print(f"model_test: the papers' values hold in the model; with a weak node hash {collisions()} collisions were shown")

@@ -7,9 +7,11 @@ import random
 import sys
 from pathlib import Path
 
-from cases import (BOOK, BUILD, CHECK, CHECK_INPUT, COMMITMENT, COMPARE, FIELDS, FIND, MAKE, MODEL, NAMES, NUMBERS, READ, SETTLE,
-                   SETTLE_DEAL, TALLY, answer, any_number, case, encode, node, paddings, run, streams)
+import tree_cases
+from cases import any_number, case, node, paddings, run, streams
 from model import area, filled, index_numbers, le
+from operations import (BOOK, BUILD, CHECK, CHECK_INPUT, COMMITMENT, COMPARE, FIELDS, FIND, MAKE, MODEL, NAMES, NUMBERS, READ, SETTLE,
+                        SETTLE_DEAL, TALLY, answer, encode)
 
 ROOT = Path(__file__).resolve().parent.parent
 
@@ -82,7 +84,7 @@ def two_places(rng):
     r, s = (MODEL.build(deal, p)[1] for p in (768, 832))
     root = MODEL.commitment(deal)[1]
     for a, b in ((r, s), (s, r), (r, r), (r, s[:-1])):
-        yield SETTLE, a, root + b, 1024, 32
+        yield SETTLE, a, b, 1024, 0, root
 
 
 def sparse_record(rng, d, size):
@@ -116,14 +118,14 @@ def large_deals(rng):
                     (1 << 30, 1 << 12), (1 << 36, 128), (1 << 36, 130), (1 << 36, 1 << 20)):
         root, r = sparse_record(rng, d, size)
         yield CHECK, r, root, d, 0
-        yield SETTLE, r, root + r, d, 32
+        yield SETTLE, r, r, d, 0, root
         yield FIELDS, r, b"", 0, 0
         yield CHECK_INPUT, root + le(d) + r, b"", 0, 0
         for at in (0, 1, 3, 38, 49, 60, 68, 71, len(r) - 1, len(r) - 32):
             damaged = bytearray(r)
             damaged[at] ^= 1
             yield CHECK, bytes(damaged), root, d, 0
-            yield SETTLE, r, root + bytes(damaged), d, 32
+            yield SETTLE, r, bytes(damaged), d, 0, root
         yield CHECK, r, root, d // 2, 0
         yield CHECK, r, bytes(32), d, 0
 
@@ -173,7 +175,7 @@ def stray_paths(rng):
         record = MODEL.encode(c, 0, 128, p, [sibling, right], [*below, left])
         root = h.node(left + right)
         yield CHECK, record, root, 512, 0
-        yield SETTLE, record, root + record, 512, 32
+        yield SETTLE, record, record, 512, 0, root
         yield CHECK_INPUT, root + le(512) + record, b"", 0, 0
 
 
@@ -216,6 +218,9 @@ def all_cases():
     yield from two_places(random.Random(18))
     yield from kinds_of_entries(random.Random(2))
     yield from tallies(random.Random(64))
+    yield from tree_cases.orders(random.Random(12))
+    yield from tree_cases.runs(random.Random(7), 4, (512, 1024))
+    yield from tree_cases.changed_deals(random.Random(4), 12)
     yield COMMITMENT, run(rng, 8192), b"", 0, 0
     for _ in range(60):
         for op in NAMES:

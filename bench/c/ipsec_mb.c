@@ -12,6 +12,11 @@ enum { PART = 1 << 18, NODE = 32, PAIR = 64 };
 IMB_MGR *ipsec_mb_new(int bits, int with_sha) {
   IMB_MGR *manager = alloc_mb_mgr(with_sha ? 0 : IMB_FLAG_SHANI_OFF);
   if (manager == NULL) return NULL;
+  uint64_t vectors = bits == 128 ? IMB_FEATURE_SSE4_2 : bits == 256 ? IMB_FEATURE_AVX2 : IMB_FEATURE_AVX512_SKX;
+  if ((manager->features & vectors) == 0) {
+    free_mb_mgr(manager);
+    return NULL;
+  }
   (bits == 128 ? init_mb_mgr_sse : bits == 256 ? init_mb_mgr_avx2 : init_mb_mgr_avx512)(manager);
   if (imb_get_errno(manager) == 0) return manager;
   free_mb_mgr(manager);

@@ -1,15 +1,13 @@
 //! The routines over a deal of 16 MiB beside one pass over it: reading every byte, and hashing its tree. Worst cases with them.
 use crate::aims::Aim;
+use crate::passes::{Passes, Works};
 use crate::record::filled;
-use crate::table;
-use crate::timing::{shown, timed, Work};
-use crate::{DEAL, LONG, SEGMENT};
+use crate::timing::Work;
+use crate::{DEAL, SEGMENT};
 use std::hint::black_box;
 use vizhuthamen::{Booking, Node, Settled};
 
-/// Names and pieces of work; the first two are the passes.
-type Works<'a> = Vec<(&'static str, Work<'a>)>;
-
+const HASHING: &str = "one pass: commitment of the deal";
 const BUILD: &str = "build: the record of the last of 64 entries";
 const BUILD_HALF: &str = "build: the record of a segment of half the deal";
 const SETTLE: &str = "settle: that record with the deal";
@@ -19,7 +17,7 @@ const FIND_AREAS: &str = "worst find: 128 areas, the largest first (16)";
 
 /// Prints the times and how many passes each is. The aims are in passes that hash.
 pub fn print() -> Vec<Aim> {
-    let (deal, last) = booked_deal();
+    let (deal, last) = booked_deal(64);
     let half = deal_with_half();
     let named = Node([1; 32]);
     let areas = deals_of_worst_finds(&named);
@@ -31,25 +29,8 @@ pub fn print() -> Vec<Aim> {
         (name, Work::new(find))
     }));
     works.extend([booking(&deal, true), booking(&deal, false)]);
-    print_passes(works)
-}
-
-fn print_passes(works: Works) -> Vec<Aim> {
-    let (names, mut works): (Vec<&str>, Vec<Work>) = works.into_iter().unzip();
-    let times = timed(&mut works, LONG, 1);
-    let rows: Vec<Vec<String>> = names
-        .iter()
-        .enumerate()
-        .map(|(i, name)| {
-            let passes = [format!("{:.2}", times.ratio(i, 0)), format!("{:.3}", times.ratio(i, 1))];
-            [name.to_string(), shown(times.of(i))].into_iter().chain(passes).collect()
-        })
-        .collect();
-    table::print(&table::headings(&["work", "library", "reading passes", "hashing passes"]), &rows);
-    let hashing = |wanted: &[&str]| {
-        let ratios = names.iter().enumerate().filter(|(_, name)| wanted.contains(name)).map(|(i, _)| times.ratio(i, 1));
-        ratios.max_by(f64::total_cmp)
-    };
+    let passes = Passes::print(works, ["reading passes", "hashing passes"]);
+    let hashing = |works: &[&str]| passes.slowest(works, HASHING);
     vec![
         Aim::at_most("build, passes of hashing over the deal", 1.15, hashing(&[BUILD, BUILD_HALF])),
         Aim::at_most("settle with the deal, passes of hashing", 1.15, hashing(&[SETTLE])),
@@ -57,11 +38,11 @@ fn print_passes(works: Works) -> Vec<Aim> {
     ]
 }
 
-/// A deal of 16 MiB that keeps 64 segments of 64 KiB, and its last entry place.
-fn booked_deal() -> (Vec<u8>, u64) {
+/// A deal of 16 MiB that keeps so many segments of 64 KiB, and its last entry place.
+pub fn booked_deal(segments: u8) -> (Vec<u8>, u64) {
     let mut deal = vec![0; DEAL];
     let mut last = 0;
-    for i in 0..64 {
+    for i in 0..segments {
         let mut segment = filled(SEGMENT);
         segment[0] = i;
         last = booked(&mut deal, &segment);
@@ -77,7 +58,7 @@ fn deal_with_half() -> (Vec<u8>, u64) {
 }
 
 fn booked(deal: &mut [u8], segment: &[u8]) -> u64 {
-    match vizhuthamen::book(deal, segment) {
+    match vizhuthamen::book(deal, None, segment) {
         Ok(Booking::Booked(position)) => position.place,
         other => panic!("booking: {other:?}"),
     }
@@ -120,7 +101,7 @@ fn passes(deal: &[u8]) -> Works<'_> {
     let hashing = Work::new(|| {
         black_box(vizhuthamen::commitment(deal).unwrap());
     });
-    vec![("one pass: every byte read", reading), ("one pass: commitment of the deal", hashing)]
+    vec![("one pass: every byte read", reading), (HASHING, hashing)]
 }
 
 fn lookups(deal: &[u8], last: u64) -> Works<'_> {
@@ -135,10 +116,10 @@ fn lookups(deal: &[u8], last: u64) -> Works<'_> {
 }
 
 fn records<'a>(deal: &'a [u8], last: u64, (half, place): &'a (Vec<u8>, u64)) -> Works<'a> {
-    let build = move || vizhuthamen::build(black_box(deal), last).unwrap();
+    let build = move || vizhuthamen::build(black_box(deal), None, last).unwrap();
     let record = build();
-    let build_half = move || vizhuthamen::build(black_box(half), *place).unwrap();
-    let settle = move || vizhuthamen::settle_with_deal(deal, black_box(&record)).unwrap();
+    let build_half = move || vizhuthamen::build(black_box(half), None, *place).unwrap();
+    let settle = move || vizhuthamen::settle_with_deal(deal, None, black_box(&record)).unwrap();
     assert!(matches!(settle(), Settled::Same));
     vec![
         (
@@ -168,7 +149,7 @@ fn booking<'a>(deal: &[u8], fresh: bool) -> (&'static str, Work<'a>) {
     let mut segment = filled(SEGMENT);
     segment[0] = if fresh { 200 } else { 63 };
     let name = if fresh { "book: a 65th segment of 64 KiB" } else { "book: the 64th segment again (15)" };
-    let book = move || match vizhuthamen::book(black_box(&mut deal), &segment) {
+    let book = move || match vizhuthamen::book(black_box(&mut deal), None, &segment) {
         Ok(Booking::Booked(position)) if fresh => {
             deal[position.offset as usize..][..SEGMENT].fill(0);
             deal[position.place as usize..][..64].fill(0);

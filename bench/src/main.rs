@@ -9,12 +9,14 @@ mod beside;
 mod deal;
 mod growth;
 mod library;
+mod passes;
 mod peers;
 mod record;
 mod routines;
 mod stream;
 mod table;
 mod timing;
+mod tree;
 
 use aims::Aim;
 use library::Library;
@@ -66,6 +68,11 @@ fn everything(libraries: &[Library]) {
         "At the level that is chosen. 64 kept segments of 64 KiB, but for what is over half the deal.",
     );
     aims.extend(deal::print());
+    section(
+        "A deal of 16 MiB with its tree",
+        "At the level that is chosen. 128 kept segments of 64 KiB, but for booking, which has 64 of them.",
+    );
+    aims.extend(tree::print());
     section("Aims", "One line for each aim of speed: whether this run meets it.");
     aims::print(&aims);
 }

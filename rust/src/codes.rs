@@ -37,7 +37,7 @@ refusals! {
     9 SEGMENT_PATH "the segment path does not lead to the deal commitment"
     10 ENTRY_PATH "the entry path does not lead to the deal commitment"
     11 STRAY_BITS "a node of a run, deal, stream or segment has stray bits"
-    12 OUTPUT "an output is too short, or not of its one length"
+    12 OUTPUT "an output is too short, or an output or a tree is not of its one length"
     13 NO_SLOT "no slot is free"
     14 NO_PLACE "no free place"
     15 ALREADY_KEPT "the segment is kept already"

@@ -106,12 +106,20 @@ pub(crate) fn part(bytes: &[u8], start: u64, length: u64) -> &[u8] {
 }
 
 /// Books a segment of 1 byte to half of the deal: it, zeros after it to the end of its area (the smallest power of two at or above
-/// both its size and 128), and its entry are written into the deal, unless the deal has it. Refusals: 2, 4, 11, 13, 14.
-pub fn book(deal: &mut [u8], segment: &[u8]) -> Result<Booking, Refusal> {
+/// both its size and 128), and its entry are written into the deal, unless the deal has it. Refusals: 2, 4, 11, 13, 14; with a
+/// tree 12 after 11.
+///
+/// With a tree (see [`tree_fill`](crate::tree_fill)), whether an entry is kept is read there: its commitment is the node over its
+/// area. Every node above the bytes that are written to the deal is worked out anew; no other byte of the tree changes.
+pub fn book(deal: &mut [u8], tree: Option<&mut [u8]>, segment: &[u8]) -> Result<Booking, Refusal> {
     let (mut offset, mut place) = (0, 0);
-    // SAFETY: the slices are live and apart, since one is borrowed mutably; the two numbers are locals of their own.
+    let (d, n, s, t) = (deal.as_mut_ptr(), deal.len(), segment.as_ptr(), segment.len());
+    // SAFETY: the slices are live and apart, since two are borrowed mutably; the two numbers are locals of their own.
     let code = unsafe {
-        ffi::vz_book(deal.as_mut_ptr(), deal.len(), segment.as_ptr(), segment.len(), &mut offset, &mut place)
+        match tree {
+            None => ffi::vz_book(d, n, s, t, &mut offset, &mut place),
+            Some(tree) => ffi::vz_book_with_tree(d, n, tree.as_mut_ptr(), tree.len(), s, t, &mut offset, &mut place),
+        }
     };
     let position = Position { offset, place };
     match accepted(code) {
@@ -125,9 +133,9 @@ pub fn book(deal: &mut [u8], segment: &[u8]) -> Result<Booking, Refusal> {
 mod tests {
     use super::*;
     use crate::entry::make_entry;
+    use crate::hash::commitment;
     use crate::node::Node;
     use crate::testing::segment;
-    use crate::tree::commitment;
 
     fn booked(offset: u64, place: u64) -> Result<Booking, Refusal> {
         Ok(Booking::Booked(Position { offset, place }))
@@ -137,15 +145,15 @@ mod tests {
     #[test]
     fn a_deal_of_512_bytes_fills() {
         let mut deal = [0; 512];
-        assert_eq!(book(&mut deal, &segment(1, 128)), booked(0, 256));
+        assert_eq!(book(&mut deal, None, &segment(1, 128)), booked(0, 256));
         let first = deal;
         let again = Ok(Booking::AlreadyKept(Position { offset: 0, place: 256 }));
-        assert_eq!(book(&mut deal, &segment(1, 128)), again);
+        assert_eq!(book(&mut deal, None, &segment(1, 128)), again);
         assert_eq!(deal, first);
-        assert_eq!(book(&mut deal, &segment(2, 128)), booked(128, 320));
+        assert_eq!(book(&mut deal, None, &segment(2, 128)), booked(128, 320));
         assert_eq!(deal[128..256], segment(2, 128));
         let second = deal;
-        assert_eq!(book(&mut deal, &segment(3, 128)), Err(Refusal::NO_PLACE));
+        assert_eq!(book(&mut deal, None, &segment(3, 128)), Err(Refusal::NO_PLACE));
         assert_eq!(deal, second);
     }
 
@@ -153,16 +161,16 @@ mod tests {
     fn four_slots_fill() {
         let mut deal = [0; 1024];
         for i in 0..4 {
-            assert_eq!(book(&mut deal, &segment(i, 128)), booked(128 * u64::from(i), 768 + 64 * u64::from(i)));
+            assert_eq!(book(&mut deal, None, &segment(i, 128)), booked(128 * u64::from(i), 768 + 64 * u64::from(i)));
         }
-        assert_eq!(book(&mut deal, &segment(4, 128)), Err(Refusal::NO_SLOT));
+        assert_eq!(book(&mut deal, None, &segment(4, 128)), Err(Refusal::NO_SLOT));
     }
 
     #[test]
     fn the_all_zero_segment_is_booked_like_any_other() {
         let mut deal = [0; 512];
-        assert_eq!(book(&mut deal, &[0; 128]), booked(0, 256));
-        assert!(matches!(book(&mut deal, &[0; 128]), Ok(Booking::AlreadyKept(_))));
+        assert_eq!(book(&mut deal, None, &[0; 128]), booked(0, 256));
+        assert!(matches!(book(&mut deal, None, &[0; 128]), Ok(Booking::AlreadyKept(_))));
     }
 
     #[test]
@@ -170,15 +178,15 @@ mod tests {
         let mut deal = [0; 1024];
         deal[..768].fill(1);
         let short = &segment(1, 160)[..130];
-        assert_eq!(book(&mut deal, short), booked(0, 768));
+        assert_eq!(book(&mut deal, None, short), booked(0, 768));
         assert_eq!(deal[..130], *short);
         assert_eq!(deal[130..256], [0; 126]);
         assert_eq!(deal[256..768], [1; 512]);
         let Ok(Slot::Kept(entry)) = inspect(&deal, 768) else { panic!("the segment is kept") };
         assert_eq!(entry.commitment, commitment(&deal[..256]).unwrap());
         assert_eq!(find(&deal, entry.commitment.as_ref()).unwrap().segment, short);
-        assert!(matches!(book(&mut deal, short), Ok(Booking::AlreadyKept(_))));
-        assert_eq!(book(&mut deal, &short[..129]), booked(256, 832));
+        assert!(matches!(book(&mut deal, None, short), Ok(Booking::AlreadyKept(_))));
+        assert_eq!(book(&mut deal, None, &short[..129]), booked(256, 832));
     }
 
     #[test]
@@ -186,21 +194,21 @@ mod tests {
         let cases = [(511, 128, Refusal::SIZE), (0, 128, Refusal::SIZE), (512, 512, Refusal::SEGMENT_SIZE)];
         for (size, length, refusal) in cases {
             let mut deal = vec![0; size];
-            assert_eq!(book(&mut deal, &vec![0; length]), Err(refusal));
+            assert_eq!(book(&mut deal, None, &vec![0; length]), Err(refusal));
             assert!(deal.iter().all(|byte| *byte == 0));
         }
         let mut deal = [0; 512];
-        assert_eq!(book(&mut deal, &[]), Err(Refusal::SEGMENT_SIZE));
-        assert_eq!(book(&mut deal, &[0xff; 128]), Err(Refusal::STRAY_BITS));
+        assert_eq!(book(&mut deal, None, &[]), Err(Refusal::SEGMENT_SIZE));
+        assert_eq!(book(&mut deal, None, &[0xff; 128]), Err(Refusal::STRAY_BITS));
         deal[31] = 0x40;
-        assert_eq!(book(&mut deal, &[0; 128]), Err(Refusal::STRAY_BITS));
+        assert_eq!(book(&mut deal, None, &[0; 128]), Err(Refusal::STRAY_BITS));
     }
 
     #[test]
     fn found_bytes_are_a_part_of_the_deal() {
         let mut deal = [0; 1024];
-        book(&mut deal, &segment(1, 128)).unwrap();
-        book(&mut deal, &segment(2, 256)).unwrap();
+        book(&mut deal, None, &segment(1, 128)).unwrap();
+        book(&mut deal, None, &segment(2, 256)).unwrap();
         let wanted = commitment(&segment(2, 256)).unwrap();
         let found = find(&deal, wanted.as_ref()).unwrap();
         assert_eq!((found.offset, found.size, found.place), (256, 256, 832));
@@ -213,7 +221,7 @@ mod tests {
     #[test]
     fn the_three_states_of_a_slot() {
         let mut deal = [0; 512];
-        book(&mut deal, &segment(1, 128)).unwrap();
+        book(&mut deal, None, &segment(1, 128)).unwrap();
         let entry = Entry { commitment: commitment(&segment(1, 128)).unwrap(), offset: 0, size: 128 };
         assert_eq!(inspect(&deal, 256), Ok(Slot::Kept(entry)));
         assert_eq!(inspect(&deal, 320), Ok(Slot::Free));
@@ -232,12 +240,12 @@ mod tests {
     fn a_tally_counts_every_slot_once() {
         let mut deal = [0; 1024];
         assert_eq!(tally(&deal), Ok(Tally { blank: 4, damaged: 0, valid: 0 }));
-        book(&mut deal, &segment(1, 128)).unwrap();
-        book(&mut deal, &segment(2, 128)).unwrap();
+        book(&mut deal, None, &segment(1, 128)).unwrap();
+        book(&mut deal, None, &segment(2, 128)).unwrap();
         deal[832] ^= 1; // the second entry is damaged
         deal[960..].copy_from_slice(&make_entry(&[7; 32], 1, 1).unwrap()); // valid, and stands not
         assert_eq!(tally(&deal), Ok(Tally { blank: 1, damaged: 1, valid: 2 }));
-        assert_eq!(book(&mut deal, &segment(3, 128)), booked(128, 832)); // a damaged slot is free
+        assert_eq!(book(&mut deal, None, &segment(3, 128)), booked(128, 832)); // a damaged slot is free
         assert_eq!(tally(&deal), Ok(Tally { blank: 1, damaged: 0, valid: 3 }));
         assert_eq!(tally(&deal[..1023]), Err(Refusal::SIZE));
         deal[31] = 0x40;

@@ -138,6 +138,47 @@ extern "C" {
         right_len: usize,
     ) -> u32;
 
+    /// Writes every inner node of a deal into its tree, which has 32 bytes less than the deal. Codes: 2, 11, 12.
+    pub fn vz_tree_fill(deal: *const u8, deal_len: usize, tree: *mut u8, tree_len: usize) -> u32;
+
+    /// [`vz_book`] with the deal's tree in hand, which is brought up to date. Codes: 2, 4, 11, 12, 15, 13, 14.
+    pub fn vz_book_with_tree(
+        deal: *mut u8,
+        deal_len: usize,
+        tree: *mut u8,
+        tree_len: usize,
+        segment: *const u8,
+        segment_len: usize,
+        offset: *mut u64,
+        place: *mut u64,
+    ) -> u32;
+
+    /// [`vz_build`] with the deal's tree in hand. Codes: 2, 11, 12 (tree), 6, 16, 12 (record).
+    pub fn vz_build_with_tree(
+        deal: *const u8,
+        deal_len: usize,
+        tree: *const u8,
+        tree_len: usize,
+        place: u64,
+        record: *mut u8,
+        record_len: usize,
+        length: *mut u64,
+    ) -> u32;
+
+    /// [`vz_settle_with_deal`] with the deal's tree in hand. Codes: 12 (strings), 2, 11, 12 (tree), those of the check, 17.
+    pub fn vz_settle_with_tree(
+        deal: *const u8,
+        deal_len: usize,
+        tree: *const u8,
+        tree_len: usize,
+        record: *const u8,
+        record_len: usize,
+        left: *mut u8,
+        left_len: usize,
+        right: *mut u8,
+        right_len: usize,
+    ) -> u32;
+
     /// The field at a place of a record. Codes: 3 where no field lies there.
     pub fn vz_read_field(
         record: *const u8,
@@ -212,7 +253,7 @@ mod tests {
 
     #[test]
     fn two_outputs() {
-        let (deal, record, root) = ([0; 512], [0; 234], [0; 32]);
+        let (deal, tree, record, root) = ([0; 512], [0; 480], [0; 234], [0; 32]);
         let records = |left: &mut [u8], right: &mut [u8]| unsafe {
             let (l, ln, r, rn) = (left.as_mut_ptr(), left.len(), right.as_mut_ptr(), right.len());
             vz_settle_records(root.as_ptr(), 32, 512, record.as_ptr(), 234, record.as_ptr(), 234, l, ln, r, rn)
@@ -221,10 +262,16 @@ mod tests {
             let (l, ln, r, rn) = (left.as_mut_ptr(), left.len(), right.as_mut_ptr(), right.len());
             vz_settle_with_deal(deal.as_ptr(), 512, record.as_ptr(), 234, l, ln, r, rn)
         };
+        let with_tree = |left: &mut [u8], right: &mut [u8]| unsafe {
+            let (l, ln, r, rn) = (left.as_mut_ptr(), left.len(), right.as_mut_ptr(), right.len());
+            vz_settle_with_tree(deal.as_ptr(), 512, tree.as_ptr(), 480, record.as_ptr(), 234, l, ln, r, rn)
+        };
         refuses_lengths(64, |out| records(out, &mut [0; 64]));
         refuses_lengths(64, |out| records(&mut [0; 64], out));
         refuses_lengths(64, |out| with_deal(out, &mut [0; 64]));
         refuses_lengths(64, |out| with_deal(&mut [0; 64], out));
+        refuses_lengths(64, |out| with_tree(out, &mut [0; 64]));
+        refuses_lengths(64, |out| with_tree(&mut [0; 64], out));
     }
 
     #[test]
@@ -256,13 +303,18 @@ mod tests {
     #[test]
     fn numbers_stay_with_refusals() {
         let (mut a, mut b, mut c, mut tag) = (NUMBER, NUMBER, NUMBER, 7);
-        let mut deal = [0; 512];
+        let (mut deal, mut tree) = ([0; 512], [0; 480]);
         unsafe {
             assert_eq!(vz_index_numbers(511, &mut a, &mut b), 2);
             assert_eq!(vz_tally(deal.as_ptr(), 511, &mut a, &mut b, &mut c), 2);
             assert_eq!(vz_find(deal.as_ptr(), 512, deal.as_ptr(), 32, &mut a, &mut b, &mut c), 16);
             assert_eq!(vz_book(deal.as_mut_ptr(), 512, segment(1, 512).as_ptr(), 512, &mut a, &mut b), 4);
             assert_eq!(vz_build(deal.as_ptr(), 512, 256, [0; 300].as_mut_ptr(), 300, &mut a), 16);
+            let (lent, t) = (deal.as_mut_ptr(), tree.as_mut_ptr());
+            assert_eq!(vz_book_with_tree(lent, 512, t, 479, [0; 128].as_ptr(), 128, &mut a, &mut b), 12);
+            assert_eq!(vz_book_with_tree(lent, 512, t, 480, [0; 512].as_ptr(), 512, &mut a, &mut b), 4);
+            assert_eq!(vz_build_with_tree(lent, 512, t, 479, 256, [0; 300].as_mut_ptr(), 300, &mut a), 12);
+            assert_eq!(vz_build_with_tree(lent, 512, t, 480, 256, [0; 300].as_mut_ptr(), 300, &mut a), 16);
             assert_eq!(vz_read_field(deal.as_ptr(), 2, 0, &mut tag, &mut a, &mut b, &mut c), 3);
             assert_eq!(vz_fr32_pad(deal.as_ptr(), 0, [0; 300].as_mut_ptr(), 300, &mut a), 2);
             assert_eq!(vz_fr32_pad(deal.as_ptr(), 128, [0; 300].as_mut_ptr(), 129, &mut a), 12);

@@ -46,7 +46,7 @@ pub fn unpad(raw_length: u64, segment: &[u8]) -> Result<Vec<u8>, Refusal> {
 #[cfg(test)]
 mod tests {
     use super::*;
-    use crate::tree::commitment;
+    use crate::hash::commitment;
 
     const LENGTHS: [(u64, u64); 12] = [
         (1, 2),

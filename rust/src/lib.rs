@@ -1,16 +1,19 @@
 //! Verifiable data aggregation (FRC-0058) over the proved static library libvizhuthamen.a.
 //!
-//! Every function here is a safe call of one function of the library. A refusal is a [`Refusal`], which carries the code and its
-//! meaning in words. The answers with a code that is not 0 and yet carry values (15 of a booking, 17 of a settling) are cases of
-//! [`Booking`] and [`Settled`].
+//! Every function here is a safe call of one function of the library, or of one of two where a tree may be in hand. A refusal is
+//! a [`Refusal`], which carries the code and its meaning in words. The answers with a code that is not 0 and yet carry values (15
+//! of a booking, 17 of a settling) are cases of [`Booking`] and [`Settled`].
+//!
+//! Whoever builds many records of one deal keeps its tree beside it ([`filled_tree`]), and lends it to [`book`], [`build`] and
+//! [`settle_with_deal`], which then hash little of the deal.
 //!
 //! ```
 //! let mut deal = vec![0; 512];
 //! let segment = [1; 128];
-//! let vizhuthamen::Booking::Booked(position) = vizhuthamen::book(&mut deal, &segment)? else {
+//! let vizhuthamen::Booking::Booked(position) = vizhuthamen::book(&mut deal, None, &segment)? else {
 //!     unreachable!("an all-zero deal keeps nothing");
 //! };
-//! let record = vizhuthamen::build(&deal, position.place)?;
+//! let record = vizhuthamen::build(&deal, None, position.place)?;
 //! let commitment = vizhuthamen::commitment(&deal)?;
 //! vizhuthamen::check(commitment.as_ref(), 512, &record)?;
 //! # Ok::<(), vizhuthamen::Refusal>(())
@@ -23,6 +26,7 @@ mod deal;
 mod entry;
 pub mod ffi;
 mod fr32;
+mod hash;
 pub mod hex;
 mod node;
 mod record;
@@ -33,12 +37,13 @@ pub use codes::{meaning, Refusal};
 pub use deal::{book, find, inspect, tally, Booking, Found, Position, Slot, Tally, MAX_DEAL};
 pub use entry::{index_numbers, make_entry, read_entry, Entry, IndexNumbers, ReadEntry};
 pub use fr32::{pad, pad_into, segment_length, unpad, unpad_into, MAX_RAW};
+pub use hash::{commitment, sha256};
 pub use node::{Node, NotANode};
 pub use record::{
     build, build_into, check, fields, read_field, settle_records, settle_with_deal, Field, Fields, Settled, MAX_RECORD,
 };
 pub use streaming::{Streamed, Streaming, MAX_STREAM, STREAM_STATE};
-pub use tree::{commitment, sha256};
+pub use tree::{filled_tree, tree_fill, tree_length};
 
 #[cfg(test)]
 mod testing;

@@ -11,7 +11,7 @@ pub const MAX_RECORD: usize = 1962;
 pub enum Settled {
     /// Code 0: no string differs.
     Same,
-    /// Code 17: two different 64-byte strings with one node hash.
+    /// Code 17: two different 64-byte strings, with one node hash unless a tree that is not the deal's was in hand.
     Collision {
         /// The string of the first record, or of the record.
         left: [u8; 64],
@@ -34,19 +34,27 @@ pub struct Field<'r> {
 }
 
 /// Builds the record of the entry at a place into the first bytes of an output, and answers its length.
-/// Refusals: 2, 11, 6, 16, 12.
-pub fn build_into(deal: &[u8], place: u64, output: &mut [u8]) -> Result<usize, Refusal> {
+/// Refusals: 2, 11, 6, 16, 12; with a tree 12 after 11 too, for its length.
+///
+/// With a tree (see [`tree_fill`](crate::tree_fill)), every inner node is taken from it as it stands there.
+pub fn build_into(deal: &[u8], tree: Option<&[u8]>, place: u64, output: &mut [u8]) -> Result<usize, Refusal> {
     let mut length = 0;
+    let (d, n, r, m) = (deal.as_ptr(), deal.len(), output.as_mut_ptr(), output.len());
     // SAFETY: the slices are live and apart, since one is borrowed mutably; the number is a local of its own.
-    let code =
-        unsafe { ffi::vz_build(deal.as_ptr(), deal.len(), place, output.as_mut_ptr(), output.len(), &mut length) };
+    let code = unsafe {
+        match tree {
+            None => ffi::vz_build(d, n, place, r, m, &mut length),
+            Some(tree) => ffi::vz_build_with_tree(d, n, tree.as_ptr(), tree.len(), place, r, m, &mut length),
+        }
+    };
     accepted(code).map(|()| length as usize)
 }
 
-/// The record of the entry at a place of a deal. Refusals: 2, 11, 6, 16.
-pub fn build(deal: &[u8], place: u64) -> Result<Vec<u8>, Refusal> {
+/// The record of the entry at a place of a deal, with a tree as in [`build_into`]. Refusals: 2, 11, 6, 16; with a tree 12 after
+/// 11.
+pub fn build(deal: &[u8], tree: Option<&[u8]>, place: u64) -> Result<Vec<u8>, Refusal> {
     let mut record = vec![0; MAX_RECORD];
-    let length = build_into(deal, place, &mut record)?;
+    let length = build_into(deal, tree, place, &mut record)?;
     record.truncate(length);
     Ok(record)
 }
@@ -82,21 +90,20 @@ pub fn settle_records(commitment: &[u8], size: u64, first: &[u8], second: &[u8])
 }
 
 /// Settles a record with a deal in hand.
-/// Refusals: 2, 11, those of the check against the deal's own commitment and length.
-pub fn settle_with_deal(deal: &[u8], record: &[u8]) -> Result<Settled, Refusal> {
+/// Refusals: 2, 11, those of the check against the deal's own commitment and length; with a tree 12 after 11.
+///
+/// With a tree (see [`tree_fill`](crate::tree_fill)), the deal's commitment is the last node there, and the deal's strings are the
+/// pairs of nodes as they stand there, but for the entry's 64 bytes. So strings of a tree that is not the deal's need not collide.
+pub fn settle_with_deal(deal: &[u8], tree: Option<&[u8]>, record: &[u8]) -> Result<Settled, Refusal> {
     let (mut left, mut right) = ([0; 64], [0; 64]);
+    let (d, n, r, m) = (deal.as_ptr(), deal.len(), record.as_ptr(), record.len());
+    let (v, w) = (left.as_mut_ptr(), right.as_mut_ptr());
     // SAFETY: the slices are live, and those that are written are locals of their own.
     let code = unsafe {
-        ffi::vz_settle_with_deal(
-            deal.as_ptr(),
-            deal.len(),
-            record.as_ptr(),
-            record.len(),
-            left.as_mut_ptr(),
-            left.len(),
-            right.as_mut_ptr(),
-            right.len(),
-        )
+        match tree {
+            None => ffi::vz_settle_with_deal(d, n, r, m, v, 64, w, 64),
+            Some(tree) => ffi::vz_settle_with_tree(d, n, tree.as_ptr(), tree.len(), r, m, v, 64, w, 64),
+        }
     };
     settled(code, left, right)
 }
@@ -155,16 +162,16 @@ impl<'r> Iterator for Fields<'r> {
 mod tests {
     use super::*;
     use crate::deal::book;
+    use crate::hash::commitment;
     use crate::testing::segment;
-    use crate::tree::commitment;
 
     /// A deal of 512 bytes that keeps two segments, with its commitment and the records of both.
     fn example() -> ([u8; 512], [u8; 32], Vec<u8>, Vec<u8>) {
         let mut deal = [0; 512];
-        book(&mut deal, &segment(1, 128)).unwrap();
-        book(&mut deal, &segment(2, 128)).unwrap();
+        book(&mut deal, None, &segment(1, 128)).unwrap();
+        book(&mut deal, None, &segment(2, 128)).unwrap();
         let root = commitment(&deal).unwrap().0;
-        let (first, second) = (build(&deal, 256).unwrap(), build(&deal, 320).unwrap());
+        let (first, second) = (build(&deal, None, 256).unwrap(), build(&deal, None, 320).unwrap());
         (deal, root, first, second)
     }
 
@@ -214,11 +221,11 @@ mod tests {
     fn an_output_that_is_too_short_stays() {
         let (deal, _, first, _) = example();
         let mut output = [9; 233];
-        assert_eq!(build_into(&deal, 256, &mut output), Err(Refusal::OUTPUT));
+        assert_eq!(build_into(&deal, None, 256, &mut output), Err(Refusal::OUTPUT));
         assert_eq!(output, [9; 233]);
-        assert_eq!(build_into(&deal, 256, &mut []), Err(Refusal::OUTPUT));
+        assert_eq!(build_into(&deal, None, 256, &mut []), Err(Refusal::OUTPUT));
         let mut output = [9; 240];
-        assert_eq!(build_into(&deal, 256, &mut output), Ok(234));
+        assert_eq!(build_into(&deal, None, 256, &mut output), Ok(234));
         assert_eq!(output[..234], first);
         assert_eq!(output[234..], [9; 6]);
     }
@@ -226,13 +233,13 @@ mod tests {
     #[test]
     fn refused_buildings() {
         let (mut deal, ..) = example();
-        assert_eq!(build(&deal, 384), Err(Refusal::NOT_KEPT));
-        assert_eq!(build(&deal, 300), Err(Refusal::PLACE));
-        assert_eq!(build(&deal[..256], 192), Err(Refusal::SIZE));
+        assert_eq!(build(&deal, None, 384), Err(Refusal::NOT_KEPT));
+        assert_eq!(build(&deal, None, 300), Err(Refusal::PLACE));
+        assert_eq!(build(&deal[..256], None, 192), Err(Refusal::SIZE));
         deal[0] ^= 1;
-        assert_eq!(build(&deal, 256), Err(Refusal::NOT_KEPT));
+        assert_eq!(build(&deal, None, 256), Err(Refusal::NOT_KEPT));
         deal[31] |= 0x80;
-        assert_eq!(build(&deal, 300), Err(Refusal::STRAY_BITS));
+        assert_eq!(build(&deal, None, 300), Err(Refusal::STRAY_BITS));
     }
 
     #[test]
@@ -241,10 +248,10 @@ mod tests {
         assert_eq!(settle_records(&root, 512, &first, &first), Ok(Settled::Same));
         assert_eq!(settle_records(&root, 512, &first, &second), Err(Refusal::OTHER_PLACE));
         assert_eq!(settle_records(&root, 512, &first, &[]), Err(Refusal::FORM));
-        assert_eq!(settle_with_deal(&deal, &first), Ok(Settled::Same));
-        assert_eq!(settle_with_deal(&deal[..100], &first), Err(Refusal::SIZE));
+        assert_eq!(settle_with_deal(&deal, None, &first), Ok(Settled::Same));
+        assert_eq!(settle_with_deal(&deal[..100], None, &first), Err(Refusal::SIZE));
         deal[0] ^= 1;
-        assert_eq!(settle_with_deal(&deal, &first), Err(Refusal::SEGMENT_PATH));
+        assert_eq!(settle_with_deal(&deal, None, &first), Err(Refusal::SEGMENT_PATH));
     }
 
     #[test]

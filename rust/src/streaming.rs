@@ -74,8 +74,8 @@ impl AsRef<[u8]> for Streaming {
 #[cfg(test)]
 mod tests {
     use super::*;
+    use crate::hash::commitment;
     use crate::testing::segment;
-    use crate::tree::commitment;
 
     /// The state after these pieces, each taken without a refusal.
     fn after<'p>(pieces: impl IntoIterator<Item = &'p [u8]>) -> Streaming {

@@ -1,70 +1,129 @@
-//! SHA-256, and the commitment of a run of bytes.
+//! The tree beside a deal: a buffer with every inner node of the deal's tree.
 use crate::codes::{accepted, Refusal};
 use crate::ffi;
-use crate::node::Node;
 
-/// SHA-256 of a message of 0 to 2^24 bytes. Refusals: 2.
-pub fn sha256(message: &[u8]) -> Result<[u8; 32], Refusal> {
-    let mut digest = [0; 32];
-    // SAFETY: both slices are live, and the one that is written is a local of its own.
-    let code = unsafe { ffi::vz_sha256(message.as_ptr(), message.len(), digest.as_mut_ptr(), digest.len()) };
-    accepted(code).map(|()| digest)
+/// The length of the tree of a deal of that many bytes.
+pub const fn tree_length(size: usize) -> usize {
+    size.saturating_sub(32)
 }
 
-/// The commitment of a run, a power of two from 32 to 2^24 bytes. Refusals: 2, 11.
-pub fn commitment(run: &[u8]) -> Result<Node, Refusal> {
-    let mut node = [0; 32];
-    // SAFETY: both slices are live, and the one that is written is a local of its own.
-    let code = unsafe { ffi::vz_commitment(run.as_ptr(), run.len(), node.as_mut_ptr(), node.len()) };
-    accepted(code).map(|()| Node(node))
+/// Writes every inner node of a deal into its tree, which has [`tree_length`] bytes: heights from the bottom, left to right, so
+/// that node `i` of height `h`, from 1 on, stands at `D - D / 2^(h - 1) + 32 i` for a deal of `D` bytes, and the deal's
+/// commitment in the last 32 bytes. Refusals: 2, 11, 12.
+///
+/// [`book`](crate::book), [`build`](crate::build) and [`settle_with_deal`](crate::settle_with_deal) take such a tree, and then
+/// every inner node as it stands there. With a tree that was filled for the deal, where since then both were changed by this
+/// function and by `book` with the tree in hand alone, they answer as they do without one. With any other tree they answer too,
+/// but a record that is built may be refused by the check, a kept segment may be booked again, and the two strings that a
+/// settling shows may have two node hashes.
+pub fn tree_fill(deal: &[u8], tree: &mut [u8]) -> Result<(), Refusal> {
+    // SAFETY: the slices are live and apart, since one is borrowed mutably.
+    let code = unsafe { ffi::vz_tree_fill(deal.as_ptr(), deal.len(), tree.as_mut_ptr(), tree.len()) };
+    accepted(code)
+}
+
+/// A new tree, filled for a deal. Refusals: 2, 11.
+pub fn filled_tree(deal: &[u8]) -> Result<Vec<u8>, Refusal> {
+    let mut tree = vec![0; tree_length(deal.len())];
+    tree_fill(deal, &mut tree).map(|()| tree)
 }
 
 #[cfg(test)]
 mod tests {
     use super::*;
-    use crate::hex;
+    use crate::deal::{book, Booking, Position};
+    use crate::hash::commitment;
+    use crate::record::{build, settle_with_deal, Settled};
+    use crate::testing::segment;
+
+    /// Every node of the tree, from the definition: the commitments of all runs of a power of two of nodes.
+    fn nodes(deal: &[u8]) -> Vec<u8> {
+        let sizes = std::iter::successors(Some(64), |size| Some(2 * size)).take_while(|size| *size <= deal.len());
+        sizes.flat_map(|size| deal.chunks(size)).flat_map(|run| commitment(run).unwrap().0).collect()
+    }
 
     #[test]
-    fn published_digests() {
-        let cases: [(&[u8], &str); 3] = [
-            (b"", "e3b0c44298fc1c149afbf4c8996fb92427ae41e4649b934ca495991b7852b855"),
-            (b"abc", "ba7816bf8f01cfea414140de5dae2223b00361a396177a9cb410ff61f20015ad"),
-            (
-                b"abcdbcdecdefdefgefghfghighijhijkijkljklmklmnlmnomnopnopq",
-                "248d6a61d20638b8e5c026930c3e6039a33ce45964ff2167f6ecedd419db06c1",
-            ),
-        ];
-        for (message, digest) in cases {
-            assert_eq!(sha256(message).map(|d| hex::encode(&d)), Ok(digest.to_string()));
+    fn a_filled_tree_has_every_inner_node() {
+        for size in [512, 1024, 4096] {
+            let deal = segment(9, size);
+            let tree = filled_tree(&deal).unwrap();
+            assert_eq!(tree.len(), tree_length(size));
+            assert_eq!(tree, nodes(&deal));
+            assert_eq!(tree[size - 64..], commitment(&deal).unwrap().0);
         }
     }
 
     #[test]
-    fn messages_up_to_2_to_the_24() {
-        let mut message = vec![0; 1 << 24];
-        assert!(sha256(&message).is_ok());
-        message.push(0);
-        assert_eq!(sha256(&message), Err(Refusal::SIZE));
+    fn refused_fillings_change_nothing() {
+        let mut deal = [0; 512];
+        let expected = |deal: &[u8], length: usize, refusal: Refusal| {
+            let mut tree = vec![7; length];
+            assert_eq!(tree_fill(deal, &mut tree), Err(refusal), "{length}");
+            assert!(tree.iter().all(|byte| *byte == 7));
+        };
+        for length in [0, 479, 481, 512] {
+            expected(&deal, length, Refusal::OUTPUT);
+            expected(&deal[..500], length, Refusal::SIZE);
+        }
+        deal[31] = 0x40;
+        expected(&deal, 480, Refusal::STRAY_BITS);
+        expected(&deal, 481, Refusal::STRAY_BITS);
+        assert_eq!(filled_tree(&[]), Err(Refusal::SIZE));
     }
 
     #[test]
-    fn a_commitment_is_the_node_or_the_hash_of_the_halves() {
-        let node: [u8; 32] = std::array::from_fn(|i| i as u8);
-        assert_eq!(commitment(&node), Ok(Node(node)));
-        let mut expected = sha256(&[node, node].concat()).unwrap();
-        expected[31] &= 0x3f;
-        assert_eq!(commitment(&[node, node].concat()), Ok(Node(expected)));
+    fn a_tree_kept_over_bookings_is_that_of_the_deal() {
+        let (mut plain, mut deal) = (vec![0; 2048], vec![0; 2048]);
+        let mut tree = filled_tree(&deal).unwrap();
+        for (seed, size) in [(1, 128), (2, 300), (1, 128), (3, 1), (4, 512), (5, 128)] {
+            let segment = segment(seed, size);
+            assert_eq!(book(&mut deal, Some(&mut tree), &segment), book(&mut plain, None, &segment));
+            assert_eq!(deal, plain);
+            assert_eq!(tree, nodes(&deal));
+        }
+        for place in (1792..2048).step_by(64) {
+            let record = build(&deal, Some(&tree), place);
+            assert_eq!(record, build(&deal, None, place));
+            assert_eq!(settle_with_deal(&deal, Some(&tree), &record.unwrap()), Ok(Settled::Same));
+        }
     }
 
     #[test]
-    fn refused_runs() {
-        for length in [0, 31, 33, 96, (1 << 24) + 32] {
-            assert_eq!(commitment(&vec![0; length]), Err(Refusal::SIZE), "{length}");
+    fn a_stale_tree_is_believed() {
+        let mut deal = [0; 1024];
+        let mut tree = filled_tree(&deal).unwrap();
+        book(&mut deal, None, b"x").unwrap();
+        assert_eq!(build(&deal, Some(&tree), 768), Err(Refusal::NOT_KEPT));
+        let record = build(&deal, None, 768).unwrap();
+        assert_eq!(settle_with_deal(&deal, Some(&tree), &record), Err(Refusal::SEGMENT_PATH));
+        let again = Ok(Booking::Booked(Position { offset: 128, place: 832 }));
+        assert_eq!(book(&mut deal, Some(&mut tree), b"x"), again);
+    }
+
+    #[test]
+    fn a_spoilt_tree_shows_strings_that_do_not_collide() {
+        let mut deal = [0; 1024];
+        book(&mut deal, None, &segment(1, 256)).unwrap();
+        let mut tree = filled_tree(&deal).unwrap();
+        let record = build(&deal, None, 768).unwrap();
+        tree[896] ^= 1; // the left one of the two nodes below the top
+        let Ok(Settled::Collision { left, right }) = settle_with_deal(&deal, Some(&tree), &record) else {
+            panic!("a node on the way differs");
+        };
+        assert_eq!(right[..32], tree[896..928]);
+        assert_ne!(commitment(&left), commitment(&right));
+    }
+
+    #[test]
+    fn trees_of_another_length() {
+        let (mut deal, mut tree) = ([0; 512], [0; 512]);
+        book(&mut deal, None, &segment(1, 128)).unwrap();
+        let before = deal;
+        for length in [0, 479, 481, 512] {
+            assert_eq!(book(&mut deal, Some(&mut tree[..length]), &segment(1, 128)), Err(Refusal::OUTPUT));
+            assert_eq!(build(&deal, Some(&tree[..length]), 300), Err(Refusal::OUTPUT));
+            assert_eq!(settle_with_deal(&deal, Some(&tree[..length]), &[]), Err(Refusal::OUTPUT));
         }
-        for bit in [0x40, 0x80] {
-            let mut run = [0; 64];
-            run[63] = bit;
-            assert_eq!(commitment(&run), Err(Refusal::STRAY_BITS));
-        }
+        assert_eq!((deal, tree), (before, [0; 512]));
     }
 }

@@ -1,7 +1,7 @@
 /*
  * Every function of include/vizhuthamen.h once, from C: two segments in an all-zero deal of 512 bytes (document 01,
- * "Run and compared"), the first one's record built, checked and settled. Prints each code, and fails where an answer
- * is another one.
+ * "Run and compared"), the first one's record built, checked and settled; then the same with the deal's tree in hand.
+ * Prints each code, and fails where an answer is another one.
  *
  *   rt staticlib vizhuthamen
  *   gcc -Iinclude tests/c/smoke.c target/staticlib/libvizhuthamen.a -o target/smoke
@@ -154,6 +154,33 @@ static void settling(void) {
   answer("settle with another record", vz_settle_with_deal(deal, 512, record, length, left, 64, right, 64), VZ_OFFSET);
 }
 
+/* The same two bookings with a tree beside the deal: deal, commitment and first record are those from above. */
+static void with_tree(void) {
+  static uint8_t booked[512], tree[480], before[481], built[234];
+  memset(tree, 7, sizeof tree);
+  answer("tree fill", vz_tree_fill(booked, 512, tree, 480), VZ_OK);
+  answer("tree fill, 479 bytes", vz_tree_fill(booked, 512, tree, 479), VZ_OUTPUT);
+  answer("book with tree", vz_book_with_tree(booked, 512, tree, 480, first_segment, 128, &offset, &place), VZ_OK);
+  answer("book with tree, offset", offset, 0);
+  answer("book with tree, place", place, 256);
+  answer("book with tree, another",
+         vz_book_with_tree(booked, 512, tree, 480, second_segment, 128, &offset, &place), VZ_OK);
+  answer("book with tree, deal", memcmp(booked, deal, 512) == 0, 1);
+  answer("book with tree, last node", memcmp(tree + 448, deal_commitment, 32) == 0, 1);
+  memcpy(before, tree, 480);
+  answer("tree fill again", vz_tree_fill(booked, 512, tree, 480), VZ_OK);
+  answer("tree fill again, tree", memcmp(tree, before, 480) == 0, 1);
+  answer("book with tree, again",
+         vz_book_with_tree(booked, 512, tree, 480, first_segment, 128, &offset, &place), VZ_ALREADY_KEPT);
+  answer("build with tree", vz_build_with_tree(booked, 512, tree, 480, 256, built, 234, &length), VZ_OK);
+  answer("build with tree, record", memcmp(built, record, 234) == 0, 1);
+  answer("build with a tree of 481", vz_build_with_tree(booked, 512, before, 481, 300, built, 0, &length), VZ_OUTPUT);
+  answer("settle with tree", vz_settle_with_tree(booked, 512, tree, 480, built, 234, left, 64, right, 64), VZ_OK);
+  tree[448] ^= 1;
+  answer("settle with another last node",
+         vz_settle_with_tree(booked, 512, tree, 480, built, 234, left, 64, right, 64), VZ_SEGMENT_PATH);
+}
+
 int main(void) {
   memset(first_segment, 1, 128);
   memset(second_segment, 2, 128);
@@ -165,6 +192,7 @@ int main(void) {
   booking();
   looking();
   records();
+  with_tree();
   settling();
   return failures != 0;
 }

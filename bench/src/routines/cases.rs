@@ -196,6 +196,7 @@ fn over_deal<'a>(kept: &'a Kept, input: &'static str, repeats: usize) -> Vec<Cas
         }),
     ];
     cases.extend(records_of_deal(kept, input, repeats));
+    cases.extend(over_tree(kept, input, repeats));
     cases
 }
 
@@ -227,4 +228,49 @@ fn records_of_deal<'a>(kept: &'a Kept, input: &'static str, repeats: usize) -> V
             unsafe { (library.settle_with_deal)(deal, length, record.as_ptr(), record.len(), left, 64, right, 64) }
         }),
     ]
+}
+
+/// With the tree in hand: filling it; booking, with the entry taken out again; building and settling.
+fn over_tree<'a>(kept: &'a Kept, input: &'static str, repeats: usize) -> Vec<Case<'a>> {
+    let (deal, length, tree, nodes) = (&kept.deal, kept.deal.len(), &kept.tree, kept.tree.len());
+    vec![
+        case("vz_tree_fill", input, repeats, move |library| {
+            let mut tree = tree.clone();
+            Work::new(move || {
+                let tree = black_box(&mut tree).as_mut_ptr();
+                // SAFETY: the slices are live and apart.
+                assert_eq!(unsafe { (library.tree_fill)(deal.as_ptr(), length, tree, nodes) }, 0);
+            })
+        }),
+        case("vz_book_with_tree", input, repeats, move |library| booking_with_tree(library, kept)),
+        call("vz_build_with_tree", input, 20 * repeats, 0, move |library| {
+            let (mut record, mut written) = ([0; MAX_RECORD], 0);
+            let (deal, tree, record) = (black_box(deal).as_ptr(), tree.as_ptr(), record.as_mut_ptr());
+            // SAFETY: the slices are live and apart.
+            unsafe {
+                (library.build_with_tree)(deal, length, tree, nodes, kept.place, record, MAX_RECORD, &mut written)
+            }
+        }),
+        call("vz_settle_with_tree", input, 20 * repeats, 0, move |library| {
+            let (mut left, mut right) = ([0; 64], [0; 64]);
+            let (deal, tree, record) = (black_box(deal).as_ptr(), tree.as_ptr(), &kept.record);
+            let (left, right) = (left.as_mut_ptr(), right.as_mut_ptr());
+            let (record, m) = (record.as_ptr(), record.len());
+            // SAFETY: the slices are live and apart.
+            unsafe { (library.settle_with_tree)(deal, length, tree, nodes, record, m, left, 64, right, 64) }
+        }),
+    ]
+}
+
+fn booking_with_tree<'a>(library: &'a Library, kept: &'a Kept) -> Work<'a> {
+    let (mut deal, mut tree, segment) = (kept.deal.clone(), kept.tree.clone(), &kept.segment);
+    let (mut offset, mut place) = (0, 0);
+    Work::new(move || {
+        deal[kept.place as usize..][..64].fill(0);
+        let (lent, t) = (black_box(&mut deal).as_mut_ptr(), tree.as_mut_ptr());
+        let (d, n, s) = (kept.deal.len(), kept.tree.len(), segment.as_ptr());
+        // SAFETY: the slices are live and apart.
+        let code = unsafe { (library.book_with_tree)(lent, d, t, n, s, segment.len(), &mut offset, &mut place) };
+        assert_eq!(code, 0);
+    })
 }

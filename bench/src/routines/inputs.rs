@@ -10,9 +10,10 @@ pub struct Inputs {
     pub large: Kept,
 }
 
-/// A deal with the entry, the segment and the record of what it keeps.
+/// A deal with its tree, and with the entry, the segment and the record of what it keeps.
 pub struct Kept {
     pub deal: Vec<u8>,
+    pub tree: Vec<u8>,
     pub segment: Vec<u8>,
     pub place: u64,
     pub entry: Vec<u8>,
@@ -30,11 +31,12 @@ impl Kept {
         let (mut deal, segment) = (filled(size), filled(size / 4));
         let start = vizhuthamen::index_numbers(size as u64).expect("a size of a deal").start as usize;
         deal[start..].fill(0);
-        let Ok(Booking::Booked(position)) = vizhuthamen::book(&mut deal, &segment) else {
+        let Ok(Booking::Booked(position)) = vizhuthamen::book(&mut deal, None, &segment) else {
             panic!("booking into a deal of {size} bytes");
         };
         let entry = deal[position.place as usize..][..64].to_vec();
-        let record = vizhuthamen::build(&deal, position.place).expect("it is kept");
-        Kept { deal, segment, place: position.place, entry, record }
+        let tree = vizhuthamen::filled_tree(&deal).expect("a deal");
+        let record = vizhuthamen::build(&deal, None, position.place).expect("it is kept");
+        Kept { deal, tree, segment, place: position.place, entry, record }
     }
 }

@@ -1,6 +1,6 @@
--- Whether a slot keeps a segment, by the tests on the way. The deal is not hashed: over equal bytes the node is the
--- segment's own commitment.
-use mathlib.Core.Path.{_≡_, refl, sym, ap, _∙_}
+-- Whether a slot keeps a segment, by the tests on the way. Without a tree the deal is not hashed: over equal bytes
+-- the node is the segment's own commitment.
+use mathlib.Core.Path.{_≡_, refl, sym, ap, ap₂, _∙_}
 use mathlib.Core.Bool.{Bool, true, false, _&&_}
 use mathlib.Core.List.{List}
 use Prim.Native.Nat.{ℕ, _+_, _≤_, _<_}
@@ -9,6 +9,7 @@ use native.Mathlib.Omega.{arith}
 use lib.Dec.{eqb}
 use lib.ListN.{length}
 use borrow.Author.Tests.{eqb-true, eq-eqb}
+use Rattle.rules.specs.Choice.{choose}
 use Rattle.octets.specs.Equality.{sameBytes}
 use Rattle.octets.specs.EqualityLaws.{same-true, same-of, same-false}
 use Rattle.octets.specs.LittleEndian.{numberOf}
@@ -17,62 +18,50 @@ use Rattle.octets.specs.Splice.{part}
 use Rattle.octets.specs.SpliceLaws.{part-part}
 use Rattle.merkle.specs.Tree.{commitmentOf, nodeAt}
 use Rattle.entries.specs.Entry.{commitmentIn, offsetIn, sizeIn}
-use Rattle.sizes.specs.Sizes.{area, slotPlace, segmentLevel, segmentPosition}
-use Rattle.sizes.specs.SizesLaws.{DealSize, segment-size, segment-place}
-use Rattle.index.specs.KeptLaws.{kept-stands, segment-node}
-use Rattle.index.specs.KeptRowsLaws.{row-some}
-use Rattle.index.specs.Slots.{slotAt, standing, kept}
-use Rattle.index.specs.SlotsLaws.{Stands, stands, keeps}
+use Rattle.sizes.specs.Sizes.{offsetAllowed, area, slotPlace, segmentLevel, segmentPosition}
+use Rattle.sizes.specs.SizesLaws.{DealSize}
+use Rattle.tree.specs.TreeNodes.{treeNodes}
+use Rattle.lent.specs.LentDeal.{LentDeal, lentWith, dealSize}
+use Rattle.index.specs.KeptLaws.{segment-node}
+use Rattle.index.specs.KeptRowsLaws.{row-some, standing-size, standing-place}
+use Rattle.index.specs.Slots.{slotAt, standing, nodeOver, kept, keptAt}
+use Rattle.index.specs.SlotsLaws.{stands, keeps}
 use Rattle.room.specs.Room.{Range, range}
 use Rattle.booking.specs.Ranges.{rangesOf}
 use Rattle.booking.specs.RangesLaws.{range-stands}
 use Rattle.booking.specs.Write.{areaBytes, segmentCommitment}
 use Rattle.booking.specs.Booking.{keepsSegment}
+use Rattle.booking.specs.KeepLaws.{keeps-stands}
 
-module _ (deal segment : List ℕ) (i : ℕ) where
-  -- the entry in the slot, whether it is kept, has the segment's size, and the bytes at its offset
+module _ (deal : LentDeal) (segment : List ℕ) (i : ℕ) where
+  -- the entry in the slot, whether it has the segment's size, and the bytes at its offset
   abbrev entry : List ℕ
-  entry = slotAt deal i
-
-  abbrev keptHere : Bool
-  keptHere = kept (nodeAt deal) (length deal) entry
+  entry = slotAt (deal .bytes) i
 
   abbrev sizeHere : Bool
   sizeHere = eqb (sizeIn entry) (length segment)
 
   abbrev bytesHere : Bool
-  bytesHere = sameBytes (part deal (offsetIn entry) (area (length segment))) (areaBytes segment)
+  bytesHere = sameBytes (part (deal .bytes) (offsetIn entry) (area (length segment))) (areaBytes segment)
 
   module _ (e : keepsSegment deal segment i ≡ true) where
-    is-kept : keptHere ≡ true
+    is-kept : keptAt deal i ≡ true
     unfolding keepsSegment
-    is-kept = and-left keptHere (sizeHere && bytesHere) e
+    is-kept = and-left (keptAt deal i) (sizeHere && bytesHere) e
 
     same-size : sizeIn entry ≡ length segment
     unfolding keepsSegment
-    same-size = eqb-true _ _ (and-left sizeHere bytesHere (and-right keptHere (sizeHere && bytesHere) e))
+    same-size = eqb-true _ _ (and-left sizeHere bytesHere (and-right (keptAt deal i) (sizeHere && bytesHere) e))
 
-    same-bytes : part deal (offsetIn entry) (area (length segment)) ≡ areaBytes segment
+    same-bytes : part (deal .bytes) (offsetIn entry) (area (length segment)) ≡ areaBytes segment
     unfolding keepsSegment
-    same-bytes = same-true _ _ (and-right sizeHere bytesHere (and-right keptHere (sizeHere && bytesHere) e))
+    same-bytes = same-true _ _ (and-right sizeHere bytesHere (and-right (keptAt deal i) (sizeHere && bytesHere) e))
 
-    range-is : rangesOf deal i ≡ range (offsetIn entry) (area (sizeIn entry))
-    range-is = range-stands (length deal) entry (kept-stands (nodeAt deal) (length deal) entry is-kept)
+    range-is : rangesOf (deal .bytes) i ≡ range (offsetIn entry) (area (sizeIn entry))
+    range-is = range-stands (dealSize deal) entry (keeps-stands deal segment i e)
 
-  -- the node over a standing entry's segment, where that holds exactly the lent one and zeros after it
-  node-there : DealSize (length deal) → Stands (length deal) entry → sizeIn entry ≡ length segment
-      → part deal (offsetIn entry) (area (length segment)) ≡ areaBytes segment
-      → nodeAt deal (segmentLevel (sizeIn entry)) (segmentPosition (offsetIn entry) (sizeIn entry))
-      ≡ segmentCommitment segment
-  node-there t s z b =
-      let size = segment-size (length deal) (sizeIn entry) t (s .size-allowed) in
-      let place = segment-place (length deal) (offsetIn entry) (sizeIn entry) t size (s .offset-allowed) in
-      segment-node deal (length deal) (offsetIn entry) (sizeIn entry) size place
-      ∙ ap (λ (n : ℕ). commitmentOf (segmentLevel n) (part deal (offsetIn entry) (area n))) z
-      ∙ ap (commitmentOf (segmentLevel (length segment))) b
-
-  -- an entry of another area or size, or with another commitment
-  pub other-area : (rangesOf deal i .area ≡ area (length segment) → ⊥) → keepsSegment deal segment i ≡ false
+  -- an entry of another area or size
+  pub other-area : (rangesOf (deal .bytes) i .area ≡ area (length segment) → ⊥) → keepsSegment deal segment i ≡ false
   other-area h =
       not-passed (keepsSegment deal segment i)
       (λ t. h (ap (λ (r : Range). r .area) (range-is t) ∙ ap area (same-size t)))
@@ -80,43 +69,72 @@ module _ (deal segment : List ℕ) (i : ℕ) where
   pub other-size : (sizeIn entry ≡ length segment → ⊥) → keepsSegment deal segment i ≡ false
   other-size h = not-passed (keepsSegment deal segment i) (λ t. h (same-size t))
 
-  module _ (t : DealSize (length deal)) where
-    pub other-commitment : sameBytes (commitmentIn entry) (segmentCommitment segment) ≡ false
-        → keepsSegment deal segment i ≡ false
-    other-commitment h =
-        not-passed (keepsSegment deal segment i)
-        (λ e.
-        let k = keeps (nodeAt deal) (length deal) entry (is-kept e) in
-        same-false (commitmentIn entry) (segmentCommitment segment) h
-        (sym (k .node-is) ∙ node-there t (k .is-standing) (same-size e) (same-bytes e)))
+  -- an entry that agrees in both stands
+  module _ (a : 0 < rangesOf (deal .bytes) i .area) (z : sizeIn entry ≡ length segment) where
+    pub stood : standing (dealSize deal) entry ≡ true
+    stood = row-some (dealSize deal) entry a
 
-    -- an entry that agrees in all three: its bytes decide
-    module _ (a : 0 < rangesOf deal i .area) (z : sizeIn entry ≡ length segment)
-        (n : sameBytes (commitmentIn entry) (segmentCommitment segment) ≡ true) where
-      stood : standing (length deal) entry ≡ true
-      stood = row-some (length deal) entry a
+    pub offset-there : rangesOf (deal .bytes) i .offset ≡ offsetIn entry
+    offset-there = ap (λ (r : Range). r .offset) (range-stands (dealSize deal) entry stood)
 
-      pub offset-there : rangesOf deal i .offset ≡ offsetIn entry
-      offset-there = ap (λ (r : Range). r .offset) (range-stands (length deal) entry stood)
+    pub offset-fits : offsetAllowed (dealSize deal) (rangesOf (deal .bytes) i .offset) (length segment) ≡ true
+    offset-fits =
+        ap₂ (offsetAllowed (dealSize deal)) offset-there (sym z) ∙ stands (dealSize deal) entry stood .offset-allowed
 
-      keeps-here : part deal (offsetIn entry) (area (length segment)) ≡ areaBytes segment
-          → keepsSegment deal segment i ≡ true
-      unfolding keepsSegment kept
-      keeps-here b =
-          let node = node-there t (stands (length deal) entry stood) z b in
-          rw (
-            stood,
-            same-of _ _ (node ∙ sym (same-true (commitmentIn entry) (segmentCommitment segment) n)),
-            eq-eqb (sizeIn entry) (length segment) z,
-            same-of _ _ b,
-          )
+    -- its commitment and its bytes decide: the first by a node that is the one over its area wherever that holds
+    -- exactly the segment's bytes and zeros after them
+    module _ (node : List ℕ)
+        (n : part (deal .bytes) (offsetIn entry) (area (length segment)) ≡ areaBytes segment
+        → nodeOver (deal .nodes) entry ≡ node) where
+      pub other-commitment : sameBytes (commitmentIn entry) node ≡ false → keepsSegment deal segment i ≡ false
+      other-commitment h =
+          not-passed (keepsSegment deal segment i)
+          (λ e.
+          let k = keeps (deal .nodes) (dealSize deal) entry (is-kept e) in
+          same-false (commitmentIn entry) node h (sym (k .node-is) ∙ n (same-bytes e)))
 
-      pub bytes-decide : bytesHere ≡ keepsSegment deal segment i
-      bytes-decide = by-test bytesHere refl
-        where
-          by-test : (b : Bool) → bytesHere ≡ b → b ≡ keepsSegment deal segment i
-          by-test true e = sym (keeps-here (same-true _ _ e))
-          by-test false e = sym (not-passed (keepsSegment deal segment i) (λ t. same-false _ _ e (same-bytes t)))
+      module _ (c : sameBytes (commitmentIn entry) node ≡ true) where
+        keeps-here : part (deal .bytes) (offsetIn entry) (area (length segment)) ≡ areaBytes segment
+            → keepsSegment deal segment i ≡ true
+        unfolding keepsSegment kept
+        keeps-here b =
+            rw (
+              stood,
+              same-of _ _ (n b ∙ sym (same-true (commitmentIn entry) node c)),
+              eq-eqb (sizeIn entry) (length segment) z,
+              same-of _ _ b,
+            )
+
+        pub bytes-decide : bytesHere ≡ keepsSegment deal segment i
+        bytes-decide = by-test bytesHere refl
+          where
+            by-test : (b : Bool) → bytesHere ≡ b → b ≡ keepsSegment deal segment i
+            by-test true e = sym (keeps-here (same-true _ _ e))
+            by-test false e = sym (not-passed (keepsSegment deal segment i) (λ t. same-false _ _ e (same-bytes t)))
+
+-- such a node: with a tree beside the deal the one that stands there, and without one the segment's commitment
+module _ (deal tree segment : List ℕ) (i : ℕ) (t : DealSize (length deal))
+    (s : standing (length deal) (slotAt deal i) ≡ true) (z : sizeIn (slotAt deal i) ≡ length segment) where
+  abbrev here : List ℕ
+  here = slotAt deal i
+
+  own-node : part deal (offsetIn here) (area (length segment)) ≡ areaBytes segment
+      → nodeOver (nodeAt deal) here ≡ segmentCommitment segment
+  own-node b =
+      segment-node deal (length deal) (offsetIn here) (sizeIn here) (standing-size (length deal) here t s)
+      (standing-place (length deal) here t s)
+      ∙ ap (λ (n : ℕ). commitmentOf (segmentLevel n) (part deal (offsetIn here) (area n))) z
+      ∙ ap (commitmentOf (segmentLevel (length segment))) b
+
+  pub node-there : (hasTree : Bool) (offset : ℕ) → offset ≡ offsetIn here
+      → part deal (offsetIn here) (area (length segment)) ≡ areaBytes segment
+      → nodeOver (lentWith hasTree deal tree .nodes) here
+      ≡ choose hasTree
+      (treeNodes deal tree (segmentLevel (length segment)) (segmentPosition offset (length segment)))
+      (segmentCommitment segment)
+  node-there true offset o b =
+      ap₂ (λ (n m : ℕ). treeNodes deal tree (segmentLevel n) (segmentPosition m n)) z (sym o)
+  node-there false offset o b = own-node b
 
 -- what is read at a slot's place
 module _ (deal : List ℕ) (i place : ℕ) (p : place ≡ slotPlace (length deal) i) (h : place + 64 ≤ length deal) where

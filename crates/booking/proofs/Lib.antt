@@ -1,3 +1,4 @@
 pub mod GatherTurn
 pub mod KeepingSlot
 pub mod Deciding
+pub mod Outcome

@@ -8,6 +8,7 @@ use mathlib.Core.List.{List}
 use lib.ListN.{length}
 use Rattle.octets.specs.Bytes.{Bytes}
 use Rattle.sizes.specs.Sizes.{area}
+use Rattle.lent.specs.LentDeal.{LentDeal, dealSize}
 use Rattle.index.specs.Slots.{slotAt}
 use Rattle.room.specs.Room.{overlaps}
 use Rattle.room.specs.DecideLaws.{Places}
@@ -17,35 +18,38 @@ use Rattle.booking.specs.RangesLaws.{range-stands, empty-free}
 use Rattle.booking.specs.Write.{writtenDeal}
 use Rattle.booking.specs.WriteLaws.{Fits, written-length, written-bytes}
 use Rattle.booking.specs.Booking.{decision, bookAnswer, bookedDeal}
-use Rattle.booking.specs.BookableLaws.{bookable-deal}
+use Rattle.booking.specs.BookableLaws.{bookable-deal, bookable-plain}
 use Rattle.booking.specs.BookingLaws.{Unkept, books, deal-is, code-0, refused-same}
 
-module _ (deal segment : List ℕ) (i o : ℕ) (e : decision deal segment ≡ Place i o) where
+module _ (deal : LentDeal) (segment : List ℕ) (i o : ℕ) (e : decision deal segment ≡ Place i o) where
   pub booked-unkept : Unkept deal segment
   booked-unkept = books deal segment i o .0 e .0
 
-  booked-places : Places (length deal) (rangesOf deal) (area (length segment)) i o
+  booked-places : Places (dealSize deal) (rangesOf (deal .bytes)) (area (length segment)) i o
   booked-places = books deal segment i o .0 e .1
 
-  pub booked-fits : Fits deal segment i o
+  pub booked-fits : Fits (deal .bytes) segment i o
   booked-fits =
-      let d = length deal in
+      let d = dealSize deal in
       let p = booked-places in
       record {
-        bookable = booked-unkept .bookable;
+        bookable = bookable-plain (booked-unkept .bookable);
         slot-in = omega (arith, p .free-slot .below);
-        slot-free = empty-free d (slotAt deal i) (bookable-deal (booked-unkept .bookable) .deal) (p .free-slot .passes);
+        slot-free =
+            empty-free d (slotAt (deal .bytes) i) (bookable-deal (booked-unkept .bookable) .deal)
+            (p .free-slot .passes);
         aligned = p .free-place .aligned;
         ends = p .free-place .ends;
         apart = λ j h s.
-            ap (overlaps o (area (length segment))) (sym (range-stands d (slotAt deal j) s)) ∙ p .free-place .apart j h;
+            ap (overlaps o (area (length segment))) (sym (range-stands d (slotAt (deal .bytes) j) s))
+            ∙ p .free-place .apart j h;
       }
 
-  pub booked-is : bookedDeal deal segment ≡ writtenDeal deal segment i o
+  pub booked-is : bookedDeal deal segment ≡ writtenDeal (deal .bytes) segment i o
   booked-is = deal-is deal segment (Place i o) e
 
-module _ (deal segment : List ℕ) where
-  pub booked-length : length (bookedDeal deal segment) ≡ length deal
+module _ (deal : LentDeal) (segment : List ℕ) where
+  pub booked-length : length (bookedDeal deal segment) ≡ dealSize deal
   booked-length =
       elim (ℕ-discrete (bookAnswer deal segment .code) 0) [
         | yes z ↦
@@ -55,7 +59,7 @@ module _ (deal segment : List ℕ) where
         | no h ↦ ap length (refused-same deal segment h)
       ]
 
-  pub booked-bytes : Bytes deal → Bytes segment → Bytes (bookedDeal deal segment)
+  pub booked-bytes : Bytes (deal .bytes) → Bytes segment → Bytes (bookedDeal deal segment)
   booked-bytes b c =
       elim (ℕ-discrete (bookAnswer deal segment .code) 0) [
         | yes z ↦

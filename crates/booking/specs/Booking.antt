@@ -1,4 +1,5 @@
--- Booking a segment in a deal (document 01, "Booking, finding, building, settling": book; order 2, 4, 11, 15, 13, 14).
+-- Booking a segment in a deal (document 01, "Booking, finding, building, settling": book; order 2, 4, 11, 15, 13, 14;
+-- document 02, request (vii): with a tree beside the deal 12, right after 11).
 use mathlib.Core.Bool.{Bool, _&&_}
 use Prim.Native.Nat.{ℕ}
 use mathlib.Core.List.{List, [], _∷_}
@@ -9,11 +10,11 @@ use Rattle.rules.specs.declared.Found.{Found}
 use Rattle.rules.specs.Search.{lowest}
 use Rattle.octets.specs.Equality.{sameBytes}
 use Rattle.octets.specs.Splice.{part}
-use Rattle.merkle.specs.Tree.{nodeAt}
 use Rattle.stray.specs.StrayBits.{noStrayBits}
 use Rattle.sizes.specs.Sizes.{lentSizeAllowed, segmentSizeAllowed, area, entryCount}
 use Rattle.entries.specs.Entry.{offsetIn, sizeIn}
-use Rattle.index.specs.Slots.{slotAt, kept}
+use Rattle.lent.specs.LentDeal.{LentDeal, dealSize}
+use Rattle.index.specs.Slots.{slotAt, keptAt}
 use Rattle.room.specs.Decide.{decide, answerTo}
 use Rattle.room.specs.declared.Booked.{Booked}
 use Rattle.room.specs.declared.Decision.{Decision}
@@ -22,34 +23,35 @@ use Rattle.booking.specs.Ranges.{rangesOf}
 use Rattle.booking.specs.Write.{areaBytes, writtenDeal}
 
 -- the rules that are looked at first
-abbrev pub bookRules : List ℕ → List ℕ → List Rule
+abbrev pub bookRules : LentDeal → List ℕ → List Rule
 bookRules deal segment =
-    rule (lentSizeAllowed (length deal)) 2
-    ∷ rule (segmentSizeAllowed (length deal) (length segment)) 4
-    ∷ rule (noStrayBits deal && noStrayBits (areaBytes segment)) 11
+    rule (lentSizeAllowed (dealSize deal)) 2
+    ∷ rule (segmentSizeAllowed (dealSize deal) (length segment)) 4
+    ∷ rule (noStrayBits (deal .bytes) && noStrayBits (areaBytes segment)) 11
+    ∷ rule (deal .treeSized) 12
     ∷ []
 
 -- slot i keeps the segment: a kept entry of the same size with exactly the segment's area at its offset
-unfoldable pub keepsSegment : List ℕ → List ℕ → ℕ → Bool
+unfoldable pub keepsSegment : LentDeal → List ℕ → ℕ → Bool
 keepsSegment deal segment i =
-    let entry = slotAt deal i in
-    kept (nodeAt deal) (length deal) entry
+    let entry = slotAt (deal .bytes) i in
+    keptAt deal i
     && (eqb (sizeIn entry) (length segment)
-    && sameBytes (part deal (offsetIn entry) (area (length segment))) (areaBytes segment))
+    && sameBytes (part (deal .bytes) (offsetIn entry) (area (length segment))) (areaBytes segment))
 
 -- the lowest slot that does
-abbrev pub lowestKeeping : List ℕ → List ℕ → Found
-lowestKeeping deal segment = lowest (keepsSegment deal segment) 0 (entryCount (length deal))
+abbrev pub lowestKeeping : LentDeal → List ℕ → Found
+lowestKeeping deal segment = lowest (keepsSegment deal segment) 0 (entryCount (dealSize deal))
 
 -- what booking decides: a refusal, or what its room allows (crates/room)
-unfoldable pub decision : List ℕ → List ℕ → Decision
+unfoldable pub decision : LentDeal → List ℕ → Decision
 decision deal segment =
     unlessRefused (firstRefusal (bookRules deal segment)) Refuse
-    (decide (length deal) (rangesOf deal) (area (length segment)) (lowestKeeping deal segment))
+    (decide (dealSize deal) (rangesOf (deal .bytes)) (area (length segment)) (lowestKeeping deal segment))
 
 -- the answer: offset and entry place
-unfoldable pub bookAnswer : List ℕ → List ℕ → Booked
-bookAnswer deal segment = answerTo (length deal) (rangesOf deal) (decision deal segment)
+unfoldable pub bookAnswer : LentDeal → List ℕ → Booked
+bookAnswer deal segment = answerTo (dealSize deal) (rangesOf (deal .bytes)) (decision deal segment)
 
 -- the deal afterwards: with code 0 the segment's area and its entry are written, and no other byte changes
 abbrev pub dealAfter : List ℕ → List ℕ → Decision → List ℕ
@@ -57,5 +59,5 @@ dealAfter deal segment (Refuse code) = deal
 dealAfter deal segment (Already i) = deal
 dealAfter deal segment (Place i offset) = writtenDeal deal segment i offset
 
-unfoldable pub bookedDeal : List ℕ → List ℕ → List ℕ
-bookedDeal deal segment = dealAfter deal segment (decision deal segment)
+unfoldable pub bookedDeal : LentDeal → List ℕ → List ℕ
+bookedDeal deal segment = dealAfter (deal .bytes) segment (decision deal segment)

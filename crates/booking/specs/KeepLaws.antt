@@ -1,6 +1,6 @@
 -- Which slots keep a segment after one is written: the new slot keeps it and no other, and every other slot keeps what
 -- it kept.
-use mathlib.Core.Path.{_≡_, sym, ap, ap₂, _∙_}
+use mathlib.Core.Path.{_≡_, refl, sym, ap, ap₂, _∙_}
 use mathlib.Core.Bool.{Bool, true, _&&_}
 use mathlib.Core.Logic.{_≢_}
 use Prim.Native.Nat.{ℕ, _<_}
@@ -16,7 +16,8 @@ use Rattle.octets.specs.Splice.{part}
 use Rattle.merkle.specs.Tree.{nodeAt}
 use Rattle.sizes.specs.Sizes.{lentSizeAllowed, segmentSizeAllowed, area, entryCount}
 use Rattle.entries.specs.Entry.{offsetIn, sizeIn}
-use Rattle.index.specs.Slots.{slotAt, standing, kept}
+use Rattle.lent.specs.LentDeal.{LentDeal, lentDeal, dealSize}
+use Rattle.index.specs.Slots.{slotAt, standing, kept, keptAt}
 use Rattle.index.specs.KeptLaws.{kept-stands}
 use Rattle.booking.specs.Write.{areaBytes, writtenDeal}
 use Rattle.booking.specs.Booking.{keepsSegment}
@@ -35,19 +36,18 @@ use Rattle.booking.specs.WriteLaws.{
 }
 
 -- a slot that keeps a segment holds a standing entry
-pub keeps-stands : (deal segment : List ℕ) (i : ℕ) → keepsSegment deal segment i ≡ true
-    → standing (length deal) (slotAt deal i) ≡ true
+pub keeps-stands : (deal : LentDeal) (segment : List ℕ) (i : ℕ) → keepsSegment deal segment i ≡ true
+    → standing (dealSize deal) (slotAt (deal .bytes) i) ≡ true
 unfolding keepsSegment
 keeps-stands deal segment i e =
-    kept-stands (nodeAt deal) (length deal) (slotAt deal i)
-    (and-left (kept (nodeAt deal) (length deal) (slotAt deal i)) _ e)
+    kept-stands (deal .nodes) (dealSize deal) (slotAt (deal .bytes) i) (and-left (keptAt deal i) _ e)
 
 module _ {deal segment : List ℕ} {i o : ℕ} (facts : Fits deal segment i o) where
   abbrev after : List ℕ
   after = writtenDeal deal segment i o
 
   -- the new slot keeps the segment; of every other slot it is the same whether it keeps a segment
-  pub keeps-written : keepsSegment after segment i ≡ true
+  pub keeps-written : keepsSegment (lentDeal after) segment i ≡ true
   unfolding keepsSegment
   keeps-written =
       let new : List ℕ = slotAt after i in
@@ -57,8 +57,8 @@ module _ {deal segment : List ℕ} {i o : ℕ} (facts : Fits deal segment i o) w
       (ap (λ (at : ℕ). part after at (area (length segment))) (offset-written facts) ∙ segment-written facts) in
       rw (kept-written facts, size, bytes)
 
-  pub keeps-same : (other : List ℕ) (j : ℕ) → j < entryCount (length deal) → j ≢ i → keepsSegment after other j
-      ≡ keepsSegment deal other j
+  pub keeps-same : (other : List ℕ) (j : ℕ) → j < entryCount (length deal) → j ≢ i
+      → keepsSegment (lentDeal after) other j ≡ keepsSegment (lentDeal deal) other j
   unfolding keepsSegment
   keeps-same other j h ne =
       let was : List ℕ = slotAt deal j in
@@ -79,7 +79,7 @@ module _ {deal segment : List ℕ} {i o : ℕ} (facts : Fits deal segment i o) w
       ap (λ (l : List ℕ). sameBytes l (areaBytes other)) (rw z at a)))
 
   -- and keeps no other
-  pub keeps-only : (other : List ℕ) → keepsSegment after other i ≡ true → segment ≡ other
+  pub keeps-only : (other : List ℕ) → keepsSegment (lentDeal after) other i ≡ true → segment ≡ other
   unfolding keepsSegment
   keeps-only other t =
       let new : List ℕ = slotAt after i in
@@ -96,7 +96,7 @@ module _ {deal segment : List ℕ} {i o : ℕ} (facts : Fits deal segment i o) w
       (sym (segment-written facts) ∙ ap₂ (λ (at m : ℕ). part after at (area m)) (sym (offset-written facts)) n ∙ b)
 
   -- what else could be booked can be so afterwards, as far as sizes and stray bits go
-  pub bookable-stays : (other : List ℕ) → Bookable deal other → Bookable after other
+  pub bookable-stays : (other : List ℕ) → Bookable (lentDeal deal) other → Bookable (lentDeal after) other
   bookable-stays other b =
       record {
         deal-allowed = ap lentSizeAllowed (written-length facts) ∙ b .deal-allowed;
@@ -104,4 +104,5 @@ module _ {deal segment : List ℕ} {i o : ℕ} (facts : Fits deal segment i o) w
             ap (λ (d : ℕ). segmentSizeAllowed d (length other)) (written-length facts) ∙ b .segment-allowed;
         deal-clear = written-clear facts;
         segment-clear = b .segment-clear;
+        tree-sized = refl;
       }

@@ -2,6 +2,7 @@ pub mod Ranges
 pub mod Write
 pub mod Booking
 pub mod Run
+pub mod BookedTree
 pub mod RangesLaws
 pub mod BookableLaws
 pub mod BookingLaws
@@ -10,3 +11,5 @@ pub mod KeepLaws
 pub mod BookedLaws
 pub mod AlreadyLaws
 pub mod NeverAgain
+pub mod BookedTreeLaws
+pub mod TreeBookingLaws

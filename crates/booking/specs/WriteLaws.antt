@@ -38,7 +38,7 @@ use Rattle.booking.specs.BookableLaws.{Bookable, bookable-deal, bookable
 
 -- there is room for that: slot i is free, and the area at the offset is apart from every standing entry's
 pub record Fits (deal segment : List ℕ) (i o : ℕ) : Type 0 where
-  pub bookable : Bookable deal segment
+  pub bookable : Bookable (lentDeal deal) segment
   pub slot-in : i < entryCount (length deal)
   pub slot-free : standing (length deal) (slotAt deal i) ≡ false
   pub aligned : o % area (length segment) ≡ 0
@@ -72,7 +72,7 @@ module _ {deal segment : List ℕ} {i o : ℕ} (facts : Fits deal segment i o) w
       commitment-length (segmentLevel (length segment)) (areaBytes segment)
       (omega (arith, area-all, segment-sized .area-is))
 
-  entry-64 : length (newEntry segment o) ≡ 64
+  pub entry-64 : length (newEntry segment o) ≡ 64
   entry-64 = entry-length (segmentCommitment segment) o (length segment) commitment-32
 
   half-length : length half ≡ length deal

@@ -3,11 +3,15 @@ use crate::gathering::gather;
 use crate::keeping::lowest_keeping;
 use room::Booked;
 ghost use mathlib.Core.Path.{_≡_};
-ghost use Prim.Native.Nat.{_+_, _≤_};
+ghost use Prim.Native.Nat.{_+_, _≤_, _<_};
 ghost use lib.ListN.{length};
+ghost use Rattle.rules.specs.Choice.{choose};
 ghost use Rattle.sizes.specs.Sizes.{area};
+ghost use Rattle.lent.specs.LentDeal.{lentWith, lentDeal, treeDeal};
+ghost use Rattle.lent.specs.Usable.{Usable};
 ghost use Rattle.booking.specs.Write.{segmentCommitment, writtenAt};
 ghost use Rattle.booking.specs.Booking.{bookAnswer, bookedDeal};
+ghost use Rattle.booking.specs.BookedTree.{renewedFor, bookedTree};
 ghost use Rattle.booking.specs.BookableLaws.{Bookable};
 
 // A refusal.
@@ -22,14 +26,21 @@ fn refused(code: u8) -> Booked
 }
 
 // Where a segment that no rule refuses goes in a lent deal: the answer by the test for 15 and the deal's room.
-fn place_for(deal: &[u8], segment: &[u8], commitment: [u8; 32]) -> Booked
-    requires { ⌜ Bookable (now deal) (now segment) ⌝ }
+fn place_for(
+    deal: &[u8],
+    tree: &[u8],
+    has_tree: bool,
+    segment: &[u8],
+    commitment: [u8; 32],
+) -> Booked
+    requires { ⌜ Bookable (lentWith «has_tree» (now deal) (now tree)) (now segment) ⌝ }
     requires { ⌜ commitment ≡ segmentCommitment (now segment) ⌝ }
-    ensures { λ r. ⌜ r ≡ bookAnswer (now (deal .entry)) (now (segment .entry)) ⌝ }
+    ensures { λ r. ⌜ r
+        ≡ bookAnswer (lentWith «has_tree» (now (deal .entry)) (now (tree .entry))) (now (segment .entry)) ⌝ }
 {
     let deal_size = deal.len() as u64;
     let ranges = gather(deal);
-    let keeping = lowest_keeping(deal, segment, commitment, ranges);
+    let keeping = lowest_keeping(deal, tree, has_tree, segment, commitment, ranges);
     let decision = room::decide(
         deal_size,
         ranges,
@@ -53,13 +64,31 @@ fn write_segment(deal: &mut [u8], segment: &[u8], commitment: [u8; 32], offset: 
     octets::put_pair(deal, place as usize, entry);
 }
 
-// Books a segment in a lent deal: the segment, zeros after it to its area's end, and its entry are written, and no
-// other byte changes. 2 for a deal size that is not allowed, 4 for a segment size that is not allowed in it, 11 for
-// stray bits in either, 15 with offset and entry place of the lowest slot that keeps the segment already, 13 for no
-// free slot, 14 for no free place; on a refusal nothing is written.
-pub fn book(deal: &mut [u8], segment: &[u8]) -> Booked
-    ensures { λ r. ⌜ r ≡ bookAnswer (now (deal .entry)) (now (segment .entry)) ⌝ }
-    ensures { λ r. ⌜ now (deal .exit) ≡ bookedDeal (now (deal .entry)) (now (segment .entry)) ⌝ }
+// Brings the tree beside a deal up to date, where there is one: the nodes above the area of a segment of this size and
+// above its entry, which were written.
+fn renew_written(deal: &[u8], tree: &mut [u8], has_tree: bool, size: u64, offset: u64, place: u64)
+    requires { ⌜ Usable (lentWith «has_tree» (now deal) (now tree)) ⌝ }
+    requires { ⌜ (0 < area size) × (offset + area size ≤ length (now deal)) × (place + 64 ≤ length (now deal)) ⌝ }
+    ensures { λ _. ⌜ now (tree .exit)
+        ≡ choose «has_tree» (renewedFor (now (deal .entry)) (now (tree .entry)) offset (area size) place)
+        (now (tree .entry)) ⌝ }
+{
+    if has_tree {
+        let top = sizes::deal_level(deal.len() as u64);
+        tree::renew(deal, tree, top, offset as usize, sizes::area(size) as usize);
+        tree::renew(deal, tree, top, place as usize, 64);
+    }
+}
+
+// Books a segment in a lent deal, with a tree beside it or without one.
+fn book_in(deal: &mut [u8], tree: &mut [u8], has_tree: bool, segment: &[u8]) -> Booked
+    ensures { λ r. ⌜ r
+        ≡ bookAnswer (lentWith «has_tree» (now (deal .entry)) (now (tree .entry))) (now (segment .entry)) ⌝ }
+    ensures { λ _. ⌜ now (deal .exit)
+        ≡ bookedDeal (lentWith «has_tree» (now (deal .entry)) (now (tree .entry))) (now (segment .entry)) ⌝ }
+    ensures { λ _. ⌜ now (tree .exit)
+        ≡ choose «has_tree» (bookedTree (now (deal .entry)) (now (tree .entry)) (now (segment .entry)))
+        (now (tree .entry)) ⌝ }
 {
     let size = segment.len() as u64;
     if !sizes::lent_size_allowed(deal.len()) {
@@ -74,10 +103,39 @@ pub fn book(deal: &mut [u8], segment: &[u8]) -> Booked
     if !stray::no_stray_bits(segment) {
         return refused(11);
     }
+    if !lent::tree_sized(deal.len(), tree, has_tree) {
+        return refused(12);
+    }
     let commitment = merkle::root_of_filled(segment, sizes::segment_level(size));
-    let answer = place_for(deal, segment, commitment);
+    let answer = place_for(deal, tree, has_tree, segment, commitment);
     if answer.code == 0 {
         write_segment(deal, segment, commitment, answer.offset, answer.place);
+        renew_written(deal, tree, has_tree, size, answer.offset, answer.place);
     }
     answer
+}
+
+// Books a segment in a lent deal: the segment, zeros after it to its area's end, and its entry are written, and no
+// other byte changes. 2 for a deal size that is not allowed, 4 for a segment size that is not allowed in it, 11 for
+// stray bits in either, 15 with offset and entry place of the lowest slot that keeps the segment already, 13 for no
+// free slot, 14 for no free place; on a refusal nothing is written.
+pub fn book(deal: &mut [u8], segment: &[u8]) -> Booked
+    ensures { λ r. ⌜ r ≡ bookAnswer (lentDeal (now (deal .entry))) (now (segment .entry)) ⌝ }
+    ensures { λ _. ⌜ now (deal .exit) ≡ bookedDeal (lentDeal (now (deal .entry))) (now (segment .entry)) ⌝ }
+{
+    let mut none = [0u8; 1];
+    book_in(deal, &mut none, false, segment)
+}
+
+// The same with a tree beside the deal, whatever it holds: 12 for another length than the deal asks, after 11; the test
+// for 15 reads kept from it; with code 0 every node above the bytes written is worked out anew from its children as
+// they then stand, and no other byte of the tree changes.
+pub fn book_with_tree(deal: &mut [u8], tree: &mut [u8], segment: &[u8]) -> Booked
+    ensures { λ r. ⌜ r ≡ bookAnswer (treeDeal (now (deal .entry)) (now (tree .entry))) (now (segment .entry)) ⌝ }
+    ensures { λ _. ⌜ now (deal .exit)
+        ≡ bookedDeal (treeDeal (now (deal .entry)) (now (tree .entry))) (now (segment .entry)) ⌝ }
+    ensures { λ _. ⌜ now (tree .exit)
+        ≡ bookedTree (now (deal .entry)) (now (tree .entry)) (now (segment .entry)) ⌝ }
+{
+    book_in(deal, tree, true, segment)
 }

@@ -1,4 +1,5 @@
--- Building a record from a lent deal and an entry place (document 01, "Booking, finding, building, settling": build).
+-- Building a record from a lent deal and an entry place (document 01, "Booking, finding, building, settling": build;
+-- document 02, request (vii): the deal may have a tree beside it).
 use Prim.Native.Nat.{ℕ}
 use mathlib.Core.List.{List, [], _∷_, _++_}
 use lib.ListN.{length}
@@ -39,7 +40,7 @@ fieldsFor deal e place =
       entryPath = entryPathOf deal place;
     }
 
--- the record at an entry place, or why there is none: 2, 11, 6, 16
+-- the record at an entry place, or why there is none: 2, 11, 12 for the tree beside the deal, 6, 16
 pub data Building : Type 0 where
   built : List ℕ → Building
   notBuilt : ℕ → Building
@@ -51,7 +52,7 @@ entryRules deal place =
     ∷ []
 
 abbrev pub buildRules : LentDeal → ℕ → List Rule
-buildRules deal place = dealRules (deal .bytes) ++ entryRules deal place
+buildRules deal place = dealRules deal ++ entryRules deal place
 
 unfoldable pub recordAt : LentDeal → ℕ → Building
 recordAt deal place =

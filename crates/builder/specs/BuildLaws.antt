@@ -1,4 +1,5 @@
--- A record that is built: its fields, its sizes, and where its paths lead. For any source that is a tree over the deal.
+-- A record that is built: its fields, its sizes for any source whose nodes have 32 bytes each, and where its paths lead
+-- for any source that is a tree over the deal.
 use mathlib.Core.Path.{_≡_, refl, sym, ap, ap₂, _∙_}
 use mathlib.Core.Bool.{true}
 use Prim.Native.Nat.{ℕ, zero, suc, _+_, _-_, _*_, _/_, _%_, _^_, _≤_, _<_}
@@ -8,7 +9,7 @@ use lib.ListN.{length, take, drop}
 use lib.Seq.{take-take, drop-drop, take-add}
 use borrow.Author.Tests.{eq-eqb}
 use Rattle.rules.specs.Refusals.{firstRefusal, unlessRefused}
-use Rattle.rules.specs.RefusalLaws.{none-refused}
+use Rattle.rules.specs.RefusalLaws.{none-refused, all-passed}
 use Rattle.octets.specs.Bytes.{Bytes}
 use Rattle.octets.specs.Splice.{part}
 use Rattle.octets.specs.SpliceLaws.{part-length, bytes-part}
@@ -19,7 +20,8 @@ use Rattle.merkle.specs.NodeSource.{NodeSource, IsTree}
 use Rattle.paths.specs.Start.{InTree}
 use Rattle.paths.specs.Path.{rootFrom}
 use Rattle.paths.specs.Siblings.{nodeFrom}
-use Rattle.paths.specs.SiblingsLaws.{path-length, path-clear, own-leads}
+use Rattle.paths.specs.NodesSized.{NodesSized}
+use Rattle.paths.specs.SiblingsLaws.{tree-sized, path-length, path-clear, own-leads}
 use Rattle.paths.specs.DealStarts.{segmentStart, entryStart}
 use Rattle.paths.specs.DealStartsLaws.{segment-in, entry-in}
 use Rattle.sizes.specs.Sizes.{lentSizeAllowed, segmentSizeAllowed, offsetAllowed, placeAllowed, area, indexStart}
@@ -41,6 +43,7 @@ use Rattle.builder.specs.Build.{built, notBuilt, buildRules, recordAt}
 pub record Builds (deal : LentDeal) (place : ℕ) (r : List ℕ) : Type 0 where
   pub lent : lentSizeAllowed (dealSize deal) ≡ true
   pub clean : noStrayBits (deal .bytes) ≡ true
+  pub tree-sized : deal .treeSized ≡ true
   pub place-allowed : placeAllowed (dealSize deal) place ≡ true
   pub is-kept : Keeps (deal .nodes) (dealSize deal) (entryAt (deal .bytes) place)
   pub wrote : encode (fieldsFor deal (entryAt (deal .bytes) place) place) ≡ r
@@ -53,23 +56,26 @@ build-means deal place r e = go (firstRefusal (buildRules deal place)) refl e
         → unlessRefused code notBuilt (built (encode (fieldsFor deal (entryAt (deal .bytes) place) place))) ≡ built r
         → Builds deal place r
     go zero q i =
-        let a = none-refused (buildRules deal place) (omega arith, (omega arith, (omega arith, (omega arith, tt)))) q in
+        let a = none-refused (buildRules deal place)
+        (omega arith, (omega arith, (omega arith, (omega arith, (omega arith, tt))))) q in
         let w : encode (fieldsFor deal (entryAt (deal .bytes) place) place) ≡ r = cc in
         record {
           lent = a .0;
           clean = a .1 .0;
-          place-allowed = a .1 .1 .0;
-          is-kept = keeps (deal .nodes) (dealSize deal) (entryAt (deal .bytes) place) (a .1 .1 .1 .0);
+          tree-sized = a .1 .1 .0;
+          place-allowed = a .1 .1 .1 .0;
+          is-kept = keeps (deal .nodes) (dealSize deal) (entryAt (deal .bytes) place) (a .1 .1 .1 .1 .0);
           wrote = w;
         }
     go (suc code) q i = let z : _≡_ {A = ℕ} 0 1 = cc in absurd (omega arith)
 
 pub means-build : (deal : LentDeal) (place : ℕ) (r : List ℕ) → lentSizeAllowed (dealSize deal) ≡ true
-    → noStrayBits (deal .bytes) ≡ true → placeAllowed (dealSize deal) place ≡ true
+    → noStrayBits (deal .bytes) ≡ true → deal .treeSized ≡ true → placeAllowed (dealSize deal) place ≡ true
     → kept (deal .nodes) (dealSize deal) (entryAt (deal .bytes) place) ≡ true
     → encode (fieldsFor deal (entryAt (deal .bytes) place) place) ≡ r → recordAt deal place ≡ built r
 unfolding recordAt
-means-build deal place r a b c k e = rw (a, b, c, k) (ap built e)
+means-build deal place r a b t c k e =
+    rw (all-passed (buildRules deal place) (a, (b, (t, (c, (k, tt)))))) (ap built e)
 
 -- the numbers of an entry place, an offset and a size in a lent deal
 pub record InDeal (d place offset size : ℕ) : Type 0 where
@@ -127,14 +133,21 @@ entry-node nodes deal top place t e o h =
     (ap (take 32) (drop-drop 32 place deal ∙ ap (λ (k : ℕ). drop k deal) b) ∙ sym (t .leaf (m * 2 + 1))))
     ∙ sym (t .split (top - 1) 0 m (omega arith) h)
 
-module _ (deal : LentDeal) (t : IsTree (deal .nodes) (deal .bytes) (dealLevel (dealSize deal))) where
+-- where the nodes have 32 bytes each, the paths have as many nodes as they have levels
+module _ (deal : LentDeal) (each : NodesSized (deal .nodes) (dealLevel (dealSize deal))) where
   module _ (place offset size : ℕ) (w : InDeal (dealSize deal) place offset size) where
     pub segment-path-length : length (segmentPathOf deal offset size) ≡ 32 * segmentPathLevels (dealSize deal) size
-    segment-path-length = path-length (deal .nodes) (deal .bytes) _ t _ (segment-start w)
+    segment-path-length = path-length (deal .nodes) _ each _ (segment-start w)
 
     pub entry-path-length : length (entryPathOf deal place) ≡ 32 * entryPathLevels (dealSize deal)
-    entry-path-length = path-length (deal .nodes) (deal .bytes) _ t _ (entry-start w)
+    entry-path-length = path-length (deal .nodes) _ each _ (entry-start w)
 
+-- where they are a tree, the paths lead to the deal's commitment
+module _ (deal : LentDeal) (t : IsTree (deal .nodes) (deal .bytes) (dealLevel (dealSize deal))) where
+  abbrev each : NodesSized (deal .nodes) (dealLevel (dealSize deal))
+  each = tree-sized (deal .nodes) (deal .bytes) _ t
+
+  module _ (place offset size : ℕ) (w : InDeal (dealSize deal) place offset size) where
     pub segment-path-clear : noStrayBits (segmentPathOf deal offset size) ≡ true
     segment-path-clear =
         let low : 2 ≤ segmentLevel size = w .size-is .level-low in
@@ -193,8 +206,8 @@ module _ (deal : LentDeal) (t : IsTree (deal .nodes) (deal .bytes) (dealLevel (d
         let oh : o + area z ≤ indexStart (dealSize deal) = w .segment-is .ends in
         let zh : z ≤ area z = w .size-is .size-area in
         let th : dealLevel (dealSize deal) ≤ 19 = w .lent-is .lent-level in
-        let a = segment-path-length place o z w in
-        let c = entry-path-length place o z w in
+        let a = segment-path-length deal each place o z w in
+        let c = entry-path-length deal each place o z w in
         record {
           commitment-32 = part-length e 0 32 (omega arith);
           offset-8 = omega arith;
@@ -220,8 +233,8 @@ module _ (deal : LentDeal) (t : IsTree (deal .nodes) (deal .bytes) (dealLevel (d
           size-allowed = m .is-kept .is-standing .size-allowed;
           offset-allowed = m .is-kept .is-standing .offset-allowed;
           place-allowed = m .place-allowed;
-          segment-path-length = segment-path-length place o z w;
-          entry-path-length = entry-path-length place o z w;
+          segment-path-length = segment-path-length deal each place o z w;
+          entry-path-length = entry-path-length deal each place o z w;
           commitment-clear =
               entry-clear (deal .bytes) place (w .place-is .at-position) (w .place-is .in-deal) (m .clean);
           segment-path-clear = segment-path-clear place o z w;

@@ -1,11 +1,11 @@
--- The length of a record that is built.
+-- The length of a record that is built, for any source whose nodes have 32 bytes each.
 use mathlib.Core.Path.{_≡_, refl, sym, ap, ap₂, _∙_}
 use Prim.Native.Nat.{ℕ, _+_, _≤_}
 use native.Mathlib.Omega.{arith}
 use mathlib.Core.List.{List, [], _∷_}
 use lib.ListN.{length}
 use Rattle.octets.specs.SpliceLaws.{part-length}
-use Rattle.merkle.specs.NodeSource.{IsTree}
+use Rattle.paths.specs.NodesSized.{NodesSized}
 use Rattle.sizes.specs.Sizes.{dealLevel}
 use Rattle.entries.specs.Entry.{commitmentIn, offsetIn, sizeIn}
 use Rattle.index.specs.Slots.{entryAt}
@@ -29,7 +29,7 @@ unfolding commitmentIn
 commitment-in-length deal place h = let l = part-length deal place 64 h in
     part-length (entryAt deal place) 0 32 (omega arith)
 
-module _ (deal : LentDeal) (t : IsTree (deal .nodes) (deal .bytes) (dealLevel (dealSize deal))) where
+module _ (deal : LentDeal) (each : NodesSized (deal .nodes) (dealLevel (dealSize deal))) where
   -- the length of the record for an entry
   pub record-length : (commitment : List ℕ) (offset size place : ℕ) → length commitment ≡ 32
       → InDeal (dealSize deal) place offset size
@@ -37,8 +37,8 @@ module _ (deal : LentDeal) (t : IsTree (deal .nodes) (deal .bytes) (dealLevel (d
   unfolding recordFor recordLength
   record-length commitment offset size place l w =
       encode-length _ l
-      ∙ ap₂ (λ (m n : ℕ). tableLength layout (m ∷ n ∷ [])) (segment-path-length deal t place offset size w)
-      (entry-path-length deal t place offset size w)
+      ∙ ap₂ (λ (m n : ℕ). tableLength layout (m ∷ n ∷ [])) (segment-path-length deal each place offset size w)
+      (entry-path-length deal each place offset size w)
 
   -- the length of a record that was built
   pub built-length : (place : ℕ) (r : List ℕ) → Builds deal place r

@@ -2,3 +2,4 @@ pub mod Build
 pub mod Encode
 pub mod BuildLaws
 pub mod EncodeLaws
+pub mod TreeBuildLaws

@@ -3,6 +3,7 @@ mod building;
 mod writing;
 
 pub use building::build;
+pub use building::build_with_tree;
 
 // The length of the record that was written; 0 on a refusal.
 pub struct BuildAnswer {

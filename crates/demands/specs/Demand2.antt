@@ -84,21 +84,26 @@ built-is-accepted deal b place out e =
 
 -- Demand 2. A segment that was booked with code 0 gets 15, with the same offset and entry place, whatever is booked in
 -- between.
-pub never-booked-again : (deal segment : List ℕ) → bookAnswer deal segment .code ≡ 0 → (later : List (List ℕ))
-    → bookAnswer (runBookings (bookedDeal deal segment) later) segment
-    ≡ record { code = 15; offset = bookAnswer deal segment .offset; place = bookAnswer deal segment .place }
+pub never-booked-again : (deal segment : List ℕ) → bookAnswer (lentDeal deal) segment .code ≡ 0
+    → (later : List (List ℕ))
+    → bookAnswer (lentDeal (runBookings (bookedDeal (lentDeal deal) segment) later)) segment
+    ≡ record {
+      code = 15;
+      offset = bookAnswer (lentDeal deal) segment .offset;
+      place = bookAnswer (lentDeal deal) segment .place;
+    }
 never-booked-again = never-again
 
 -- and one that a deal keeps to begin with goes on getting 15
-pub kept-never-booked : (deal segment : List ℕ) (later : List (List ℕ)) → bookAnswer deal segment .code ≡ 15
-    → bookAnswer (runBookings deal later) segment ≡ bookAnswer deal segment
+pub kept-never-booked : (deal segment : List ℕ) (later : List (List ℕ)) → bookAnswer (lentDeal deal) segment .code ≡ 15
+    → bookAnswer (lentDeal (runBookings deal later)) segment ≡ bookAnswer (lentDeal deal) segment
 kept-never-booked = kept-for-good
 
 -- Demand 2. Where some slot of a deal keeps the segment, booking answers 15 with the offset and the entry place of the
 -- lowest such slot, now and after any later bookings.
-pub kept-is-never-booked : (deal segment : List ℕ) (i : ℕ) → Bookable deal segment → i < entryCount (length deal)
-    → keepsSegment deal segment i ≡ true
+pub kept-is-never-booked : (deal segment : List ℕ) (i : ℕ) → Bookable (lentDeal deal) segment
+    → i < entryCount (length deal) → keepsSegment (lentDeal deal) segment i ≡ true
     → (j : ℕ)
-    × IsLowest (keepsSegment deal segment) 0 (entryCount (length deal)) j
-    × ((later : List (List ℕ)) → bookAnswer (runBookings deal later) segment ≡ answer15 deal j)
+    × IsLowest (keepsSegment (lentDeal deal) segment) 0 (entryCount (length deal)) j
+    × ((later : List (List ℕ)) → bookAnswer (lentDeal (runBookings deal later)) segment ≡ answer15 deal j)
 kept-is-never-booked = kept-is-15

@@ -32,7 +32,7 @@ pub records-settle : (commitment : List ℕ) (size : ℕ) (r s : List ℕ) → B
 records-settle commitment size r s br bs cr cs at = two-records (dealTerms commitment size) r s br bs cr cs at
 
 -- a statement that holds exactly where another does is settled by the same answer
-same-statement : (P Q : Type 0) (a : Settled) → (P → Q) → (Q → P) → Settles P a → Settles Q a
+pub same-statement : (P Q : Type 0) (a : Settled) → (P → Q) → (Q → P) → Settles P a → Settles Q a
 same-statement P Q a f g s =
     record {
       code-is = s .code-is;

@@ -8,3 +8,7 @@ pub mod Chains
 pub mod TwoRecords
 pub mod WithDeal
 pub mod BuildsExactlyLaws
+pub mod TreeHistory
+pub mod TreeForms
+pub mod TreeHistoryLaws
+pub mod TreeDemands

@@ -1,5 +1,5 @@
 -- A record accepted against a deal in hand: what building writes, or a collision.
-use mathlib.Core.Path.{_≡_, sym, ap, ap₂, _∙_, subst}
+use mathlib.Core.Path.{_≡_, refl, sym, ap, ap₂, _∙_, subst}
 use mathlib.Core.Bool.{true}
 use Prim.Native.Nat.{ℕ, _<_}
 use native.Mathlib.Omega.{arith}
@@ -49,7 +49,7 @@ made-fields deal x h s e =
 
 module _ (deal : LentDeal) (t : IsTree (deal .nodes) (deal .bytes) (dealLevel (dealSize deal)))
     (bd : Bytes (deal .bytes)) (lent : lentSizeAllowed (dealSize deal) ≡ true)
-    (clean : noStrayBits (deal .bytes) ≡ true) where
+    (clean : noStrayBits (deal .bytes) ≡ true) (sized : deal .treeSized ≡ true) where
   module _ (x : Fields) (h : Sized x) (a : Accepted (termsOf deal) x) where
     w : InDeal (dealSize deal) (x .place) (x .offset) (x .size)
     w =
@@ -96,7 +96,7 @@ module _ (deal : LentDeal) (t : IsTree (deal .nodes) (deal .bytes) (dealLevel (d
         let d = dealSize deal in
         let f = same-entry e in
         let k = same-segment g in
-        means-build deal (x .place) r lent clean (a .place-allowed)
+        means-build deal (x .place) r lent clean sized (a .place-allowed)
         (subst (λ (s : List ℕ). kept (deal .nodes) d s ≡ true) (f .1)
         (made-kept d (x .commitment) (x .offset) (x .size) (h .commitment-32) (h .offset-8) (h .size-8) (deal .nodes)
         (a .size-allowed) (a .offset-allowed) (sym (k .1))))
@@ -130,7 +130,7 @@ module _ (deal : LentDeal) (t : IsTree (deal .nodes) (deal .bytes) (dealLevel (d
       let x = m .0 in
       let px : parse r ≡ parsed x = m .1 in
       let k = parse-canonical r x br px in
-      rw (none-refusal (deal .bytes) lent clean, cr, px)
+      rw (none-refusal deal lent clean sized, cr, px)
       (settles-beside (termsOf deal) x (k .1) (m .2) (dealEntryStrings deal x) (dealSegmentStrings deal x)
       (beside x (k .1) (m .2))
       (recordAt deal (x .place) ≡ built r)
@@ -148,4 +148,4 @@ pub with-deal : (deal r : List ℕ) → Bytes deal → lentSizeAllowed (length d
     → Settles (recordAt (lentDeal deal) (placeIn (parse r)) ≡ built r) (settleWithDeal (lentDeal deal) r)
 with-deal deal r bd l c b k =
     let tree = run-tree deal (dealLevel (length deal)) (lent-size (length deal) l .deal .is-power) in
-    settles-deal (lentDeal deal) tree bd l c r b k
+    settles-deal (lentDeal deal) tree bd l c refl r b k

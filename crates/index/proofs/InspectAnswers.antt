@@ -40,16 +40,16 @@ module _ (deal : LentDeal) (place : ℕ) where
   abbrev done : Inspected
   done = slotHolds (deal .nodes) (dealSize deal) (entryAt (deal .bytes) place)
 
-  pub deal-refused : (code : ℕ) → code ≡ dealRefusal (deal .bytes) → code ≢ 0 → refused code ≡ inspectAnswer deal place
+  pub deal-refused : (code : ℕ) → code ≡ dealRefusal deal → code ≢ 0 → refused code ≡ inspectAnswer deal place
   unfolding inspectAnswer
-  deal-refused = refused-answer (deal .bytes) later refused done
+  deal-refused = refused-answer deal later refused done
 
-  pub place-refused : dealRefusal (deal .bytes) ≡ 0 → placeAllowed (dealSize deal) place ≡ false
+  pub place-refused : dealRefusal deal ≡ 0 → placeAllowed (dealSize deal) place ≡ false
       → refused 6 ≡ inspectAnswer deal place
   unfolding inspectAnswer
-  place-refused e f = rw (← passed-answer (deal .bytes) later refused done e, f)
+  place-refused e f = rw (← passed-answer deal later refused done e, f)
 
-  pub inspect-done : dealRefusal (deal .bytes) ≡ 0 → placeAllowed (dealSize deal) place ≡ true
+  pub inspect-done : dealRefusal deal ≡ 0 → placeAllowed (dealSize deal) place ≡ true
       → slotHolds (deal .nodes) (dealSize deal) (entryAt (deal .bytes) place) ≡ inspectAnswer deal place
   unfolding inspectAnswer
-  inspect-done e f = rw (← passed-answer (deal .bytes) later refused done e, f)
+  inspect-done e f = rw (← passed-answer deal later refused done e, f)

@@ -1,6 +1,5 @@
 pub mod ValidKind
 pub mod SlotAnswers
-pub mod SegmentNode
 pub mod Keeping
 pub mod View
 pub mod InspectAnswers

@@ -48,10 +48,10 @@ foundIn deal (At i) =
     }
 foundIn deal Missing = refused 16
 
--- 1, 2, 11, then the lowest slot that keeps the commitment, or 16
+-- 1, 2, 11, 12, then the lowest slot that keeps the commitment, or 16
 unfoldable pub findNumbers : LentDeal → List ℕ → FoundSegment
 findNumbers deal commitment =
-    unlessRefused (firstRefusal (rule (eqb (length commitment) 32) 1 ∷ dealRules (deal .bytes))) refused
+    unlessRefused (firstRefusal (rule (eqb (length commitment) 32) 1 ∷ dealRules deal)) refused
     (foundIn (deal .bytes) (lowestWithCommitment deal commitment))
 
 -- the view: the segment's bytes in the deal; nothing on every refusal, where offset and size are 0

@@ -49,6 +49,7 @@ pub record Searched (deal : LentDeal) (commitment : List ℕ) : Type 0 where
   pub commitment-length : length commitment ≡ 32
   pub size-allowed : lentSizeAllowed (dealSize deal) ≡ true
   pub clear : noStrayBits (deal .bytes) ≡ true
+  pub tree-sized : deal .treeSized ≡ true
 
 -- a segment that is found: in slot i, the lowest that keeps the commitment
 pub record FoundIn (deal : LentDeal) (commitment : List ℕ) (i : ℕ) : Type 0 where
@@ -59,7 +60,7 @@ pub record FoundIn (deal : LentDeal) (commitment : List ℕ) (i : ℕ) : Type 0 
 
 module _ (deal : LentDeal) (commitment : List ℕ) where
   rules : List Rule
-  rules = rule (eqb (length commitment) 32) 1 ∷ dealRules (deal .bytes)
+  rules = rule (eqb (length commitment) 32) 1 ∷ dealRules deal
 
   abbrev done : FoundSegment
   done = foundIn (deal .bytes) (lowestWithCommitment deal commitment)
@@ -67,8 +68,13 @@ module _ (deal : LentDeal) (commitment : List ℕ) where
   passed : firstRefusal rules ≡ 0 → Searched deal commitment
   unfolding rules
   passed e =
-      let p = none-refused rules (omega arith, (omega arith, (omega arith, tt))) e in
-      record { commitment-length = eqb-true (length commitment) 32 (p .0); size-allowed = p .1 .0; clear = p .1 .1 .0 }
+      let p = none-refused rules (omega arith, (omega arith, (omega arith, (omega arith, tt)))) e in
+      record {
+        commitment-length = eqb-true (length commitment) 32 (p .0);
+        size-allowed = p .1 .0;
+        clear = p .1 .1 .0;
+        tree-sized = p .1 .1 .1 .0;
+      }
 
   by-code : (code : ℕ) → firstRefusal rules ≡ code → findNumbers deal commitment ≡ unlessRefused code refused done
   unfolding rules findNumbers
@@ -79,15 +85,16 @@ module _ (deal : LentDeal) (commitment : List ℕ) where
   unfolding findNumbers
   commitment-refused h = rw (ne-eqb (length commitment) 32 h)
 
-  pub deal-refused : length commitment ≡ 32 → (code : ℕ) → code ≡ dealRefusal (deal .bytes) → code ≢ 0
+  pub deal-refused : length commitment ≡ 32 → (code : ℕ) → code ≡ dealRefusal deal → code ≢ 0
       → refused code ≡ findNumbers deal commitment
   unfolding findNumbers
-  deal-refused l code e h = rw (eq-eqb (length commitment) 32 l) (refused-answer (deal .bytes) [] refused done code e h)
+  deal-refused l code e h = rw (eq-eqb (length commitment) 32 l) (refused-answer deal [] refused done code e h)
 
   pub searched-is : Searched deal commitment
       → findNumbers deal commitment ≡ foundIn (deal .bytes) (lowestWithCommitment deal commitment)
   unfolding findNumbers
-  searched-is s = rw (eq-eqb (length commitment) 32 (s .commitment-length), s .size-allowed, s .clear)
+  searched-is s =
+      rw (eq-eqb (length commitment) 32 (s .commitment-length), s .size-allowed, s .clear, s .tree-sized)
 
   -- every answer is a refusal before the slots are looked at, that of a segment in a slot, or 16
   by-answer : (P : FoundSegment → Type 0) → ((code : ℕ) → P (refused (suc code)))

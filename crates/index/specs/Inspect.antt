@@ -29,8 +29,8 @@ slotHolds nodes d entry =
     (choose (standing d entry) (choose (kept nodes d entry) SlotState.Kept SlotState.Standing) SlotState.Free)
     (rowOf d entry)
 
--- 2, 11, 6, then what stands at the place
+-- 2, 11, 12, 6, then what stands at the place
 unfoldable pub inspectAnswer : LentDeal → ℕ → Inspected
 inspectAnswer deal place =
-    unlessRefused (firstRefusal (dealRules (deal .bytes) ++ (rule (placeAllowed (dealSize deal) place) 6 ∷ []))) refused
+    unlessRefused (firstRefusal (dealRules deal ++ (rule (placeAllowed (dealSize deal) place) 6 ∷ []))) refused
     (slotHolds (deal .nodes) (dealSize deal) (entryAt (deal .bytes) place))

@@ -11,3 +11,4 @@ pub mod TallyLaws
 pub mod KeptRowsLaws
 pub mod SlotWrittenLaws
 pub mod AreaWrittenLaws
+pub mod FilledKeptLaws

@@ -7,7 +7,7 @@ use Rattle.rules.specs.Search.{count}
 use Rattle.sizes.specs.Sizes.{entryCount}
 use Rattle.entries.specs.Entry.{isKind}
 use Rattle.entries.specs.declared.EntryKind.{EntryKind}
-use Rattle.lent.specs.LentDeal.{dealRules}
+use Rattle.lent.specs.LentDeal.{lentDeal, dealRules}
 use Rattle.index.specs.Slots.{slotAt}
 use Rattle.index.specs.declared.Tallied.{Tallied}
 
@@ -30,4 +30,4 @@ countsOf deal =
 
 -- 2, 11, then the three counts
 unfoldable pub tallyAnswer : List ℕ → Tallied
-tallyAnswer deal = unlessRefused (firstRefusal (dealRules deal)) refused (countsOf deal)
+tallyAnswer deal = unlessRefused (firstRefusal (dealRules (lentDeal deal))) refused (countsOf deal)

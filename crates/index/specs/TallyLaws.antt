@@ -12,7 +12,7 @@ use Rattle.sizes.specs.Sizes.{entryCount}
 use Rattle.entries.specs.Entry.{kindOf, kindNumber, isKind}
 use Rattle.entries.specs.declared.EntryKind.{EntryKind}
 use Rattle.entries.specs.declared.EntryKind.the-variants.{Blank, Damaged, Valid}
-use Rattle.lent.specs.LentDeal.{dealRules}
+use Rattle.lent.specs.LentDeal.{lentDeal, dealRules}
 use Rattle.index.specs.Slots.{slotAt}
 use Rattle.index.specs.Tally.{countOf, refused, countsOf, tallyAnswer}
 
@@ -46,7 +46,7 @@ counts-total deal =
 pub tally-adds-up : (deal : List ℕ) → tallyAnswer deal .code ≡ 0
     → tallyAnswer deal .blank + tallyAnswer deal .damaged + tallyAnswer deal .valid ≡ entryCount (length deal)
 unfolding tallyAnswer
-tally-adds-up deal = by (firstRefusal (dealRules deal))
+tally-adds-up deal = by (firstRefusal (dealRules (lentDeal deal)))
   where
     by : (code : ℕ) → let answer = unlessRefused code refused (countsOf deal) in answer .code ≡ 0
         → answer .blank + answer .damaged + answer .valid ≡ entryCount (length deal)

@@ -27,7 +27,7 @@ fn keeping_at(deal: &[u8], place: usize, commitment: &[u8]) -> Row
     if !octets::same(&named, commitment) {
         return free_row();
     }
-    if !segment_has(deal, row.offset, row.size, named) {
+    if !segment_has(deal, deal, false, row.offset, row.size, named) {
         return free_row();
     }
     row

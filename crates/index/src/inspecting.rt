@@ -53,7 +53,7 @@ fn slot_holds(deal: &[u8], place: usize) -> Inspected
         return inspected_row(SlotState::Free, row);
     }
     let commitment = row.commitment;
-    if !segment_has(deal, row.offset, row.size, commitment) {
+    if !segment_has(deal, deal, false, row.offset, row.size, commitment) {
         return inspected_row(SlotState::Standing, row);
     }
     inspected_row(SlotState::Kept, row)

@@ -8,6 +8,7 @@ pub use finding::find;
 pub use finding::find_numbers;
 pub use inspecting::inspect;
 pub use slots::kept_at;
+pub use slots::segment_node;
 pub use slots::standing_at;
 pub use tallying::tally;
 

@@ -1,2 +1,7 @@
 pub mod LentDeal
 pub mod LentDealLaws
+pub mod Usable
+pub mod UsableLaws
+pub mod FilledTree
+pub mod FilledTreeLaws
+pub mod FilledLentLaws

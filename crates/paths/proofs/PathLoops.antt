@@ -4,10 +4,10 @@ use Prim.Native.Nat.{ℕ, suc, _+_, _-_, _*_, _/_, _≤_, _<_}
 use native.Mathlib.Omega.{arith}
 use mathlib.Core.List.{List}
 use lib.ListN.{drop}
-use lib.Seq.{drop-drop}
 use Rattle.octets.specs.Splice.{part}
 use Rattle.node.specs.Node.{nodeHash}
 use Rattle.paths.specs.Path.{pairOf, pathRoot}
+use Rattle.paths.specs.PathLaws.{drop-sibling}
 use Rattle.paths.specs.Compare.{comparedAbove, comparedUp}
 use Rattle.paths.specs.declared.Compared.{Compared}
 
@@ -16,11 +16,6 @@ one-left n i h = omega arith
 
 pub none-left : (n i : ℕ) → n ≤ i → n - i ≡ 0
 none-left n i h = omega arith
-
-drop-sibling : (i : ℕ) (path : List ℕ) → drop 32 (drop (i * 32) path) ≡ drop ((i + 1) * 32) path
-drop-sibling i path =
-    let e : i * 32 + 32 ≡ (i + 1) * 32 = omega arith in
-    drop-drop 32 (i * 32) path ∙ ap (λ (k : ℕ). drop k path) e
 
 -- one path
 module _ (n i p : ℕ) (x path : List ℕ) where

@@ -4,11 +4,16 @@ pub mod Strings
 pub mod Difference
 pub mod Collision
 pub mod Siblings
+pub mod NodesSized
 pub mod DealStarts
 pub mod Compare
 pub mod Chain
+pub mod StartLaws
 pub mod DifferenceLaws
 pub mod PathLaws
 pub mod SiblingsLaws
+pub mod AgreeLaws
 pub mod DealStartsLaws
 pub mod CompareLaws
+pub mod CompareOwn
+pub mod CompareOwnLaws

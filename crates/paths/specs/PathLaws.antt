@@ -6,13 +6,19 @@ use native.Mathlib.Omega.{arith}
 use mathlib.Core.List.{List, [], _∷_, _++_}
 use lib.Dec.{eqb}
 use lib.ListN.{length, take, drop, length-drop, length-append, take-append-drop}
-use lib.Seq.{take-at, drop-at, length-take-le}
+use lib.Seq.{take-at, drop-at, drop-drop, length-take-le}
 use Rattle.rules.specs.Choice.{choose}
 use Rattle.node.specs.Node.{nodeHash, node-hash-length}
 use Rattle.paths.specs.Start.{PathStart}
 use Rattle.paths.specs.Path.{pairOf, pathRoot, rootFrom}
 use Rattle.paths.specs.Strings.{pathStrings, stringsFrom}
 use Rattle.paths.specs.Chain.{sides, sidesFrom, half, Chain}
+
+-- a path with one more sibling passed
+pub drop-sibling : (i : ℕ) (path : List ℕ) → drop 32 (drop (i * 32) path) ≡ drop ((i + 1) * 32) path
+drop-sibling i path =
+    let e : i * 32 + 32 ≡ (i + 1) * 32 = omega arith in
+    drop-drop 32 (i * 32) path ∙ ap (λ (k : ℕ). drop k path) e
 
 module _ (x s : List ℕ) (hx : length x ≡ 32) (hs : length s ≡ 32) where
   half-choose : (b : Bool) → half b (choose b (x ++ s) (s ++ x)) ≡ x

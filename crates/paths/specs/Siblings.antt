@@ -13,11 +13,14 @@ unfoldable pub siblings : NodeSource → ℕ → ℕ → ℕ → List ℕ
 siblings nodes zero level q = []
 siblings nodes (suc n) level q = nodes level (siblingOf q) ++ siblings nodes n (suc level) (q / 2)
 
+-- the pair of nodes of a level that position q is in, in order
+abbrev pub pairAt : NodeSource → ℕ → ℕ → List ℕ
+pairAt nodes level q = nodes level (q / 2 * 2) ++ nodes level (q / 2 * 2 + 1)
+
 -- the pairs of nodes along the same path, the highest first, and then what stands below
 unfoldable pub nodePairs : NodeSource → ℕ → ℕ → ℕ → List (List ℕ) → List (List ℕ)
 nodePairs nodes zero level q below = below
-nodePairs nodes (suc n) level q below =
-    nodePairs nodes n (suc level) (q / 2) ((nodes level (q / 2 * 2) ++ nodes level (q / 2 * 2 + 1)) ∷ below)
+nodePairs nodes (suc n) level q below = nodePairs nodes n (suc level) (q / 2) (pairAt nodes level q ∷ below)
 
 -- the node at a start, its Merkle path, and the pairs along it
 abbrev pub nodeFrom : NodeSource → PathStart → List ℕ

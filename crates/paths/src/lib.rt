@@ -1,12 +1,10 @@
-// Merkle paths: the node that a path leads to, two paths compared, and the path of a node of a run.
+// Merkle paths: the node that a path leads to, two paths compared, and the sibling of a node.
 ghost use mathlib.Core.Path.{_≡_};
-ghost use Prim.Native.Nat.{_+_, _*_, _/_, _^_, _≤_, _<_};
+ghost use Prim.Native.Nat.{_/_};
 ghost use lib.ListN.{length};
-ghost use Rattle.octets.specs.Splice.{splice};
-ghost use Rattle.merkle.specs.Tree.{nodeAt};
 ghost use Rattle.paths.specs.Path.{pairOf, pathRoot};
 ghost use Rattle.paths.specs.Compare.{comparedAbove, comparedUp};
-ghost use Rattle.paths.specs.Siblings.{siblingOf, siblings};
+ghost use Rattle.paths.specs.Siblings.{siblingOf};
 
 // The two strings at the first difference of two paths, from the top; zeros where there is none.
 pub struct Compared {
@@ -16,7 +14,7 @@ pub struct Compared {
 }
 
 // The 64 bytes that are hashed for a node and its sibling: an even position puts the node on the left.
-fn pair(position: u64, node: [u8; 32], sibling: [u8; 32]) -> [u8; 64]
+pub fn pair(position: u64, node: [u8; 32], sibling: [u8; 32]) -> [u8; 64]
     ensures { λ r. ⌜ r ≡ pairOf position node sibling ⌝ }
 {
     if position % 2 == 0 {
@@ -95,34 +93,8 @@ pub fn compare_paths(
 }
 
 // The sibling's position.
-fn sibling_of(position: usize) -> usize
+pub fn sibling_of(position: usize) -> usize
     ensures { λ r. ⌜ r ≡ siblingOf position ⌝ }
 {
     position ^ 1
-}
-
-// Writes the Merkle path of the node at a position of a level, up to the run's top node, into `out` from a place on.
-pub fn write_path(
-    run: &[u8],
-    levels: usize,
-    level: usize,
-    position: usize,
-    out: &mut [u8],
-    at: usize,
-)
-    requires { ⌜ (level + levels < 32)
-        × (length (now run) ≡ 32 * 2 ^ (level + levels))
-        × (position < 2 ^ levels)
-        × (at + 32 * levels ≤ length (now out)) ⌝ }
-    ensures { λ _. ⌜ now (out .exit)
-        ≡ splice (now (out .entry)) at (siblings (nodeAt (now (run .entry))) levels level position) ⌝ }
-{
-    let mut p = position;
-    let mut i: usize = 0;
-    while i < levels {
-        let sibling = merkle::node_at(run, level + i, sibling_of(p));
-        octets::put_node(out, at + 32 * i, sibling);
-        p = p / 2;
-        i += 1;
-    }
 }

@@ -1,136 +1,119 @@
--- The ways through settling a record with a deal, one law for each answer of the code.
-use mathlib.Core.Path.{_≡_, sym, ap, _∙_}
+-- The ways through settling a record with a deal, one law for each answer of the code. The deal's nodes may be any.
+use mathlib.Core.Path.{_≡_, sym, _∙_}
 use mathlib.Core.Bool.{true, false}
-use Prim.Native.Nat.{ℕ}
+use Prim.Native.Nat.{ℕ, _/_}
+use native.Mathlib.Omega.{arith}
 use mathlib.Core.List.{List, [], _∷_}
 use lib.ListN.{length}
 use Rattle.node.specs.Node.{nodeHash}
-use Rattle.merkle.specs.Tree.{nodeAt}
-use Rattle.merkle.specs.NodeSource.{IsTree}
-use Rattle.merkle.specs.NodeSourceLaws.{run-tree}
-use Rattle.paths.specs.Strings.{stringsFrom}
-use Rattle.paths.specs.Siblings.{nodeFrom}
-use Rattle.paths.specs.SiblingsLaws.{own-strings}
+use Rattle.paths.specs.SiblingsLaws.{pairs-length}
 use Rattle.paths.specs.PathLaws.{strings-length}
 use Rattle.paths.specs.Difference.{firstDifference}
 use Rattle.paths.specs.Compare.{compared}
-use Rattle.paths.specs.CompareLaws.{paths-compared}
+use Rattle.paths.specs.CompareOwn.{comparedWithOwn}
+use Rattle.paths.specs.CompareOwnLaws.{own-up}
 use Rattle.paths.specs.DealStarts.{segmentStart, entryStart}
 use Rattle.paths.specs.declared.Compared.{Compared}
-use Rattle.sizes.specs.Sizes.{lentSizeAllowed, dealLevel, entryPosition}
-use Rattle.sizes.specs.SizesLaws.{lent-size}
+use Rattle.sizes.specs.Sizes.{lentSizeAllowed, entryPathLevels, segmentPathLevels}
 use Rattle.index.specs.Slots.{entryAt}
 use Rattle.record.specs.Form.{Fields}
 use Rattle.record.specs.Check.{entryFor, checkOf}
 use Rattle.record.specs.CheckLaws.{Accepted}
 use Rattle.record.specs.ParsedRecordLaws.{fieldsAt}
 use Rattle.record.specs.declared.ParsedRecord.{ParsedRecord}
-use Rattle.lent.specs.LentDeal.{lentDeal, dealRefusal}
+use Rattle.lent.specs.LentDeal.{LentDeal, dealSize, dealRefusal}
 use Rattle.lent.specs.LentDealLaws.{refusal-none}
-use Rattle.builder.specs.Build.{termsOf, segmentPathOf, entryPathOf}
-use Rattle.builder.specs.BuildLaws.{InDeal, in-deal, segment-start, entry-start}
-use Rattle.builder.specs.BuildLaws.{segment-path-length, entry-path-length, place-node}
+use Rattle.builder.specs.Build.{termsOf}
+use Rattle.builder.specs.BuildLaws.{InDeal, in-deal}
 use Rattle.settle.specs.Settle.{notSettled, entryStrings, segmentStrings, dealEntryStrings, dealSegmentStrings}
 use Rattle.settle.specs.Settle.{settleWithDeal}
 use Rattle.settle.specs.SettleLaws.{settledFrom, orCompared, settled-parts}
 use Rattle.settle.specs.AcceptedRecord.{AcceptedRecord}
 use Rattle.settle.specs.AcceptedRecordLaws.{parses, accepted}
-use Rattle.settle.specs.Comparing.{entriesCompared, segmentsCompared, entryWithDeal, segmentWithDeal}
+use Rattle.settle.specs.Comparing.{entryWithDeal, segmentWithDeal}
 use Rattle.settle.proofs.Answers.{refused-with, entries-decide, segments-decide}
 
-module _ (deal r : List ℕ) where
-  pub deal-refused : {code : ℕ} → code ≡ dealRefusal deal → (code ≡ 0 → ⊥)
-      → notSettled code ≡ settleWithDeal (lentDeal deal) r
+module _ (deal : LentDeal) (r : List ℕ) where
+  pub deal-refused : {code : ℕ} → code ≡ dealRefusal deal → (code ≡ 0 → ⊥) → notSettled code ≡ settleWithDeal deal r
   unfolding settleWithDeal
   deal-refused {code} e h = rw (← e) (refused-with code notSettled _ h)
 
-  pub check-refused : dealRefusal deal ≡ 0 → {code : ℕ} → code ≡ checkOf (termsOf (lentDeal deal)) r → (code ≡ 0 → ⊥)
-      → notSettled code ≡ settleWithDeal (lentDeal deal) r
+  pub check-refused : dealRefusal deal ≡ 0 → {code : ℕ} → code ≡ checkOf (termsOf deal) r → (code ≡ 0 → ⊥)
+      → notSettled code ≡ settleWithDeal deal r
   unfolding settleWithDeal
   check-refused fine {code} e h = rw (fine, ← e) (refused-with code notSettled _ h)
 
-module _ (deal : List ℕ) (fine : dealRefusal deal ≡ 0) where
-  pub lent : lentSizeAllowed (length deal) ≡ true
+module _ (deal : LentDeal) (fine : dealRefusal deal ≡ 0) where
+  pub lent : lentSizeAllowed (dealSize deal) ≡ true
   lent = refusal-none deal fine .0
 
-  tree : IsTree (nodeAt deal) deal (dealLevel (length deal))
-  tree = run-tree deal (dealLevel (length deal)) (lent-size (length deal) lent .deal .is-power)
-
   -- the fields of an accepted record in the deal
-  module _ {x : Fields} (a : Accepted (termsOf (lentDeal deal)) x) where
-    pub inside : InDeal (length deal) (x .place) (x .offset) (x .size)
+  module _ {x : Fields} (a : Accepted (termsOf deal) x) where
+    pub inside : InDeal (dealSize deal) (x .place) (x .offset) (x .size)
     inside =
-        in-deal (length deal) (x .place) (x .offset) (x .size) lent (a .place-allowed) (a .size-allowed)
+        in-deal (dealSize deal) (x .place) (x .offset) (x .size) lent (a .place-allowed) (a .size-allowed)
         (a .offset-allowed)
 
-    -- the paths of the record and of the deal have one length
-    pub entry-paths : length (x .entryPath) ≡ length (entryPathOf (lentDeal deal) (x .place))
-    entry-paths = a .entry-path-length ∙ sym (entry-path-length (lentDeal deal) tree _ _ _ inside)
+    -- the lengths of the record's paths tell their levels
+    pub entry-levels : length (x .entryPath) / 32 ≡ entryPathLevels (dealSize deal)
+    entry-levels = let l = a .entry-path-length in omega arith
 
-    pub segment-paths : length (x .segmentPath) ≡ length (segmentPathOf (lentDeal deal) (x .offset) (x .size))
-    segment-paths = a .segment-path-length ∙ sym (segment-path-length (lentDeal deal) tree _ _ _ inside)
+    pub segment-levels : length (x .segmentPath) / 32 ≡ segmentPathLevels (dealSize deal) (x .size)
+    segment-levels = let l = a .segment-path-length in omega arith
 
     -- what is found in the two parts
     pub entries-found :
-        entriesCompared (entryPosition (x .place)) (entryFor x) (x .entryPath) (entryAt deal (x .place))
-        (entryPathOf (lentDeal deal) (x .place))
-        ≡ entryWithDeal (lentDeal deal) x
+        let start = entryStart (dealSize deal) (x .place) in
+        let e = entryFor x in
+        let own = entryAt (deal .bytes) (x .place) in
+        comparedWithOwn (deal .nodes) (start .levels) (start .level) (start .position) (nodeHash e) (x .entryPath)
+        (compared (firstDifference (e ∷ []) (own ∷ [])))
+        ≡ entryWithDeal deal x
     unfolding entryStrings
     entries-found =
-        let start = entryStart (length deal) (x .place) in
-        let path = entryPathOf (lentDeal deal) (x .place) in
+        let start = entryStart (dealSize deal) (x .place) in
         let e = entryFor x in
-        let own = entryAt deal (x .place) in
-        paths-compared (nodeHash e) (x .entryPath) (e ∷ []) (nodeHash own) path (own ∷ []) start (a .entry-path-length)
-        (entry-path-length (lentDeal deal) tree _ _ _ inside)
-        ∙ ap (λ (ws : List (List ℕ)). compared (firstDifference (entryStrings (length deal) x) ws))
-        (ap (λ (n : List ℕ). stringsFrom start n path (own ∷ [])) (place-node (lentDeal deal) tree _ _ _ inside)
-        ∙ own-strings (nodeAt deal) deal _ tree _ (entry-start inside) (own ∷ []))
+        sym
+        (own-up (deal .nodes) (start .levels) (start .level) (start .position) (nodeHash e) (x .entryPath) (e ∷ [])
+        (entryAt (deal .bytes) (x .place) ∷ []))
 
     pub segments-found :
-        let start = segmentStart (length deal) (x .offset) (x .size) in
-        segmentsCompared (start .position) (x .commitment) (x .segmentPath) (nodeFrom (nodeAt deal) start)
-        (segmentPathOf (lentDeal deal) (x .offset) (x .size))
-        ≡ segmentWithDeal (lentDeal deal) x
+        let start = segmentStart (dealSize deal) (x .offset) (x .size) in
+        comparedWithOwn (deal .nodes) (start .levels) (start .level) (start .position) (x .commitment) (x .segmentPath)
+        (compared (firstDifference [] []))
+        ≡ segmentWithDeal deal x
     unfolding segmentStrings
     segments-found =
-        let start = segmentStart (length deal) (x .offset) (x .size) in
-        let path = segmentPathOf (lentDeal deal) (x .offset) (x .size) in
-        paths-compared (x .commitment) (x .segmentPath) [] (nodeFrom (nodeAt deal) start) path [] start
-        (a .segment-path-length) (segment-path-length (lentDeal deal) tree _ _ _ inside)
-        ∙ ap (λ (ws : List (List ℕ)). compared (firstDifference (segmentStrings (length deal) x) ws))
-        (own-strings (nodeAt deal) deal _ tree _ (segment-start inside) [])
+        let start = segmentStart (dealSize deal) (x .offset) (x .size) in
+        sym
+        (own-up (deal .nodes) (start .levels) (start .level) (start .position) (x .commitment) (x .segmentPath) [] [])
 
-    one-length : length (entryStrings (length deal) x) ≡ length (dealEntryStrings (lentDeal deal) x)
+    one-length : length (entryStrings (dealSize deal) x) ≡ length (dealEntryStrings deal x)
     unfolding entryStrings
     one-length =
-        let start = entryStart (length deal) (x .place) in
-        let path = entryPathOf (lentDeal deal) (x .place) in
-        let own = entryAt deal (x .place) in
+        let start = entryStart (dealSize deal) (x .place) in
         strings-length start (nodeHash (entryFor x)) (x .entryPath) (entryFor x ∷ [])
-        ∙ sym (strings-length start (nodeFrom (nodeAt deal) start) path (own ∷ []))
-        ∙ ap length (own-strings (nodeAt deal) deal _ tree _ (entry-start inside) (own ∷ []))
+        ∙ sym (pairs-length (deal .nodes) start (entryAt (deal .bytes) (x .place) ∷ []))
 
   -- the answer from the two parts
-  module _ {r : List ℕ} {x : ParsedRecord} (a : AcceptedRecord (termsOf (lentDeal deal)) r x) where
+  module _ {r : List ℕ} {x : ParsedRecord} (a : AcceptedRecord (termsOf deal) r x) where
     settled-is :
         let X = fieldsAt r x in
-        settledFrom (orCompared (entryWithDeal (lentDeal deal) X) (segmentWithDeal (lentDeal deal) X))
-        ≡ settleWithDeal (lentDeal deal) r
+        settledFrom (orCompared (entryWithDeal deal X) (segmentWithDeal deal X)) ≡ settleWithDeal deal r
     unfolding settleWithDeal
     settled-is =
-        let d = length deal in
+        let d = dealSize deal in
         let X = fieldsAt r x in
         sym
         (rw (fine, a .checked, parses a)
-        (settled-parts (entryStrings d X) (segmentStrings d X) (dealEntryStrings (lentDeal deal) X)
-        (dealSegmentStrings (lentDeal deal) X) (one-length (accepted a))))
+        (settled-parts (entryStrings d X) (segmentStrings d X) (dealEntryStrings deal X) (dealSegmentStrings deal X)
+        (one-length (accepted a))))
 
-    module _ (found : Compared) (e : found ≡ entryWithDeal (lentDeal deal) (fieldsAt r x)) where
-      pub entries-differ : found .differs ≡ true → settledFrom found ≡ settleWithDeal (lentDeal deal) r
+    module _ (found : Compared) (e : found ≡ entryWithDeal deal (fieldsAt r x)) where
+      pub entries-differ : found .differs ≡ true → settledFrom found ≡ settleWithDeal deal r
       entries-differ d = entries-decide _ _ _ settled-is found e d
 
       pub entries-same : found .differs ≡ false
-          → {rest : Compared} → rest ≡ segmentWithDeal (lentDeal deal) (fieldsAt r x)
-          → settledFrom rest ≡ settleWithDeal (lentDeal deal) r
+          → {rest : Compared} → rest ≡ segmentWithDeal deal (fieldsAt r x)
+          → settledFrom rest ≡ settleWithDeal deal r
       entries-same d q = segments-decide _ _ _ settled-is found e d q

@@ -1,24 +1,25 @@
 -- A Merkle path of a lent deal, from level 1 or above up to its top, written into a buffer of 18 nodes.
-use mathlib.Core.Path.{_≡_, sym, ap, _∙_, subst}
-use mathlib.Core.Bool.{true}
-use Prim.Native.Nat.{ℕ, _+_, _*_, _^_, _≤_, _<_}
+use mathlib.Core.Path.{_≡_, sym, ap, _∙_}
+use Prim.Native.Nat.{ℕ, _+_, _*_, _≤_}
 use native.Mathlib.Omega.{arith}
 use mathlib.Core.List.{List}
 use lib.ListN.{length, take, replicate}
 use Rattle.octets.specs.Splice.{part, splice}
 use Rattle.octets.specs.SpliceLaws.{length-splice, part-written}
-use Rattle.merkle.specs.Tree.{nodeAt}
-use Rattle.merkle.specs.TreeLaws.{within}
 use Rattle.paths.specs.Start.{PathStart, InTree}
+use Rattle.paths.specs.NodesSized.{NodesSized}
 use Rattle.paths.specs.Siblings.{siblingsFrom}
-use Rattle.paths.specs.SiblingsLaws.{run-path-length}
-use Rattle.sizes.specs.Sizes.{lentSizeAllowed, dealLevel}
-use Rattle.sizes.specs.SizesLaws.{lent-size}
+use Rattle.paths.specs.SiblingsLaws.{path-length}
+use Rattle.sizes.specs.Sizes.{dealLevel}
+use Rattle.lent.specs.LentDeal.{LentDeal, dealSize}
+use Rattle.lent.specs.Usable.{Usable}
+use Rattle.lent.specs.UsableLaws.{usable-size}
 
--- the start of such a path
-pub record OwnPath (deal : List ℕ) (start : PathStart) : Type 0 where
-  pub lent : lentSizeAllowed (length deal) ≡ true
-  pub inside : InTree (dealLevel (length deal)) start
+-- a deal whose nodes may be looked up, and the start of such a path
+pub record OwnPath (deal : LentDeal) (start : PathStart) : Type 0 where
+  pub usable : Usable deal
+  pub each : NodesSized (deal .nodes) (dealLevel (dealSize deal))
+  pub inside : InTree (dealLevel (dealSize deal)) start
   pub low : 1 ≤ start .level
 
 -- what was written at the start of a buffer
@@ -28,35 +29,18 @@ unfolding part
 front out buffer path n e l h =
     ap (take n) e ∙ ap (λ (k : ℕ). take k (splice buffer 0 path)) (sym l) ∙ part-written buffer 0 path (omega arith)
 
-module _ {deal : List ℕ} {start : PathStart} (w : OwnPath deal start) where
-  power : length deal ≡ 32 * 2 ^ (start .level + start .levels)
-  power = lent-size (length deal) (w .lent) .deal .is-power ∙ ap (λ (m : ℕ). 32 * 2 ^ m) (sym (w .inside .up))
+module _ {deal : LentDeal} {start : PathStart} (w : OwnPath deal start) where
+  pub path-room : 0 + 32 * start .levels ≤ 576
+  path-room = omega (arith, w .inside .up, usable-size (w .usable) .lent-level, w .low)
 
-  short : start .level + start .levels ≤ 19
-  short = omega (arith, w .inside .up, lent-size (length deal) (w .lent) .lent-level)
+  own-length : length (siblingsFrom (deal .nodes) start) ≡ 32 * start .levels
+  own-length = path-length (deal .nodes) (dealLevel (dealSize deal)) (w .each) start (w .inside)
 
-  pub path-room :
-      (start .level + start .levels < 32)
-      × (length deal ≡ 32 * 2 ^ (start .level + start .levels))
-      × (start .position < 2 ^ start .levels)
-      × (0 + 32 * start .levels ≤ 576)
-  path-room = (omega (arith, short), power, w .inside .among, omega (arith, short, w .low))
-
-  pub node-room : (start .level < 32) × ((start .position + 1) * (32 * 2 ^ start .level) ≤ length deal)
-  node-room = (
-    omega (arith, short),
-    subst (λ (n : ℕ). (start .position + 1) * (32 * 2 ^ start .level) ≤ n) (sym power)
-        (within (start .levels) (start .level) (start .position) (w .inside .among)),
-  )
-
-  own-length : length (siblingsFrom (nodeAt deal) start) ≡ 32 * start .levels
-  own-length = run-path-length deal (start .levels) (start .level) (start .position) power (w .inside .among)
-
-  module _ (out : List ℕ) (e : out ≡ splice (replicate 576 0) 0 (siblingsFrom (nodeAt deal) start)) where
-    pub path-written : take (32 * start .levels) out ≡ siblingsFrom (nodeAt deal) start
+  module _ (out : List ℕ) (e : out ≡ splice (replicate 576 0) 0 (siblingsFrom (deal .nodes) start)) where
+    pub path-written : take (32 * start .levels) out ≡ siblingsFrom (deal .nodes) start
     path-written =
-        front out (replicate 576 0) (siblingsFrom (nodeAt deal) start) (32 * start .levels) e own-length
-        (omega (arith, path-room .3))
+        front out (replicate 576 0) (siblingsFrom (deal .nodes) start) (32 * start .levels) e own-length
+        (omega (arith, path-room))
 
     pub written-length : 32 * start .levels ≡ length (take (32 * start .levels) out)
     written-length = sym (ap length path-written ∙ own-length)
@@ -64,6 +48,6 @@ module _ {deal : List ℕ} {start : PathStart} (w : OwnPath deal start) where
     pub written-fits : 32 * start .levels ≤ length out
     written-fits =
         let l = own-length in
-        let r = path-room .3 in
-        let s = length-splice (replicate 576 0) 0 (siblingsFrom (nodeAt deal) start) (omega arith) in
+        let r = path-room in
+        let s = length-splice (replicate 576 0) 0 (siblingsFrom (deal .nodes) start) (omega arith) in
         omega (arith, ap length e ∙ s)

@@ -3,5 +3,5 @@ pub mod AcceptedRecord
 pub mod Comparing
 pub mod SettleLaws
 pub mod AcceptedRecordLaws
-pub mod ComparingLaws
 pub mod EntryStringsLaws
+pub mod TreeSettleLaws

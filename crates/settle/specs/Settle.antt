@@ -1,4 +1,5 @@
--- Settling (document 01, "Booking, finding, building, settling": settle).
+-- Settling (document 01, "Booking, finding, building, settling": settle; document 02, request (vii): the deal may have
+-- a tree beside it).
 use Prim.Native.Nat.{ℕ}
 use mathlib.Core.List.{List, [], _∷_, _++_}
 use lib.ListN.{replicate}
@@ -67,9 +68,10 @@ abbrev pub dealStringsIn : LentDeal → Parsed → List (List ℕ)
 dealStringsIn deal (parsed x) = dealStrings deal x
 dealStringsIn deal broken = []
 
--- a record with a deal: 2, 11, the check against the deal's own commitment and length, then 0 or 17
+-- a record with a deal: 2, 11, 12 for the tree beside the deal, the check against the deal's own commitment and length,
+-- then 0 or 17
 unfoldable pub settleWithDeal : LentDeal → List ℕ → Settled
 settleWithDeal deal r =
-    unlessRefused (dealRefusal (deal .bytes)) notSettled
+    unlessRefused (dealRefusal deal) notSettled
     (unlessRefused (checkOf (termsOf deal) r) notSettled
     (settledBy (firstDifference (stringsIn (dealSize deal) (parse r)) (dealStringsIn deal (parse r)))))

@@ -1,9 +1,11 @@
-// The strings along two paths from one position, compared, and the answer that follows.
+// The strings of an entry and along two paths from one position, compared, and the answer that follows.
 use crate::Settled;
 use paths::Compared;
 ghost use mathlib.Core.Path.{_≡_};
+ghost use mathlib.Core.List.{[], _∷_};
 ghost use lib.ListN.{length};
-ghost use Rattle.paths.specs.Compare.{equal};
+ghost use Rattle.paths.specs.Difference.{firstDifference};
+ghost use Rattle.paths.specs.Compare.{compared};
 ghost use Rattle.settle.specs.Settle.{notSettled};
 ghost use Rattle.settle.specs.SettleLaws.{settledFrom};
 ghost use Rattle.settle.specs.Comparing.{entriesCompared, segmentsCompared};
@@ -35,15 +37,22 @@ pub(crate) fn settled_from(found: Compared) -> Settled
     not_settled(0)
 }
 
-// No difference seen so far.
-fn no_difference() -> Compared
-    ensures { λ r. ⌜ r ≡ equal ⌝ }
+// Where no strings are to be compared there is no difference.
+pub(crate) fn no_difference() -> Compared
+    ensures { λ r. ⌜ r ≡ compared (firstDifference [] []) ⌝ }
 {
     Compared {
         differs: false,
         left: [0u8; 64],
         right: [0u8; 64],
     }
+}
+
+// Compares two strings alone.
+pub(crate) fn compare_strings(left: [u8; 64], right: [u8; 64]) -> Compared
+    ensures { λ r. ⌜ r ≡ compared (firstDifference (left ∷ []) (right ∷ [])) ⌝ }
+{
+    paths::compare_above(no_difference(), left, right)
 }
 
 // Compares the strings of two entry paths from one position, and below them the entries themselves.
@@ -57,7 +66,7 @@ pub(crate) fn compare_entries(
     requires { ⌜ length (now «left_path») ≡ length (now «right_path») ⌝ }
     ensures { λ r. ⌜ r ≡ entriesCompared position left (now («left_path» .entry)) right (now («right_path» .entry)) ⌝ }
 {
-    let seen = paths::compare_above(no_difference(), left, right);
+    let seen = compare_strings(left, right);
     let left_node = node::node_hash(left);
     let right_node = node::node_hash(right);
     paths::compare_paths(position, left_node, left_path, right_node, right_path, seen)

@@ -4,6 +4,7 @@ use crate::show;
 use entries::EntryKind;
 use fields::Field;
 use paths::Compared;
+use room::Booked;
 use settle::Settled;
 use stream::Stream;
 
@@ -113,33 +114,55 @@ fn find(deal: &[u8], commitment: &[u8]) {
     show::digest(view);
 }
 
-fn book(deal: &mut [u8], segment: &[u8]) {
-    let booked = booking::book(deal, segment);
-    show::code(booked.code);
-    show::number(booked.offset);
-    show::number(booked.place);
+// The answer of a booking, and the deal afterwards.
+fn booked(answer: Booked, deal: &[u8]) {
+    show::code(answer.code);
+    show::number(answer.offset);
+    show::number(answer.place);
     show::digest(deal);
 }
 
-fn build(deal: &[u8], place: u64, out: &mut [u8]) {
-    let built = builder::build(deal, place, out);
-    show::code(built.code);
-    show::number(built.length as u64);
+fn book(deal: &mut [u8], segment: &[u8]) {
+    let answer = booking::book(deal, segment);
+    booked(answer, deal);
+}
+
+fn book_with_tree(deal: &mut [u8], tree: &mut [u8], segment: &[u8]) {
+    let answer = booking::book_with_tree(deal, tree, segment);
+    booked(answer, deal);
+    show::digest(tree);
+}
+
+fn fill_tree(deal: &[u8], tree: &mut [u8]) {
+    show::code(lent::fill_tree(deal, tree));
+    show::digest(tree);
+}
+
+// The answer of a call that writes to an output, and the output afterwards.
+fn written(code: u8, length: usize, out: &[u8]) {
+    show::code(code);
+    show::number(length as u64);
     show::digest(out);
+}
+
+fn build(deal: &[u8], place: u64, out: &mut [u8]) {
+    let answer = builder::build(deal, place, out);
+    written(answer.code, answer.length, out);
+}
+
+fn build_with_tree(deal: &[u8], tree: &[u8], place: u64, out: &mut [u8]) {
+    let answer = builder::build_with_tree(deal, tree, place, out);
+    written(answer.code, answer.length, out);
 }
 
 fn pad(raw: &[u8], out: &mut [u8]) {
-    let written = fr32::pad(raw, out);
-    show::code(written.code);
-    show::number(written.length as u64);
-    show::digest(out);
+    let answer = fr32::pad(raw, out);
+    written(answer.code, answer.length, out);
 }
 
 fn unpad(raw_length: u64, segment: &[u8], out: &mut [u8]) {
-    let written = fr32::unpad(raw_length, segment, out);
-    show::code(written.code);
-    show::number(written.length as u64);
-    show::digest(out);
+    let answer = fr32::unpad(raw_length, segment, out);
+    written(answer.code, answer.length, out);
 }
 
 fn settled(answer: Settled) {
@@ -148,16 +171,6 @@ fn settled(answer: Settled) {
     show::code(answer.code);
     show::bytes(&left);
     show::bytes(&right);
-}
-
-// The commitment is the first y bytes of b, the second record the rest.
-fn settle_records(first: &[u8], b: &[u8], size: u64, y: u64) {
-    if (b.len() as u64) < y {
-        return;
-    }
-    let split = y as usize;
-    let answer = settle::settle_records(&b[..split], size, first, &b[split..]);
-    settled(answer);
 }
 
 // The strings of two paths from one position compared, each path after the node that it starts from: 17 and the two
@@ -214,7 +227,7 @@ fn fields(record: &[u8]) {
 }
 
 // The calls that only read.
-fn answer_reading(operation: u64, a: &[u8], b: &[u8], x: u64, y: u64) {
+fn answer_reading(operation: u64, a: &[u8], b: &[u8], c: &[u8], x: u64, y: u64) {
     match operation {
         1 => hash(a),
         2 => commit(a),
@@ -223,19 +236,20 @@ fn answer_reading(operation: u64, a: &[u8], b: &[u8], x: u64, y: u64) {
         5 => read_entry(a),
         6 => find(a, b),
         9 => show::code(record::check(b, x, a)),
-        10 => settle_records(a, b, x, y),
+        10 => settled(settle::settle_records(c, x, a, b)),
         11 => settled(settle::settle_with_deal(a, b)),
         12 => fields(a),
         13 => show::code(check_input::check_input(a)),
         15 => compare(x, a, b),
         16 => stream(a, b),
         19 => tally(a),
+        23 => settled(settle::settle_with_tree(a, c, b)),
         _ => {}
     }
 }
 
 // All calls: those that write too.
-fn answer_any(operation: u64, a: &mut [u8], b: &mut [u8], x: u64, y: u64) {
+fn answer_any(operation: u64, a: &mut [u8], b: &mut [u8], c: &mut [u8], x: u64, y: u64) {
     if operation == 7 {
         book(a, b);
         return;
@@ -252,10 +266,22 @@ fn answer_any(operation: u64, a: &mut [u8], b: &mut [u8], x: u64, y: u64) {
         unpad(x, a, b);
         return;
     }
-    answer_reading(operation, a, b, x, y);
+    if operation == 20 {
+        fill_tree(a, c);
+        return;
+    }
+    if operation == 21 {
+        book_with_tree(a, c, b);
+        return;
+    }
+    if operation == 22 {
+        build_with_tree(a, c, x, b);
+        return;
+    }
+    answer_reading(operation, a, b, c, x, y);
 }
 
-pub(crate) fn answer(operation: u64, a: &mut [u8], b: &mut [u8], x: u64, y: u64) {
-    answer_any(operation, a, b, x, y);
+pub(crate) fn answer(operation: u64, a: &mut [u8], b: &mut [u8], c: &mut [u8], x: u64, y: u64) {
+    answer_any(operation, a, b, c, x, y);
     show::end();
 }

@@ -12,36 +12,50 @@ fn buffer() -> [u8; 8192]
     [0; 8192]
 }
 
-// Reads the bytes a and b of a call, and answers it.
-fn replay(operation: u64, a: &mut [u8], b: &mut [u8], x: u64, y: u64) {
+// Reads the bytes a, b and c of a call, and answers it.
+fn replay(operation: u64, a: &mut [u8], b: &mut [u8], c: &mut [u8], x: u64, y: u64) {
     io::read_full(0, a);
     io::read_full(0, b);
-    answers::answer(operation, a, b, x, y);
+    io::read_full(0, c);
+    answers::answer(operation, a, b, c, x, y);
 }
 
-// Reads a call: five little-endian numbers (operation, length of a, length of b, x, y), then the bytes a and b. Says
+// Reads a call: six little-endian numbers (operation, lengths of a, b and c, x, y), then the bytes a, b and c. Says
 // whether there was one.
 fn replay_next() -> bool {
-    let mut header = [0u8; 40];
-    if io::read_full(0, &mut header) != 40 {
+    let mut header = [0u8; 48];
+    if io::read_full(0, &mut header) != 48 {
         return false;
     }
+    let operation = octets::read_u64(&header, 0);
     let length_a = octets::read_u64(&header, 8);
     let length_b = octets::read_u64(&header, 16);
+    let length_c = octets::read_u64(&header, 24);
+    let x = octets::read_u64(&header, 32);
+    let y = octets::read_u64(&header, 40);
     if 8192 < length_a {
         return false;
     }
     if 8192 < length_b {
         return false;
     }
-    let operation = octets::read_u64(&header, 0);
-    let x = octets::read_u64(&header, 24);
-    let y = octets::read_u64(&header, 32);
+    if 8192 < length_c {
+        return false;
+    }
     let mut a = buffer();
     let mut b = buffer();
+    let mut c = buffer();
     let end_a = length_a as usize;
     let end_b = length_b as usize;
-    replay(operation, &mut a[..end_a], &mut b[..end_b], x, y);
+    let end_c = length_c as usize;
+    replay(
+        operation,
+        &mut a[..end_a],
+        &mut b[..end_b],
+        &mut c[..end_c],
+        x,
+        y,
+    );
     true
 }
 

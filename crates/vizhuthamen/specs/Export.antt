@@ -22,7 +22,7 @@ lentPairCode left right code = lentCode 64 left (lentCode 64 right code)
 abbrev pub lentOutput : {A : Type 0} → ℕ → A → A → A
 lentOutput code value before = choose (eqb code 0) value before
 
--- the same where it is written with one other code too: 15 in vz_book, 17 in the two settlings
+-- the same where it is written with one other code too: 15 in the bookings, 17 in the settlings
 abbrev pub lentOutputOr : {A : Type 0} → ℕ → ℕ → A → A → A
 lentOutputOr other code value before = choose (eqb code 0 || eqb code other) value before
 

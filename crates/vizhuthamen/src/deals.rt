@@ -3,15 +3,12 @@ use crate::numbers::state_number;
 use crate::output::WRONG_LENGTH;
 use crate::output::write_entry;
 use crate::output::write_three;
-use crate::output::write_u64;
-use crate::output::written_with;
 ghost use mathlib.Core.Path.{_≡_};
 ghost use Rattle.lent.specs.LentDeal.{lentDeal};
 ghost use Rattle.index.specs.Inspect.{inspectAnswer};
 ghost use Rattle.index.specs.Tally.{tallyAnswer};
 ghost use Rattle.index.specs.Find.{findNumbers};
-ghost use Rattle.booking.specs.Booking.{bookAnswer, bookedDeal};
-ghost use Rattle.vizhuthamen.specs.Export.{lentCode, lentOutput, lentOutputOr, stateNumber};
+ghost use Rattle.vizhuthamen.specs.Export.{lentCode, lentOutput, stateNumber};
 
 // What stands at an entry place of a deal.
 #[no_mangle]
@@ -107,22 +104,5 @@ pub extern "C" fn vz_find(
         size,
         place,
     );
-    answer.code as u32
-}
-
-// Books a segment in a deal.
-#[no_mangle]
-pub extern "C" fn vz_book(deal: &mut [u8], segment: &[u8], offset: &mut u64, place: &mut u64) -> u32
-    ensures { λ r. ⌜ r ≡ bookAnswer (now (deal .entry)) (now (segment .entry)) .code ⌝ }
-    ensures { λ r. ⌜ now (deal .exit) ≡ bookedDeal (now (deal .entry)) (now (segment .entry)) ⌝ }
-    ensures { λ r. ⌜ now (offset .exit)
-        ≡ lentOutputOr 15 r (bookAnswer (now (deal .entry)) (now (segment .entry)) .offset) (now (offset .entry)) ⌝ }
-    ensures { λ r. ⌜ now (place .exit)
-        ≡ lentOutputOr 15 r (bookAnswer (now (deal .entry)) (now (segment .entry)) .place) (now (place .entry)) ⌝ }
-{
-    let answer = booking::book(deal, segment);
-    let written = written_with(answer.code, 15);
-    write_u64(written, answer.offset, offset);
-    write_u64(written, answer.place, place);
     answer.code as u32
 }

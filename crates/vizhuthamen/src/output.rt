@@ -4,6 +4,7 @@ ghost use mathlib.Core.Bool.{_||_};
 ghost use lib.ListN.{length};
 ghost use lib.Dec.{eqb};
 ghost use Rattle.rules.specs.Choice.{choose};
+ghost use Rattle.vizhuthamen.specs.Export.{lentOutput};
 
 // The code where an output that has one fixed length has another.
 pub(crate) const WRONG_LENGTH: u32 = 12;
@@ -31,6 +32,15 @@ pub(crate) fn write_u32(written: bool, value: u32, output: &mut u32)
     if written {
         *output = value;
     }
+}
+
+// Writes the length of what a call has written, where its code is 0, and gives the code.
+pub(crate) fn write_length(code: u8, length: usize, output: &mut u64) -> u32
+    ensures { λ r. ⌜ r ≡ code ⌝ }
+    ensures { λ r. ⌜ now (output .exit) ≡ lentOutput r length (now (output .entry)) ⌝ }
+{
+    write_u64(code == 0, length as u64, output);
+    code as u32
 }
 
 // Writes 32 bytes to an output of that length, or leaves it.

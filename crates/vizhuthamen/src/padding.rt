@@ -1,5 +1,5 @@
 // Fr32 padding: raw archives to segments and back.
-use crate::output::write_u64;
+use crate::output::write_length;
 ghost use mathlib.Core.Path.{_≡_};
 ghost use Rattle.fr32.specs.Answers.{padAnswer, padOutput, unpadAnswer, unpadOutput};
 ghost use Rattle.vizhuthamen.specs.Export.{lentOutput};
@@ -13,8 +13,7 @@ pub extern "C" fn vz_fr32_pad(raw: &[u8], segment: &mut [u8], length: &mut u64) 
         ≡ lentOutput r (padAnswer (now (raw .entry)) (now (segment .entry)) .length) (now (length .entry)) ⌝ }
 {
     let answer = fr32::pad(raw, segment);
-    write_u64(answer.code == 0, answer.length as u64, length);
-    answer.code as u32
+    write_length(answer.code, answer.length, length)
 }
 
 // The raw bytes of a segment, as many as the caller names.
@@ -32,6 +31,5 @@ pub extern "C" fn vz_fr32_unpad(
         (now (length .entry)) ⌝ }
 {
     let answer = fr32::unpad(raw_length, segment, raw);
-    write_u64(answer.code == 0, answer.length as u64, length);
-    answer.code as u32
+    write_length(answer.code, answer.length, length)
 }

@@ -1,10 +1,10 @@
 // Inclusion records.
-use crate::output::write_u64;
+use crate::output::write_length;
 use fields::Field;
 ghost use mathlib.Core.Path.{_≡_};
 ghost use Rattle.record.specs.Check.{dealTerms, checkOf};
 ghost use Rattle.fields.specs.FieldAt.{fieldAt, fieldCode};
-ghost use Rattle.lent.specs.LentDeal.{lentDeal};
+ghost use Rattle.lent.specs.LentDeal.{lentDeal, treeDeal};
 ghost use Rattle.builder.specs.Build.{buildAnswer, buildOutput};
 ghost use Rattle.vizhuthamen.specs.Export.{lentOutput, fieldTag, fieldStart, fieldLength, fieldNext};
 
@@ -18,8 +18,28 @@ pub extern "C" fn vz_build(deal: &[u8], place: u64, record: &mut [u8], length: &
         (now (length .entry)) ⌝ }
 {
     let answer = builder::build(deal, place, record);
-    write_u64(answer.code == 0, answer.length as u64, length);
-    answer.code as u32
+    write_length(answer.code, answer.length, length)
+}
+
+// The same with the tree beside the deal.
+#[no_mangle]
+pub extern "C" fn vz_build_with_tree(
+    deal: &[u8],
+    tree: &[u8],
+    place: u64,
+    record: &mut [u8],
+    length: &mut u64,
+) -> u32
+    ensures { λ r. ⌜ r
+        ≡ buildAnswer (treeDeal (now (deal .entry)) (now (tree .entry))) place (now («record» .entry)) .code ⌝ }
+    ensures { λ r. ⌜ now («record» .exit)
+        ≡ buildOutput (treeDeal (now (deal .entry)) (now (tree .entry))) place (now («record» .entry)) ⌝ }
+    ensures { λ r. ⌜ now (length .exit) ≡ lentOutput r
+        (buildAnswer (treeDeal (now (deal .entry)) (now (tree .entry))) place (now («record» .entry)) .length)
+        (now (length .entry)) ⌝ }
+{
+    let answer = builder::build_with_tree(deal, tree, place, record);
+    write_length(answer.code, answer.length, length)
 }
 
 // The code of the check of a record against a deal's commitment and size.

@@ -4,19 +4,23 @@ use crate::output::write_64_bytes;
 use crate::output::written_with;
 use settle::Settled;
 ghost use mathlib.Core.Path.{_≡_};
-ghost use lib.ListN.{length};
 ghost use Rattle.record.specs.Check.{dealTerms};
-ghost use Rattle.lent.specs.LentDeal.{lentDeal};
+ghost use Rattle.lent.specs.LentDeal.{lentDeal, treeDeal};
 ghost use Rattle.settle.specs.Settle.{settleRecords, settleWithDeal};
 ghost use Rattle.vizhuthamen.specs.Export.{lentPairCode, lentOutputOr};
 
-// Writes the two strings of an answer, and gives its code.
+// Writes the two strings of an answer where both outputs have their one length, and gives the code.
 fn write_settled(answer: Settled, left: &mut [u8], right: &mut [u8]) -> u32
-    requires { ⌜ (length (now left) ≡ 64) × (length (now right) ≡ 64) ⌝ }
-    ensures { λ r. ⌜ r ≡ answer .code ⌝ }
+    ensures { λ r. ⌜ r ≡ lentPairCode (now (left .entry)) (now (right .entry)) (answer .code) ⌝ }
     ensures { λ r. ⌜ now (left .exit) ≡ lentOutputOr 17 r (answer .left) (now (left .entry)) ⌝ }
     ensures { λ r. ⌜ now (right .exit) ≡ lentOutputOr 17 r (answer .right) (now (right .entry)) ⌝ }
 {
+    if left.len() != 64 {
+        return WRONG_LENGTH;
+    }
+    if right.len() != 64 {
+        return WRONG_LENGTH;
+    }
     let written = written_with(answer.code, 17);
     let left_string = answer.left;
     let right_string = answer.right;
@@ -44,12 +48,6 @@ pub extern "C" fn vz_settle_records(
         (settleRecords (dealTerms (now (commitment .entry)) size) (now (first .entry)) (now (second .entry)) .right)
         (now (right .entry)) ⌝ }
 {
-    if left.len() != 64 {
-        return WRONG_LENGTH;
-    }
-    if right.len() != 64 {
-        return WRONG_LENGTH;
-    }
     let answer = settle::settle_records(commitment, size, first, second);
     write_settled(answer, left, right)
 }
@@ -69,12 +67,28 @@ pub extern "C" fn vz_settle_with_deal(
     ensures { λ r. ⌜ now (right .exit) ≡ lentOutputOr 17 r
         (settleWithDeal (lentDeal (now (deal .entry))) (now («record» .entry)) .right) (now (right .entry)) ⌝ }
 {
-    if left.len() != 64 {
-        return WRONG_LENGTH;
-    }
-    if right.len() != 64 {
-        return WRONG_LENGTH;
-    }
     let answer = settle::settle_with_deal(deal, record);
+    write_settled(answer, left, right)
+}
+
+// The same with the tree beside the deal.
+#[no_mangle]
+pub extern "C" fn vz_settle_with_tree(
+    deal: &[u8],
+    tree: &[u8],
+    record: &[u8],
+    left: &mut [u8],
+    right: &mut [u8],
+) -> u32
+    ensures { λ r. ⌜ r ≡ lentPairCode (now (left .entry)) (now (right .entry))
+        (settleWithDeal (treeDeal (now (deal .entry)) (now (tree .entry))) (now («record» .entry)) .code) ⌝ }
+    ensures { λ r. ⌜ now (left .exit) ≡ lentOutputOr 17 r
+        (settleWithDeal (treeDeal (now (deal .entry)) (now (tree .entry))) (now («record» .entry)) .left)
+        (now (left .entry)) ⌝ }
+    ensures { λ r. ⌜ now (right .exit) ≡ lentOutputOr 17 r
+        (settleWithDeal (treeDeal (now (deal .entry)) (now (tree .entry))) (now («record» .entry)) .right)
+        (now (right .entry)) ⌝ }
+{
+    let answer = settle::settle_with_tree(deal, tree, record);
     write_settled(answer, left, right)
 }

@@ -1,6 +1,6 @@
-//! Replays the cases of tests/cases.py on the library, for comparison with the independent model.
+//! Replays the cases of tests/operations.py on the library, for comparison with the independent model.
 //!
-//! A case is a header of five little-endian u64 (operation, length of a, length of b, x, y), then the bytes a and b. Each gets one
+//! A case is a header of six little-endian u64 (operation, lengths of a, b and c, x, y), then the bytes a, b and c. Each gets one
 //! line of text: the code, the numbers in decimal, the bytes in hex. Values are zero where the library gives none.
 //!
 //! Every case is run twice, by the safe functions and by the functions of the C interface; two answers that differ are an error.
@@ -25,6 +25,7 @@ struct Case {
     operation: Operation,
     a: Vec<u8>,
     b: Vec<u8>,
+    c: Vec<u8>,
     x: u64,
     y: u64,
 }
@@ -71,7 +72,8 @@ fn answer(case: Case) -> Answer {
     let raw = raw::answer(&mut lent)?;
     let changed_a = lent.a != case.a && !case.operation.writes_a();
     let changed_b = lent.b != case.b && !case.operation.writes_b();
-    if changed_a || changed_b {
+    let changed_c = lent.c != case.c && !case.operation.writes_c();
+    if changed_a || changed_b || changed_c {
         return Err(format!("an input was changed: {}", raw.0).into());
     }
     let safe = safe::answer(case)?;
@@ -87,9 +89,10 @@ fn read_case(input: &mut impl Read) -> Result<Option<Case>, Box<dyn Error>> {
         return Ok(None);
     };
     let operation = Operation::numbered(number).ok_or_else(|| format!("no operation has the number {number}"))?;
-    let (a, b) = (read_number(input)?, read_number(input)?);
+    let (a, b, c) = (read_number(input)?, read_number(input)?, read_number(input)?);
     let (x, y) = (read_number(input)?, read_number(input)?);
-    Ok(Some(Case { operation, a: read_bytes(input, a)?, b: read_bytes(input, b)?, x, y }))
+    let (a, b, c) = (read_bytes(input, a)?, read_bytes(input, b)?, read_bytes(input, c)?);
+    Ok(Some(Case { operation, a, b, c, x, y }))
 }
 
 /// The first number of a case; none at the end of the input.
@@ -137,9 +140,4 @@ fn pieces<'a>(mut bytes: &'a [u8], lengths: &[u8]) -> Vec<&'a [u8]> {
     }
     pieces.push(bytes);
     pieces
-}
-
-/// Where the commitment ends in the second argument of settling two records.
-fn commitment_end(b: &[u8], y: u64) -> usize {
-    usize::try_from(y).map_or(b.len(), |y| b.len().min(y))
 }

@@ -3,7 +3,7 @@
 /// Makes the enumeration and its reading from the number of a case's header.
 macro_rules! operations {
     ($($number:literal $name:ident)*) => {
-        /// An operation of tests/cases.py, which names the same numbers. 13 and 15 are of other programs.
+        /// An operation of tests/operations.py, which names the same numbers. 13 and 15 are of other programs.
         #[derive(Clone, Copy, Debug, PartialEq, Eq)]
         pub enum Operation {
             $($name),*
@@ -39,16 +39,25 @@ operations! {
     17 Pad
     18 Unpad
     19 Tally
+    20 TreeFill
+    21 BookWithTree
+    22 BuildWithTree
+    23 SettleWithTree
 }
 
 impl Operation {
     /// Whether the first argument is lent to be written.
     pub fn writes_a(self) -> bool {
-        self == Operation::Book
+        matches!(self, Operation::Book | Operation::BookWithTree)
     }
 
     /// Whether the second argument is lent to be written.
     pub fn writes_b(self) -> bool {
-        matches!(self, Operation::Build | Operation::Pad | Operation::Unpad)
+        matches!(self, Operation::Build | Operation::BuildWithTree | Operation::Pad | Operation::Unpad)
+    }
+
+    /// Whether the third argument is lent to be written.
+    pub fn writes_c(self) -> bool {
+        matches!(self, Operation::TreeFill | Operation::BookWithTree)
     }
 }

@@ -1,6 +1,6 @@
 //! A case answered by the functions of the C interface. Outputs are lent full of a pattern: with a code that writes none the
 //! pattern must stay, and zeros are shown.
-use super::{commitment_end, digest, pieces, Answer, Case, Line, Operation};
+use super::{digest, pieces, Answer, Case, Line, Operation};
 use std::fmt::Write;
 use vizhuthamen::{ffi, STREAM_STATE};
 
@@ -48,7 +48,7 @@ impl Written {
 
 /// The line of a case.
 pub fn answer(case: &mut Case) -> Answer {
-    let Case { operation, ref mut a, ref mut b, x, y } = *case;
+    let Case { operation, ref mut a, ref mut b, ref mut c, x, y } = *case;
     match operation {
         Operation::Sha256 => hashed(ffi::vz_sha256, a),
         Operation::Commitment => hashed(ffi::vz_commitment, a),
@@ -56,20 +56,21 @@ pub fn answer(case: &mut Case) -> Answer {
         Operation::Make => make_entry(a, x, y),
         Operation::Read => read_entry(a),
         Operation::Find => find(a, b),
-        Operation::Book => book(a, b),
-        Operation::Build => build(a, b, x),
+        Operation::Book => book(a, None, b),
+        Operation::Build => build(a, None, x, b),
         Operation::Check => check(b, x, a),
-        Operation::Settle => {
-            let (commitment, second) = b.split_at(commitment_end(b, y));
-            settle_records(commitment, x, a, second)
-        }
-        Operation::SettleDeal => settle_with_deal(a, b),
+        Operation::Settle => settle_records(c, x, a, b),
+        Operation::SettleDeal => settle_with_deal(a, None, b),
         Operation::Fields => fields(a),
         Operation::Inspect => inspect(a, x),
         Operation::Stream => stream(a, b),
         Operation::Pad => pad(a, b),
         Operation::Unpad => unpad(x, a, b),
         Operation::Tally => tally(a),
+        Operation::TreeFill => tree_fill(a, c),
+        Operation::BookWithTree => Ok(book(a, Some(c), b)?.bytes(&digest(c)?)),
+        Operation::BuildWithTree => build(a, Some(c), x, b),
+        Operation::SettleWithTree => settle_with_deal(a, Some(c), b),
     }
 }
 
@@ -145,19 +146,29 @@ fn find(deal: &[u8], c: &[u8]) -> Answer {
     Ok(line.add(view.len()).bytes(&digest(view)?))
 }
 
-fn book(deal: &mut [u8], segment: &[u8]) -> Answer {
+fn tree_fill(deal: &[u8], tree: &mut [u8]) -> Answer {
+    let code = unsafe { ffi::vz_tree_fill(deal.as_ptr(), deal.len(), tree.as_mut_ptr(), tree.len()) };
+    Ok(Line::code(code).bytes(&digest(tree)?))
+}
+
+fn book(deal: &mut [u8], tree: Option<&mut [u8]>, segment: &[u8]) -> Answer {
     let (mut offset, mut place) = (NUMBER, NUMBER);
-    let code = unsafe {
-        ffi::vz_book(deal.as_mut_ptr(), deal.len(), segment.as_ptr(), segment.len(), &mut offset, &mut place)
+    let (d, n, s, m) = (deal.as_mut_ptr(), deal.len(), segment.as_ptr(), segment.len());
+    let code = match tree {
+        None => unsafe { ffi::vz_book(d, n, s, m, &mut offset, &mut place) },
+        Some(t) => unsafe { ffi::vz_book_with_tree(d, n, t.as_mut_ptr(), t.len(), s, m, &mut offset, &mut place) },
     };
     let line = Written::new(code, &[0, 15]).number(offset).number(place).done()?;
     Ok(line.bytes(&digest(deal)?))
 }
 
-fn build(deal: &[u8], output: &mut [u8], place: u64) -> Answer {
+fn build(deal: &[u8], tree: Option<&[u8]>, place: u64, output: &mut [u8]) -> Answer {
     let mut length = NUMBER;
-    let code =
-        unsafe { ffi::vz_build(deal.as_ptr(), deal.len(), place, output.as_mut_ptr(), output.len(), &mut length) };
+    let (d, n, o, m) = (deal.as_ptr(), deal.len(), output.as_mut_ptr(), output.len());
+    let code = match tree {
+        None => unsafe { ffi::vz_build(d, n, place, o, m, &mut length) },
+        Some(t) => unsafe { ffi::vz_build_with_tree(d, n, t.as_ptr(), t.len(), place, o, m, &mut length) },
+    };
     let line = Written::new(code, &[0]).number(length).done()?;
     Ok(line.bytes(&digest(output)?))
 }
@@ -194,11 +205,13 @@ fn settle_records(c: &[u8], size: u64, first: &[u8], second: &[u8]) -> Answer {
     Written::new(code, &[0, 17]).bytes(left).bytes(right).done()
 }
 
-fn settle_with_deal(deal: &[u8], record: &[u8]) -> Answer {
+fn settle_with_deal(deal: &[u8], tree: Option<&[u8]>, record: &[u8]) -> Answer {
     let (mut left, mut right) = ([PATTERN; 64], [PATTERN; 64]);
-    let code = unsafe {
-        let (l, r) = (left.as_mut_ptr(), right.as_mut_ptr());
-        ffi::vz_settle_with_deal(deal.as_ptr(), deal.len(), record.as_ptr(), record.len(), l, 64, r, 64)
+    let (d, n, p, m) = (deal.as_ptr(), deal.len(), record.as_ptr(), record.len());
+    let (l, r) = (left.as_mut_ptr(), right.as_mut_ptr());
+    let code = match tree {
+        None => unsafe { ffi::vz_settle_with_deal(d, n, p, m, l, 64, r, 64) },
+        Some(t) => unsafe { ffi::vz_settle_with_tree(d, n, t.as_ptr(), t.len(), p, m, l, 64, r, 64) },
     };
     Written::new(code, &[0, 17]).bytes(left).bytes(right).done()
 }

@@ -1,5 +1,5 @@
 //! A case answered by the safe functions.
-use super::{commitment_end, digest, pieces, Answer, Case, Line, Operation};
+use super::{digest, pieces, Answer, Case, Line, Operation};
 use std::fmt::Write;
 use vizhuthamen::{self as vz, Booking, Node, Position, ReadEntry, Refusal, Settled, Slot, Streaming};
 
@@ -9,7 +9,7 @@ fn code(result: Result<(), Refusal>) -> Line {
 
 /// The line of a case.
 pub fn answer(case: Case) -> Answer {
-    let Case { operation, mut a, b, x, y } = case;
+    let Case { operation, mut a, b, mut c, x, y } = case;
     match operation {
         Operation::Sha256 => Ok(digest_line(vz::sha256(&a))),
         Operation::Commitment => Ok(digest_line(vz::commitment(&a).map(|node| node.0))),
@@ -17,20 +17,21 @@ pub fn answer(case: Case) -> Answer {
         Operation::Make => Ok(made_entry(vz::make_entry(&a, x, y))),
         Operation::Read => Ok(read_entry(&a)),
         Operation::Find => find(&a, &b),
-        Operation::Book => book(&mut a, &b),
-        Operation::Build => build(&a, b, x),
+        Operation::Book => book(&mut a, None, &b),
+        Operation::Build => build(&a, None, x, b),
         Operation::Check => Ok(code(vz::check(&b, x, &a))),
-        Operation::Settle => {
-            let (commitment, second) = b.split_at(commitment_end(&b, y));
-            Ok(settled(vz::settle_records(commitment, x, &a, second)))
-        }
-        Operation::SettleDeal => Ok(settled(vz::settle_with_deal(&a, &b))),
+        Operation::Settle => Ok(settled(vz::settle_records(&c, x, &a, &b))),
+        Operation::SettleDeal => Ok(settled(vz::settle_with_deal(&a, None, &b))),
         Operation::Fields => fields(&a),
         Operation::Inspect => Ok(inspect(&a, x)),
         Operation::Stream => Ok(stream(&a, &b)),
         Operation::Pad => pad(&a, b),
         Operation::Unpad => unpad(x, &a, b),
         Operation::Tally => Ok(tally(&a)),
+        Operation::TreeFill => tree_fill(&a, &mut c),
+        Operation::BookWithTree => Ok(book(&mut a, Some(&mut c), &b)?.bytes(&digest(&c)?)),
+        Operation::BuildWithTree => build(&a, Some(&c), x, b),
+        Operation::SettleWithTree => Ok(settled(vz::settle_with_deal(&a, Some(&c), &b))),
     }
 }
 
@@ -97,8 +98,8 @@ fn find(deal: &[u8], commitment: &[u8]) -> Answer {
 }
 
 /// The deal afterwards is shown by its SHA-256.
-fn book(deal: &mut [u8], segment: &[u8]) -> Answer {
-    let result = vz::book(deal, segment);
+fn book(deal: &mut [u8], tree: Option<&mut [u8]>, segment: &[u8]) -> Answer {
+    let result = vz::book(deal, tree, segment);
     let (result, position) = match result {
         Ok(Booking::Booked(position)) => (Ok(()), position),
         Ok(Booking::AlreadyKept(position)) => (Err(Refusal::ALREADY_KEPT), position),
@@ -107,13 +108,18 @@ fn book(deal: &mut [u8], segment: &[u8]) -> Answer {
     Ok(code(result).add(position.offset).add(position.place).bytes(&digest(deal)?))
 }
 
+/// The tree afterwards is shown by its SHA-256.
+fn tree_fill(deal: &[u8], tree: &mut [u8]) -> Answer {
+    Ok(code(vz::tree_fill(deal, tree)).bytes(&digest(tree)?))
+}
+
 /// The output afterwards is shown by its SHA-256.
 fn written(result: Result<usize, Refusal>, output: &[u8]) -> Answer {
     Ok(code(result.map(drop)).add(result.unwrap_or(0)).bytes(&digest(output)?))
 }
 
-fn build(deal: &[u8], mut output: Vec<u8>, place: u64) -> Answer {
-    written(vz::build_into(deal, place, &mut output), &output)
+fn build(deal: &[u8], tree: Option<&[u8]>, place: u64, mut output: Vec<u8>) -> Answer {
+    written(vz::build_into(deal, tree, place, &mut output), &output)
 }
 
 fn pad(raw: &[u8], mut output: Vec<u8>) -> Answer {

@@ -193,7 +193,7 @@ fn find(deal: &Stream, commitment: &[u8], output: Option<Stream>) -> Result<Answ
 
 fn build(deal: &Stream, place: u64, output: Option<Stream>) -> Result<Answer, Failure> {
     let deal = files::read_deal(deal)?;
-    let record = match Progress::during("building", deal.bytes.len(), || vizhuthamen::build(&deal.bytes, place)) {
+    let record = match Progress::during("building", deal.bytes.len(), || vizhuthamen::build(&deal.bytes, None, place)) {
         Ok(record) => record,
         Err(refusal) => return Ok(refused(refusal, &deal)),
     };
@@ -239,7 +239,7 @@ fn settle(commitment: &[u8], size: u64, first: &Stream, second: &Stream) -> Resu
 fn settle_deal(deal: &Stream, record: &Stream) -> Result<Answer, Failure> {
     let (deal, record) = (files::read_deal(deal)?, files::read(record)?);
     let _progress = Progress::start("settling", deal.bytes.len());
-    match vizhuthamen::settle_with_deal(&deal.bytes, &record.bytes) {
+    match vizhuthamen::settle_with_deal(&deal.bytes, None, &record.bytes) {
         Err(refusal) => Ok(refused(refusal, &deal)),
         settled => Ok(settled_answer(settled, "the record is the one that the deal gives")),
     }

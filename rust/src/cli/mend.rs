@@ -230,7 +230,7 @@ mod tests {
     fn example() -> (Vec<u8>, Vec<Slot>) {
         let mut deal = vec![0; 2048];
         for (seed, size) in [(1, 300), (2, 128), (3, 200), (4, 77)] {
-            book(&mut deal, &segment(seed, size)).unwrap();
+            book(&mut deal, None, &segment(seed, size)).unwrap();
         }
         let slots = survey::survey(&deal).unwrap().slots;
         assert!(slots.iter().all(|slot| slot.kept().is_some()));

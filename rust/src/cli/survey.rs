@@ -300,7 +300,7 @@ mod tests {
     fn stray_bits_hide_only_their_own_area() {
         let mut deal = vec![0; 2048];
         for seed in 1..4 {
-            book(&mut deal, &noise(seed, 128)).unwrap();
+            book(&mut deal, None, &noise(seed, 128)).unwrap();
         }
         deal[128 + 63] |= 0x40;
         deal[2047] |= 0x80;

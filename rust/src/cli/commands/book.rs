@@ -18,7 +18,7 @@ pub fn book(deal: &Stream, segment: &Stream, force: bool, access: Access) -> Res
     let old = DealFile::open(path, access)?;
     let progress = Progress::start("booking", old.content.bytes.len());
     let mut bytes = old.content.bytes.clone();
-    let (answer, position) = match vizhuthamen::book(&mut bytes, &segment.bytes) {
+    let (answer, position) = match vizhuthamen::book(&mut bytes, None, &segment.bytes) {
         Ok(Booking::Booked(position)) => {
             if !force {
                 spares(&old.content, &bytes, position)?;

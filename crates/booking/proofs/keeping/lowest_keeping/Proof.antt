@@ -8,24 +8,28 @@ use borrow.Author.Needs.{needs}
 use Rattle.rules.specs.Search.{lowest}
 use Rattle.rules.specs.SearchLaws.{lowest-start, found-here, found-later, found-nowhere}
 use Rattle.sizes.specs.Sizes.{entryCount}
+use Rattle.lent.specs.LentDeal.{lentWith}
 use Rattle.booking.specs.Booking.{keepsSegment}
 use Rattle.booking.proofs.keeping.lowest_keeping.Statement.{statement}
 use Rattle.booking.proofs.keeping.lowest_keeping.Tie as tie
 
 abbrev Inv-loop : tie.InvT-loop
-Inv-loop deal segment commitment ranges slots i₀ i =
+Inv-loop deal tree has-tree segment commitment ranges slots i₀ i =
     (i ≤ slots)
-    × (lowest (keepsSegment deal segment) 0 slots ≡ lowest (keepsSegment deal segment) i (slots - i))
+    × (lowest (keepsSegment (lentWith has-tree deal tree) segment) 0 slots
+    ≡ lowest (keepsSegment (lentWith has-tree deal tree) segment) i (slots - i))
 
 abbrev μ-loop : tie.MeasureT-loop
-μ-loop deal segment commitment ranges slots i₀ i = slots - i
+μ-loop deal tree has-tree segment commitment ranges slots i₀ i = slots - i
 
 -- the test that is searched for, and the number of slots
 abbrev start : tie.After-entry-count Inv-loop μ-loop → tie.Start Inv-loop μ-loop
-start n = n .before .before .before
+start n = n .before .before .before .before
 
 abbrev keeps : tie.After-entry-count Inv-loop μ-loop → ℕ → Bool
-keeps n = keepsSegment (now (start n .args .deal)) (now (start n .args .segment))
+keeps n =
+    let a = start n .args in
+    keepsSegment (lentWith (a .has-tree) (now (a .deal)) (now (a .tree))) (now (a .segment))
 
 slots-are : (n : tie.After-entry-count Inv-loop μ-loop)
     → lowest (keeps n) 0 (n .entry-count .result)

@@ -7,13 +7,16 @@ use Rattle.octets.specs.LittleEndian.{bytesOf}
 use Rattle.octets.specs.LittleEndianLaws.{length-bytesOf}
 use Rattle.fields.specs.WrittenLaws.{wrote-field}
 use Rattle.record.specs.Form.{tableRow, recordLength}
-use Rattle.builder.proofs.RecordWritten.{WorkedOut, segment-asked, entry-asked, segment-path-sized}
-use Rattle.builder.proofs.RecordWritten.{entry-path-sized, SegmentPath, EntryPath, record-written}
+use Rattle.lent.specs.LentDeal.{LentDeal, lentWith}
+use Rattle.lent.specs.UsableLaws.{nodes-sized}
+use Rattle.builder.specs.BuildLaws.{entry-start}
+use Rattle.builder.proofs.RecordWritten.{WorkedOut, segment-inside, segment-room, segment-path-sized}
+use Rattle.builder.proofs.RecordWritten.{entry-room, entry-path-sized, SegmentPath, EntryPath, record-written}
 use borrow.Author.Needs.{needs}
 use Rattle.builder.proofs.writing.write_record.Statement.{statement}
 use Rattle.builder.proofs.writing.write_record.Tie as tie
 
--- the field before each, and where the function starts, before the levels and the position are worked out
+-- the field before each, and where the function starts, before the level and the position are worked out
 abbrev four : tie.After-put-path → tie.After-put-number3
 four c = c .before .before .before .before .before
 
@@ -32,14 +35,18 @@ position c = one (two (three c)) .before .before .before .before
 abbrev entered : tie.After-segment-position → tie.Start
 entered p = p .before .before .before .before .before
 
--- the levels and the position
+abbrev deal : tie.Start → LentDeal
+deal s = lentWith (s .args .has-tree) (now (s .args .deal)) (now (s .args .tree))
+
+-- the level and the position
 worked-out : (p : tie.After-segment-position)
-    → WorkedOut (now (entered p .args .deal)) (entered p .args .entry) (entered p .args .place)
-    (p .before .before .deal-level .result) (p .before .segment-level .result) (p .segment-position .result)
+    → WorkedOut (deal (entered p)) (entered p .args .entry) (entered p .args .place)
+    (p .before .segment-level .result) (p .segment-position .result)
 worked-out p =
     record {
-      within = entered p .pre .0;
-      top-is = p .before .before .deal-level .ensures;
+      each = nodes-sized (entered p .args .has-tree) (now (entered p .args .deal)) (now (entered p .args .tree))
+          (entered p .pre .0);
+      within = entered p .pre .1 .0;
       level-is = p .before .segment-level .ensures;
       position-is = p .segment-position .ensures;
     }
@@ -59,20 +66,11 @@ after-numbers c =
       one (two (three c)) .put-node .ensures .1,
     )
 
-deal-level-requires : tie.Need-deal-level-requires
-deal-level-requires c κs = search needs
-
 segment-level-requires : tie.Need-segment-level-requires
 segment-level-requires c κs = search needs
 
-sub-levels : tie.Need-sub-levels
-sub-levels c = search needs
-
 segment-position-requires : tie.Need-segment-position-requires
 segment-position-requires c κs = search needs
-
-sub-entry-levels : tie.Need-sub-entry-levels
-sub-entry-levels c = search needs
 
 row-requires : tie.Need-row-requires
 row-requires c κs = search needs
@@ -108,7 +106,7 @@ put-number-requires-3 c κs =
     omega (
       arith,
       same,
-      entered p .pre .1,
+      entered p .pre .1 .1,
       k .put-number2 .ensures .1,
       two k .put-number .ensures .1,
       first .put-node .ensures .1,
@@ -118,8 +116,11 @@ row-requires-5 : tie.Need-row-requires-5
 row-requires-5 c κs = search needs
 
 put-path-requires : tie.Need-put-path-requires
-put-path-requires c κs = let k = c .before .before .before .before in
-    segment-asked (worked-out (position k)) (kept k) (entered (position k) .pre .1) (after-numbers k)
+put-path-requires c κs =
+    let k = c .before .before .before .before in
+    let w = worked-out (position k) in
+    let s = entered (position k) in
+    (s .pre .0, (segment-inside w, segment-room w (kept k) (s .pre .1 .1) (after-numbers k)))
 
 row-requires-6 : tie.Need-row-requires-6
 row-requires-6 c κs = search needs
@@ -128,8 +129,15 @@ put-path-requires-2 : tie.Need-put-path-requires-2
 put-path-requires-2 c κs =
     let f = c .before .before .before .before in
     let k = four f in
-    entry-asked (worked-out (position k)) (f .put-path .kept .0 ∙ kept k) (entered (position k) .pre .1)
-    (omega (arith, f .put-path .ensures .1, after-numbers k))
+    let w = worked-out (position k) in
+    let s = entered (position k) in (
+      s .pre .0,
+      (
+        entry-start (w .within),
+        entry-room w (f .put-path .kept .0 ∙ kept k) (s .pre .1 .1)
+            (omega (arith, f .put-path .ensures .1, after-numbers k)),
+      ),
+    )
 
 same-length : tie.Need-same-length
 same-length c =
@@ -149,7 +157,7 @@ returns c =
     let a = entered p .args in
     let w = worked-out p in
     let size = f1 .put-node .ensures .2 in
-    record-written w (now (a .out)) size (entered p .pre .1) (
+    record-written w (now (a .out)) size (entered p .pre .1 .1) (
       _,
       _,
       wrote-field (tableRow 0) (a .entry .commitment) (f1 .before .row .ensures) size (f1 .put-node .ensures .0)
@@ -191,11 +199,8 @@ pub write-record-spec : {M : Type 1} → statement M
 write-record-spec =
     tie.close
     (tie.spec
-    deal-level-requires
     segment-level-requires
-    sub-levels
     segment-position-requires
-    sub-entry-levels
     row-requires
     put-node-requires
     row-requires-2

@@ -32,16 +32,22 @@ returns-2 c =
 lowest-with-commitment-requires : tie.Need-lowest-with-commitment-requires
 lowest-with-commitment-requires c κs =
     let k = c .before in
-    refusal-none (now (k .before .before .before .before .args .deal)) (sym (k .refusal .ensures) ∙ c .if2 .left) .0
+    let deal = lentDeal (now (k .before .before .before .before .args .deal)) in
+    refusal-none deal (sym (k .refusal .ensures) ∙ c .if2 .left) .0
 
 returns-3 : tie.Need-returns-3
 returns-3 c =
     let k = c .before .before in
     let a = k .before .before .before .before .args in
-    let lent = refusal-none (now (a .deal)) (sym (k .refusal .ensures) ∙ c .before .if2 .left) in
+    let lent = refusal-none (lentDeal (now (a .deal))) (sym (k .refusal .ensures) ∙ c .before .if2 .left) in
     c .lowest-with-commitment .ensures
     ∙ sym (searched-is (lentDeal (now (a .deal))) (now (a .commitment))
-    (record { commitment-length = k .before .if1 .left; size-allowed = lent .0; clear = lent .1 }))
+    (record {
+      commitment-length = k .before .if1 .left;
+      size-allowed = lent .0;
+      clear = lent .1;
+      tree-sized = lent .2;
+    }))
 
 pub find-numbers-spec : {M : Type 1} → statement M
 find-numbers-spec =

@@ -1,4 +1,4 @@
-use mathlib.Core.Path.{_≡_, _∙_}
+use mathlib.Core.Path.{_≡_, refl, _∙_}
 use mathlib.Core.Bool.{true}
 use mathlib.Core.List.{List}
 use Prim.Native.Nat.{ℕ}
@@ -69,7 +69,7 @@ segment-has-requires c κs =
     let s = start k in
     let entry = entryAt (deal s .bytes) (s .args .place) in
     let a = answer-stands (dealSize (deal s)) entry (k .standing-at .result) (k .standing-at .ensures) (stood i) in
-    (s .pre .0, (a .size-allowed, a .offset-allowed))
+    (record { size-allowed = s .pre .0; tree-sized = refl }, (a .size-allowed, a .offset-allowed))
 
 free-row-requires-2 : tie.Need-free-row-requires-2
 free-row-requires-2 c κs = search needs

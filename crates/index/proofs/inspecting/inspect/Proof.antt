@@ -28,7 +28,7 @@ place-allowed-requires : tie.Need-place-allowed-requires
 place-allowed-requires c κs =
     let k = c .before in
     let deal = now (k .before .before .args .deal) in
-    lent-size (length deal) (refusal-none deal (sym (k .refusal .ensures) ∙ c .if1 .left) .0) .allowed
+    lent-size (length deal) (refusal-none (lentDeal deal) (sym (k .refusal .ensures) ∙ c .if1 .left) .0) .allowed
 
 refused-requires-2 : tie.Need-refused-requires-2
 refused-requires-2 c κs = search needs
@@ -48,7 +48,7 @@ slot-holds-requires c κs =
     let k = p .before .before in
     let a = k .before .before .args in
     let d = length (now (a .deal)) in
-    let allowed = refusal-none (now (a .deal)) (sym (k .refusal .ensures) ∙ p .before .if1 .left) .0 in
+    let allowed = refusal-none (lentDeal (now (a .deal))) (sym (k .refusal .ensures) ∙ p .before .if1 .left) .0 in
     let at = sym (p .place-allowed .ensures) ∙ not-false _ (c .if2 .left) in
     (allowed, entry-place d (a .place) (lent-size d allowed .deal) at .in-deal)
 

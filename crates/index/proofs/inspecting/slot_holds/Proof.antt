@@ -1,4 +1,4 @@
-use mathlib.Core.Path.{_≡_, _∙_}
+use mathlib.Core.Path.{_≡_, refl, _∙_}
 use mathlib.Core.Bool.{true, false}
 use mathlib.Core.List.{List}
 use Prim.Native.Nat.{ℕ}
@@ -52,7 +52,7 @@ segment-has-requires c κs =
     let k = read (c .before) in
     let s = start k in
     let a = answer-stands (d s) (entry s) (k .standing-at .result) (k .standing-at .ensures) (stood (c .before)) in
-    (s .pre .0, (a .size-allowed, a .offset-allowed))
+    (record { size-allowed = s .pre .0; tree-sized = refl }, (a .size-allowed, a .offset-allowed))
 
 inspected-row-requires-2 : tie.Need-inspected-row-requires-2
 inspected-row-requires-2 c κs = search needs

@@ -6,9 +6,10 @@ use lib.ListN.{length}
 use denote.Ref.{now}
 use borrow.Author.Tests.{not-true, not-false}
 use borrow.Author.Needs.{needs}
-use Rattle.merkle.specs.Tree.{nodeAt}
 use Rattle.merkle.specs.NodeSource.{NodeSource}
+use Rattle.lent.specs.LentDeal.{lentWith}
 use Rattle.index.specs.Slots.{entryAt}
+use Rattle.lent.specs.LentDeal.{lentWith}
 use Rattle.index.specs.SlotsLaws.{answer-stands}
 use Rattle.index.proofs.SlotAnswers.{kept-free, kept-other, kept-here}
 use Rattle.index.proofs.slots.kept_at.Statement.{statement}
@@ -16,7 +17,7 @@ use Rattle.index.proofs.slots.kept_at.Tie as tie
 
 -- the deal's nodes and size, and the entry
 abbrev nodes : tie.Start → NodeSource
-nodes s = nodeAt (now (s .args .deal))
+nodes s = lentWith (s .args .has-tree) (now (s .args .deal)) (now (s .args .tree)) .nodes
 
 abbrev d : tie.Start → ℕ
 d s = length (now (s .args .deal))
@@ -25,7 +26,7 @@ abbrev entry : tie.Start → List ℕ
 entry s = entryAt (now (s .args .deal)) (s .args .place)
 
 abbrev start : tie.After-standing-at → tie.Start
-start c = c .before .before
+start c = c .before .before .before
 
 -- what was read stands
 abbrev read : tie.Else1 → tie.After-standing-at

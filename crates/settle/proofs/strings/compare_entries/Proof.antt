@@ -1,14 +1,13 @@
+use mathlib.Core.List.{[], _∷_}
 use denote.Ref.{now}
-use Rattle.settle.specs.ComparingLaws.{entries-up}
+use Rattle.node.specs.Node.{nodeHash}
+use Rattle.paths.specs.CompareLaws.{paths-up}
 use borrow.Author.Needs.{needs}
 use Rattle.settle.proofs.strings.compare_entries.Statement.{statement}
 use Rattle.settle.proofs.strings.compare_entries.Tie as tie
 
-no-difference-requires : tie.Need-no-difference-requires
-no-difference-requires c κs = search needs
-
-compare-above-requires : tie.Need-compare-above-requires
-compare-above-requires c κs = search needs
+compare-strings-requires : tie.Need-compare-strings-requires
+compare-strings-requires c κs = search needs
 
 node-hash-requires : tie.Need-node-hash-requires
 node-hash-requires c κs = search needs
@@ -23,25 +22,18 @@ returns : tie.Need-returns
 returns c =
     let y = c .before in
     let x = y .before in
-    let a = x .before in
-    let s = a .before .before .before .before in
-    let left = now (s .args .left-path) in
-    let right = now (s .args .right-path) in
-    simp (
-      c .compare-paths .ensures,
-      y .node-hash2 .ensures,
-      x .node-hash .ensures,
-      a .compare-above .ensures,
-      a .before .no-difference .ensures,
-    )
-    (entries-up (s .args .position) left right (s .pre) (s .args .left) (s .args .right))
+    let e = x .before in
+    let s = e .before .before .before in
+    let a = s .args in
+    simp (c .compare-paths .ensures, y .node-hash2 .ensures, x .node-hash .ensures, e .compare-strings .ensures)
+    (paths-up (nodeHash (a .left)) (now (a .left-path)) (a .left ∷ []) (nodeHash (a .right)) (now (a .right-path))
+    (a .right ∷ []) (a .position) (s .pre))
 
 pub compare-entries-spec : {M : Type 1} → statement M
 compare-entries-spec =
     tie.close
     (tie.spec
-    no-difference-requires
-    compare-above-requires
+    compare-strings-requires
     node-hash-requires
     node-hash-requires-2
     compare-paths-requires

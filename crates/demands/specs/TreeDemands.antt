@@ -1,0 +1,113 @@
+-- Demands 2 and 3 for the forms that take the tree (document 02, request (vii): "demands 2 and 3 wherever the buffer is
+-- used, rest on one premise"). The premise is `FilledFor deal tree`, which the paper's history gives
+-- (TreeHistoryLaws.history-filled); all else is as for the plain forms (Demand2, Demand3).
+use mathlib.Core.Path.{_≡_, sym, ap, _∙_, subst}
+use mathlib.Core.Bool.{true}
+use Prim.Native.Nat.{ℕ, _<_}
+use mathlib.Core.List.{List, _∷_}
+use lib.ListN.{length}
+use Rattle.rules.specs.SearchLaws.{IsLowest}
+use Rattle.octets.specs.Bytes.{Bytes}
+use Rattle.octets.specs.Splice.{part}
+use Rattle.stray.specs.StrayBits.{noStrayBits}
+use Rattle.merkle.specs.Tree.{commitmentOf}
+use Rattle.sizes.specs.Sizes.{lentSizeAllowed, entryCount, dealLevel}
+use Rattle.tree.specs.TreeNodes.{FilledFor}
+use Rattle.lent.specs.LentDeal.{lentDeal, treeDeal}
+use Rattle.room.specs.declared.Booked.{Booked}
+use Rattle.booking.specs.Booking.{keepsSegment, bookAnswer}
+use Rattle.booking.specs.BookableLaws.{Bookable}
+use Rattle.booking.specs.AlreadyLaws.{answer15}
+use Rattle.booking.specs.Run.{runBookings}
+use Rattle.record.specs.Form.{parse}
+use Rattle.record.specs.Check.{dealTerms, checkOf}
+use Rattle.builder.specs.declared.BuildAnswer.{BuildAnswer}
+use Rattle.builder.specs.Build.{buildAnswer, buildOutput}
+use Rattle.settle.specs.Settle.{placeIn, settleWithDeal}
+use Rattle.demands.specs.Settles.{Settles}
+use Rattle.demands.specs.BuildsExactly.{BuildsExactly}
+use Rattle.demands.specs.Demand2.{built-is-accepted, never-booked-again, kept-never-booked, kept-is-never-booked}
+use Rattle.demands.specs.Demand3.{same-statement, record-settles-with-deal}
+use Rattle.demands.specs.TreeForms.{same-booking, same-building, same-output, same-settling}
+use Rattle.demands.specs.TreeHistory.{DealAndTree, TreeCall, bookSegment, afterCalls, segmentsOf}
+use Rattle.demands.specs.TreeHistoryLaws.{same-run-answer}
+
+module _ (deal tree : List ℕ) (f : FilledFor deal tree) where
+  -- Demand 2. Where building with the tree answers 0, the check accepts what it wrote, against the deal's commitment
+  -- and size.
+  pub built-with-tree-is-accepted : Bytes deal → (place : ℕ) (out : List ℕ)
+      → let answer = buildAnswer (treeDeal deal tree) place out in
+      answer .code ≡ 0
+      → checkOf (dealTerms (commitmentOf (dealLevel (length deal)) deal) (length deal))
+      (part (buildOutput (treeDeal deal tree) place out) 0 (answer .length)) ≡ 0
+  built-with-tree-is-accepted b place out e =
+      let same = same-building deal tree f place out in
+      rw (same, same-output deal tree f place out)
+      (built-is-accepted deal b place out (ap (λ (a : BuildAnswer). a .code) (sym same) ∙ e))
+
+  -- deal and tree now, and after calls with the tree in hand, whatever their codes
+  abbrev now : DealAndTree
+  now = record { deal = deal; tree = tree }
+
+  abbrev after : List TreeCall → DealAndTree
+  after calls = afterCalls calls now
+
+  module _ (segment : List ℕ) where
+    -- the answer of booking the segment with the tree, after calls
+    abbrev bookedAfter : List TreeCall → Booked
+    bookedAfter calls = bookAnswer (treeDeal (after calls .deal) (after calls .tree)) segment
+
+    -- Demand 2. A segment that was booked with code 0 with the tree in hand gets 15, with the same offset and entry
+    -- place, whatever calls with the tree in hand come in between.
+    pub never-booked-again-with-tree : bookAnswer (treeDeal deal tree) segment .code ≡ 0 → (later : List TreeCall)
+        → bookedAfter (bookSegment segment ∷ later)
+        ≡ record {
+          code = 15;
+          offset = bookAnswer (treeDeal deal tree) segment .offset;
+          place = bookAnswer (treeDeal deal tree) segment .place;
+        }
+    unfolding runBookings
+    never-booked-again-with-tree z later =
+        let same = same-booking deal tree f segment in
+        same-run-answer (bookSegment segment ∷ later) now f segment
+        ∙ never-booked-again deal segment (ap (λ (a : Booked). a .code) (sym same) ∙ z) (segmentsOf later)
+        ∙ ap (λ (a : Booked). record { code = 15; offset = a .offset; place = a .place }) (sym same)
+
+    -- and one that got 15 to begin with goes on getting it
+    pub kept-never-booked-with-tree : (later : List TreeCall) → bookAnswer (treeDeal deal tree) segment .code ≡ 15
+        → bookedAfter later ≡ bookAnswer (treeDeal deal tree) segment
+    kept-never-booked-with-tree later k =
+        let same = same-booking deal tree f segment in
+        same-run-answer later now f segment
+        ∙ kept-never-booked deal segment (segmentsOf later) (ap (λ (a : Booked). a .code) (sym same) ∙ k)
+        ∙ sym same
+
+    -- Demand 2. Where some slot of the deal keeps the segment, booking with the tree answers 15 with the offset and the
+    -- entry place of the lowest such slot, now and after any later calls with the tree in hand.
+    pub kept-is-never-booked-with-tree : (i : ℕ) → Bookable (lentDeal deal) segment → i < entryCount (length deal)
+        → keepsSegment (lentDeal deal) segment i ≡ true
+        → (j : ℕ)
+        × IsLowest (keepsSegment (lentDeal deal) segment) 0 (entryCount (length deal)) j
+        × ((later : List TreeCall) → bookedAfter later ≡ answer15 deal j)
+    kept-is-never-booked-with-tree i b h k =
+        let p = kept-is-never-booked deal segment i b h k in
+        (p .0, p .1, λ later. same-run-answer later now f segment ∙ p .2 (segmentsOf later))
+
+  -- Demand 3, a record with a deal and its tree in hand; the deal gets neither 2 nor 11. A record accepted against the
+  -- deal's commitment and size settles with the tree to 0 exactly when building with the tree at its entry place, given
+  -- enough output, answers 0 and writes exactly that record; otherwise to 17 and a pair that collides.
+  pub record-settles-with-tree : (r : List ℕ) → Bytes deal → Bytes r → lentSizeAllowed (length deal) ≡ true
+      → noStrayBits deal ≡ true
+      → checkOf (dealTerms (commitmentOf (dealLevel (length deal)) deal) (length deal)) r ≡ 0
+      → Settles (BuildsExactly (treeDeal deal tree) (placeIn (parse r)) r) (settleWithDeal (treeDeal deal tree) r)
+  record-settles-with-tree r bd br l c k =
+      let place = placeIn (parse r) in
+      let plain = BuildsExactly (lentDeal deal) place r in
+      let with-tree = BuildsExactly (treeDeal deal tree) place r in
+      let answer = same-building deal tree f place in
+      let output = same-output deal tree f place in
+      subst (Settles with-tree) (sym (same-settling deal tree f r))
+      (same-statement plain with-tree (settleWithDeal (lentDeal deal) r)
+      (λ b out h. (answer out ∙ b out h .0, output out ∙ b out h .1))
+      (λ b out h. (sym (answer out) ∙ b out h .0, sym (output out) ∙ b out h .1))
+      (record-settles-with-deal deal r bd br l c k))

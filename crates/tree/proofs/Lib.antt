@@ -1,0 +1,4 @@
+-- What the proofs of several functions use.
+pub mod Rows
+pub mod RowLanes
+pub mod Levels

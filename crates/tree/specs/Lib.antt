@@ -1,0 +1,16 @@
+pub mod Place
+pub mod PlaceLaws
+pub mod CoverLaws
+pub mod TreeNodes
+pub mod TreeNodesLaws
+pub mod Filled
+pub mod RowsLaws
+pub mod Renewed
+pub mod AboveLaws
+pub mod RenewedNodeLaws
+pub mod RenewedLaws
+pub mod KeepLaws
+pub mod FilledLaws
+pub mod RenewalLaws
+pub mod OrderLaws
+pub mod RowLanes

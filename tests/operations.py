@@ -1,0 +1,177 @@
+"""The operations that a case can ask for, and the answers of the independent model.
+
+A case is a header of six little-endian u64 (operation, lengths of a, b and c, x, y), then the bytes a, b and c. Its answer is one
+line of text: the code, the numbers in decimal, the bytes in hex. `encode` writes it; ANSWERS says what each operation takes and prints.
+"""
+import hashlib
+from typing import NamedTuple
+
+from model import Model, index_numbers, le, pad, sha256, unpad
+
+# The operations by number, as crates/vectors and rust/examples/replay/operation.rs have them. CHECK_INPUT is of the program check_record,
+# and COMPARE of the code that settling shares (two paths from one position): no routines of their own.
+(SHA256, COMMITMENT, NUMBERS, MAKE, READ, FIND, BOOK, BUILD, CHECK, SETTLE, SETTLE_DEAL, FIELDS, CHECK_INPUT, INSPECT, COMPARE, STREAM, PAD,
+ UNPAD, TALLY, FILL, BOOK_TREE, BUILD_TREE, SETTLE_TREE) = range(1, 24)
+
+NAMES = {SHA256: "sha256", COMMITMENT: "commitment", NUMBERS: "index_numbers", MAKE: "make_entry", READ: "read_entry", FIND: "find",
+         BOOK: "book", BUILD: "build", CHECK: "check", SETTLE: "settle_records", SETTLE_DEAL: "settle_with_deal", FIELDS: "read_field",
+         TALLY: "tally", FILL: "tree_fill", BOOK_TREE: "book_with_tree", BUILD_TREE: "build_with_tree", SETTLE_TREE: "settle_with_tree"}
+
+# The forms that take a tree, in c; their other arguments are those of the plain forms.
+PLAIN_FORM = {BOOK_TREE: BOOK, BUILD_TREE: BUILD, SETTLE_TREE: SETTLE_DEAL}
+
+MODEL = Model()
+
+
+class Case(NamedTuple):
+    """A call; what it leaves out is empty, or 0."""
+    op: int
+    a: bytes = b""
+    b: bytes = b""
+    x: int = 0
+    y: int = 0
+    c: bytes = b""
+
+
+def encode(case):
+    op, a, b, x, y, c = Case(*case)
+    return b"".join(map(le, (op, len(a), len(b), len(c), x, y))) + a + b + c
+
+
+def line(*parts):
+    return " ".join(p.hex() if isinstance(p, (bytes, bytearray)) else str(int(p)) for p in parts) + "\n"
+
+
+def digest(data):
+    return hashlib.sha256(data).digest()
+
+
+# ---- the answers; bytes that may be many are shown by their SHA-256
+
+
+def found(case):
+    """b is the commitment; the view is shown after the numbers."""
+    code, o, s, p = MODEL.find(case.a, case.b)
+    return code, o, s, p, s, digest(case.a[o : o + s])
+
+
+def booked(case):
+    """b is the segment; the deal afterwards."""
+    code, o, p, deal = MODEL.book(case.a, case.b)
+    return code, o, p, digest(deal)
+
+
+def booked_with_tree(case):
+    """The deal and the tree afterwards."""
+    code, o, p, deal, tree = MODEL.book_with_tree(case.a, case.c, case.b)
+    return code, o, p, digest(deal), digest(tree)
+
+
+def tree_filled(case):
+    """The tree afterwards."""
+    code, tree = MODEL.fill(case.a, case.c)
+    return code, digest(tree)
+
+
+def tree_of(case):
+    return case.c if case.op in PLAIN_FORM else None
+
+
+def built(case):
+    """b is the output before, x the place; the output afterwards."""
+    code, record = MODEL.build(case.a, case.x, tree_of(case))
+    if code == 0 and len(case.b) < len(record):
+        code = 12
+    out = record + case.b[len(record):] if code == 0 else case.b
+    return code, len(record) if code == 0 else 0, digest(out)
+
+
+def fields(case):
+    """The fields read in turn from place 0, whatever their tags: tag, start, length, next; then the place that is no field."""
+    record, at, out = case.a, 0, []
+    while at + 3 <= len(record):
+        n = record[at + 1] + 256 * record[at + 2]
+        if at + 3 + n > len(record):
+            break
+        out += [record[at], at + 3, n, at + 3 + n]
+        at += 3 + n
+    return 0, *out, at
+
+
+def compared(case):
+    """a and b are a node and a path each, x the position."""
+    nodes = lambda data: [data[i : i + 32] for i in range(32, len(data), 32)]
+    strings = lambda data: MODEL.path_strings(data[:32], case.x, nodes(data))
+    return MODEL.settled(strings(case.a), strings(case.b))
+
+
+def streamed(case):
+    """a are the bytes, b the lengths of the pieces but the last; after the answer the code that sticks after each."""
+    code, node, count, codes = MODEL.stream(pieces(case.a, case.b))
+    return code, node, count, *codes
+
+
+def padded(case):
+    """a are the raw bytes, b is the output before; the output afterwards."""
+    code, n, out = pad(case.a, case.b)
+    return code, n, digest(out)
+
+
+def unpadded(case):
+    """a is the segment, b the output before, x the raw length; the output afterwards."""
+    code, n, out = unpad(case.x, case.a, case.b)
+    return code, n, digest(out)
+
+
+def checked_input(case):
+    """What the program check_record prints for its input."""
+    data = case.a
+    if len(data) < 32:
+        return (1,)
+    if len(data) < 40:
+        return (2,)
+    if len(data) > 40 + 4096:
+        return (3,)
+    return (MODEL.check(data[:32], int.from_bytes(data[32:40], "little"), data[40:]),)
+
+
+# What each operation answers. Where nothing else is said, a is the message, run, commitment, entry, record or deal, x the size or place.
+ANSWERS = {
+    SHA256: lambda case: sha256(case.a),
+    COMMITMENT: lambda case: MODEL.commitment(case.a),
+    NUMBERS: lambda case: index_numbers(case.x),
+    MAKE: lambda case: MODEL.make_entry(case.a, case.x, case.y),
+    READ: lambda case: MODEL.read_entry(case.a),
+    FIND: found,
+    BOOK: booked,
+    BUILD: built,
+    CHECK: lambda case: (MODEL.check(case.b, case.x, case.a),),  # a is the record, b the commitment
+    SETTLE: lambda case: MODEL.settle_records(case.c, case.x, case.a, case.b),  # c is the commitment
+    SETTLE_DEAL: lambda case: MODEL.settle_deal(case.a, case.b),
+    FIELDS: fields,
+    CHECK_INPUT: checked_input,
+    INSPECT: lambda case: MODEL.inspect(case.a, case.x),
+    COMPARE: compared,
+    STREAM: streamed,
+    PAD: padded,
+    UNPAD: unpadded,
+    TALLY: lambda case: MODEL.tally(case.a),
+    FILL: tree_filled,
+    BOOK_TREE: booked_with_tree,
+    BUILD_TREE: built,
+    SETTLE_TREE: lambda case: MODEL.settle_deal(case.a, case.b, case.c),
+}
+
+
+def answer(case):
+    case = Case(*case)
+    return line(*ANSWERS[case.op](case))
+
+
+def pieces(data, lengths):
+    """Pieces of these lengths, as far as the bytes go, and then the rest in one piece."""
+    out, at = [], 0
+    for n in lengths:
+        out.append(data[at : at + n])
+        at += n
+    return [*out, data[at:]]

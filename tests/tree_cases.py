@@ -1,0 +1,80 @@
+"""Calls of the forms that take a tree (document 02, request (vii)): refusals in their order, a tree kept over bookings, and trees
+that stand beside another deal than the one they were filled for."""
+from itertools import product
+
+from cases import deal, place, run, segment_size, spoil, standing_places, strayed
+from model import area, index_numbers
+from operations import BOOK_TREE, BUILD_TREE, FILL, MODEL, SETTLE_TREE
+
+
+def orders(rng):
+    """Every choice of faults in deal, tree, segment, place, output and record at once: the first in the order decides."""
+    whole = bytes(512)
+    for size in (128, 100):
+        whole = MODEL.book(whole, run(rng, size))[3]
+    own, record = MODEL.fill(whole, bytes(480))[1], MODEL.build(whole, 256)[1]
+    stray = strayed(whole, 31, 64)
+    fresh = run(rng, 96)
+    segments = (fresh, whole[:128], whole[128:228], b"", bytes(257), strayed(fresh, 63, 128))
+    for data, tree in product((whole, stray, whole[:500], stray[:511], bytes(512)), (own, own[:-1], own + b"\0", b"")):
+        yield FILL, data, b"", 0, 0, tree
+        for segment in segments:
+            yield BOOK_TREE, data, segment, 0, 0, tree
+        for p, n in product((256, 300, 384), (234, 233)):
+            yield BUILD_TREE, data, rng.randbytes(n), p, 0, tree
+        for r in (record, record[:-1], spoil(rng, record), b""):
+            yield SETTLE_TREE, data, r, 0, 0, tree
+
+
+def looked_at(rng, data, tree):
+    """A record built with the tree, and it and the one without settled with the tree."""
+    places = standing_places(data)
+    p = rng.choice(places) if places and rng.randrange(8) else place(rng, len(data))
+    yield BUILD_TREE, data, rng.randbytes(2000), p, 0, tree
+    for record in sorted({MODEL.build(data, p)[1], MODEL.build(data, p, tree)[1]}):
+        yield SETTLE_TREE, data, record, 0, 0, tree
+
+
+def kept_tree(rng, d, sizes, mixed):
+    """A deal, of zeros or of old bytes, with its tree: filled, and kept over bookings of these sizes, each followed by the same segment
+    again. Where plain bookings are mixed in, the tree is stale from there on."""
+    start = index_numbers(d)[2]
+    data = rng.choice((bytes(start), run(rng, start))) + bytes(d - start)
+    old = rng.randbytes(d - 32)
+    yield FILL, data, b"", 0, 0, old
+    tree = MODEL.fill(data, old)[1]
+    for size in sizes:
+        segment = run(rng, size)
+        if mixed and not rng.randrange(3):
+            data = MODEL.book(data, segment)[3]
+        for _ in range(2):
+            yield BOOK_TREE, data, segment, 0, 0, tree
+            *_, data, tree = MODEL.book_with_tree(data, tree, segment)
+        yield from looked_at(rng, data, tree)
+
+
+def runs(rng, count, deal_sizes=(512, 1024, 4096, 1 << 14)):
+    """Deals with a tree kept over bookings until no room is left, and with plain bookings mixed in."""
+    for i in range(count):
+        d = rng.choice(deal_sizes)
+        yield from kept_tree(rng, d, [segment_size(rng, d) for _ in range(6)], mixed=i % 2 == 1)
+
+
+def changed_deals(rng, count):
+    """Deals changed behind their trees, with a record from before: another entry at its place, a damaged one, none; another byte in
+    its segment, or elsewhere."""
+    for _ in range(count):
+        data = deal(rng, (512, 1024, 4096))
+        code, tree = MODEL.fill(data, bytes(len(data) - 32))
+        places = standing_places(data)
+        if code or not places:
+            continue
+        p = rng.choice(places)
+        _, _, c, o, s = MODEL.read_entry(data[p : p + 64])
+        record = MODEL.build(data, p)[1]
+        other = MODEL.entry(c, o, max(1, s - 1) if rng.randrange(2) else area(s))
+        for at, part in ((p, other), (p, bytes(64)), (p, strayed(data[p : p + 64], 50, 1)), (o, bytes(32)), (rng.randrange(16) * 32, bytes(32))):
+            changed = data[:at] + part + data[at + len(part):]
+            yield SETTLE_TREE, changed, record, 0, 0, tree
+            yield BUILD_TREE, changed, rng.randbytes(2000), p, 0, tree
+            yield BOOK_TREE, changed, data[o : o + s], 0, 0, tree
