@@ -1,6 +1,6 @@
 pub mod ValidKind
 pub mod SlotAnswers
-pub mod Keeping
+pub mod Naming
 pub mod View
 pub mod InspectAnswers
 pub mod Counting

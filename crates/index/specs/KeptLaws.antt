@@ -38,6 +38,12 @@ kept-cong nodes others d entry f =
     (sameBytes (nodeOver others entry) (commitmentIn entry))
     (λ s. ap (λ (n : List ℕ). sameBytes n (commitmentIn entry)) (f s))
 
+-- which it is depends on the offset and the area alone: sizes with one area have one node
+pub area-node : (nodes : NodeSource) (offset m n : ℕ) → area m ≡ area n
+    → nodes (segmentLevel m) (segmentPosition offset m) ≡ nodes (segmentLevel n) (segmentPosition offset n)
+unfolding segmentLevel segmentPosition
+area-node nodes offset m n e = rw e
+
 -- that node, worked out from a deal's bytes, is the commitment of the entry's area
 pub segment-node : (deal : List ℕ) (d offset size : ℕ) → SegmentSize d size → SegmentPlace d offset size
     → nodeAt deal (segmentLevel size) (segmentPosition offset size)

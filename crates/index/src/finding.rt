@@ -1,36 +1,73 @@
 // Finding a segment of a lent deal by its commitment.
 use crate::FoundSegment;
 use crate::Row;
+use crate::slots::area_of;
 use crate::slots::free_row;
 use crate::slots::segment_has;
 use crate::slots::standing_at;
 ghost use mathlib.Core.Path.{_≡_};
-ghost use mathlib.Core.Bool.{true};
+ghost use mathlib.Core.Bool.{true, false};
 ghost use Prim.Native.Nat.{_+_, _≤_};
 ghost use lib.ListN.{length};
 ghost use denote.Ref.{ptr};
-ghost use Rattle.sizes.specs.Sizes.{lentSizeAllowed};
+ghost use Rattle.merkle.specs.Tree.{nodeAt};
+ghost use Rattle.sizes.specs.Sizes.{lentSizeAllowed, segmentSizeAllowed, offsetAllowed};
 ghost use Rattle.lent.specs.LentDeal.{lentDeal};
-ghost use Rattle.index.specs.Find.{keepingRow, foundIn, lowestWithCommitment, findNumbers, findView};
+ghost use Rattle.index.specs.Find.{namingRow, keptBy, TriedBefore, foundIn, lowestWithCommitment};
+ghost use Rattle.index.specs.Find.{findNumbers, findView};
 ghost use Rattle.index.specs.Find as F;
 
-// The kept entry at a place of a lent deal, where it names this commitment. Only then are its segment's bytes hashed.
-fn keeping_at(deal: &[u8], place: usize, commitment: &[u8]) -> Row
+// The row of the entry at a place of a lent deal, where it stands and names this commitment. Nothing of the segment is
+// read.
+fn naming_at(deal: &[u8], place: usize, commitment: &[u8]) -> Row
     requires { ⌜ (lentSizeAllowed (length (now deal)) ≡ true) × (place + 64 ≤ length (now deal)) ⌝ }
-    ensures { λ r. ⌜ r ≡ keepingRow (lentDeal (now (deal .entry))) (now (commitment .entry)) place ⌝ }
+    ensures { λ r. ⌜ r ≡ namingRow (now (deal .entry)) (now (commitment .entry)) place ⌝ }
 {
     let row = standing_at(deal, place);
-    if !row.stands {
-        return row;
-    }
     let named = row.commitment;
     if !octets::same(&named, commitment) {
         return free_row();
     }
-    if !segment_has(deal, deal, false, row.offset, row.size, named) {
-        return free_row();
-    }
     row
+}
+
+// Whether an area from an offset is one of the first `count` that were tried.
+fn tried_before(
+    offsets: [u64; 128],
+    areas: [u64; 128],
+    count: usize,
+    offset: u64,
+    area: u64,
+) -> bool
+    requires { ⌜ count ≤ 128 ⌝ }
+    ensures { λ r. ⌜ (r ≡ true → TriedBefore offsets areas count offset area) ⌝ }
+{
+    let mut j: usize = 0;
+    while j < count {
+        if offsets[j] == offset && areas[j] == area {
+            return true;
+        }
+        j += 1;
+    }
+    false
+}
+
+// Whether the entry of a row is kept. An area that was tried before in vain is not hashed again.
+fn keeps(deal: &[u8], row: Row, tried: bool) -> bool
+    requires { ⌜ lentSizeAllowed (length (now deal)) ≡ true ⌝ }
+    requires { ⌜ (row .stands ≡ true → segmentSizeAllowed (length (now deal)) (row .size) ≡ true) ⌝ }
+    requires { ⌜ (row .stands ≡ true → offsetAllowed (length (now deal)) (row .offset) (row .size) ≡ true) ⌝ }
+    requires { ⌜ (tried ≡ true → keptBy (nodeAt (now deal)) row ≡ false) ⌝ }
+    ensures { λ r. ⌜ r ≡ keptBy (nodeAt (now (deal .entry))) row ⌝ }
+{
+    if tried {
+        return false;
+    }
+    if !row.stands {
+        return false;
+    }
+    let commitment = row.commitment;
+    segment_has(deal, deal, false, row.offset, row.size, commitment)
 }
 
 // A refusal.
@@ -45,7 +82,8 @@ fn refused(code: u8) -> FoundSegment
     }
 }
 
-// The lowest slot of a lent deal that holds a kept entry with this commitment.
+// The lowest slot of a lent deal that holds a kept entry with this commitment. Every area that entries with this
+// commitment name is hashed once.
 fn lowest_with_commitment(deal: &[u8], commitment: &[u8]) -> FoundSegment
     requires { ⌜ lentSizeAllowed (length (now deal)) ≡ true ⌝ }
     ensures { λ r. ⌜ r
@@ -53,12 +91,16 @@ fn lowest_with_commitment(deal: &[u8], commitment: &[u8]) -> FoundSegment
         (lowestWithCommitment (lentDeal (now (deal .entry))) (now (commitment .entry))) ⌝ }
 {
     let deal_size = deal.len() as u64;
-    let count = sizes::entry_count(deal_size);
-    let mut i: u64 = 0;
+    let count = sizes::entry_count(deal_size) as usize;
+    let mut offsets = [0u64; 128];
+    let mut areas = [0u64; 128];
+    let mut i: usize = 0;
     while i < count {
-        let place = sizes::slot_place(deal_size, i);
-        let row = keeping_at(deal, place as usize, commitment);
-        if row.stands {
+        let place = sizes::slot_place(deal_size, i as u64);
+        let row = naming_at(deal, place as usize, commitment);
+        let area = area_of(row);
+        let tried = tried_before(offsets, areas, i, row.offset, area);
+        if keeps(deal, row, tried) {
             return FoundSegment {
                 code: 0,
                 offset: row.offset,
@@ -66,6 +108,8 @@ fn lowest_with_commitment(deal: &[u8], commitment: &[u8]) -> FoundSegment
                 place,
             };
         }
+        offsets[i] = row.offset;
+        areas[i] = area;
         i += 1;
     }
     refused(16)

@@ -7,6 +7,7 @@ mod tallying; // tallying.rt: how many slots are of each kind
 pub use finding::find;
 pub use finding::find_numbers;
 pub use inspecting::inspect;
+pub use slots::area_of;
 pub use slots::kept_at;
 pub use slots::segment_node;
 pub use slots::standing_at;

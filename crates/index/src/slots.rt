@@ -9,7 +9,7 @@ ghost use Rattle.octets.specs.Equality.{sameBytes};
 ghost use Rattle.sizes.specs.Sizes.{lentSizeAllowed, segmentSizeAllowed, offsetAllowed, segmentLevel, segmentPosition};
 ghost use Rattle.lent.specs.LentDeal.{lentWith};
 ghost use Rattle.lent.specs.Usable.{Usable};
-ghost use Rattle.index.specs.Slots.{entryAt, free, rowOf, keptRow};
+ghost use Rattle.index.specs.Slots.{entryAt, free, rowOf, keptRow, rowArea};
 
 // The row of a slot without a standing entry.
 pub(crate) fn free_row() -> Row
@@ -48,6 +48,16 @@ pub fn standing_at(deal: &[u8], place: usize) -> Row
         offset,
         size,
     }
+}
+
+// How many bytes the segment of a row takes up; 0 where nothing stands.
+pub fn area_of(row: Row) -> u64
+    ensures { λ r. ⌜ r ≡ rowArea row ⌝ }
+{
+    if row.stands {
+        return sizes::area(row.size);
+    }
+    0
 }
 
 // The node over the area of a segment of a lent deal.

@@ -1,6 +1,6 @@
 use borrow.Author.Needs.{needs}
-use Rattle.booking.proofs.gathering.area_of.Statement.{statement}
-use Rattle.booking.proofs.gathering.area_of.Tie as tie
+use Rattle.index.proofs.slots.area_of.Statement.{statement}
+use Rattle.index.proofs.slots.area_of.Tie as tie
 
 area-requires : tie.Need-area-requires
 area-requires c κs = search needs
