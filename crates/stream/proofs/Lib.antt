@@ -1,3 +1,6 @@
 pub mod HeightTurns
-pub mod ByteTurns
+pub mod NodeParts
+pub mod BlockSizes
+pub mod Blocks
+pub mod PieceTurns
 mod PackedLaws

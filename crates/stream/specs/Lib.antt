@@ -2,6 +2,7 @@ pub mod Stream
 pub mod Packed
 pub mod PackedLaws
 pub mod StreamLaws
+pub mod Parts
 pub mod After
 pub mod WaitingLaws
 pub mod AppendLaws

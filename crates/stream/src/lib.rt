@@ -1,6 +1,7 @@
 // The commitment of bytes that arrive in pieces. The state is handed in and handed back: it keeps the bytes of the node
 // that is not whole yet, and one waiting node for each height.
 mod packed; // packed.rt: the state as bytes
+mod parts; // parts.rt: the parts that a piece is taken by
 mod waiting; // waiting.rt: the waiting nodes
 
 pub use packed::STATE_LENGTH;
@@ -77,7 +78,7 @@ impl Stream {
         }
     }
 
-    // The state after one more piece, of any length.
+    // The state after one more piece, of any length, which is taken by parts.
     pub fn take(mut self, piece: &[u8]) -> Stream
         ensures { λ r. ⌜ r ≡ takePiece self (now (piece .entry)) ⌝ }
     {
@@ -92,16 +93,12 @@ impl Stream {
             if LARGEST <= count {
                 return failed_with(2);
             }
-            let place = (count % 32) as usize;
-            partial[place] = piece[i];
-            count += 1;
-            i += 1;
-            if place == 31 {
-                if 64 <= partial[31] {
-                    return failed_with(11);
-                }
-                waiting::add_node(&mut waiting, count / 32 - 1, partial);
+            let n = parts::part_length(count, piece.len() - i);
+            if !parts::take_part(&mut partial, &mut waiting, count, &piece[i..i + n]) {
+                return failed_with(11);
             }
+            count += n as u64;
+            i += n;
         }
         self.count = count;
         self.partial = partial;

@@ -4,17 +4,17 @@ use octets::join;
 use octets::node_at;
 use octets::put_node;
 ghost use mathlib.Core.Path.{_≡_};
-ghost use Prim.Native.Nat.{_^_, _<_};
+ghost use Prim.Native.Nat.{_-_, _^_, _≤_, _<_};
 ghost use lib.ListN.{length};
 ghost use Rattle.stream.specs.Stream.{withNode};
 
-// One more node of height 0, which has k nodes already. Each odd number of nodes has one waiting: the left neighbour of
+// One more node of a height that has k nodes already. Each odd number of nodes has one waiting: the left neighbour of
 // the new one.
-pub(crate) fn add_node(waiting: &mut [u8], k: u64, node: [u8; 32])
-    requires { ⌜ (length (now waiting) ≡ 1024) × (k < 2 ^ 31) ⌝ }
-    ensures { λ _. ⌜ now (waiting .exit) ≡ withNode 32 0 k node (now (waiting .entry)) ⌝ }
+pub(crate) fn add_node(waiting: &mut [u8], level: usize, k: u64, node: [u8; 32])
+    requires { ⌜ (length (now waiting) ≡ 1024) × (level ≤ 31) × (k < 2 ^ (31 - level)) ⌝ }
+    ensures { λ _. ⌜ now (waiting .exit) ≡ withNode (32 - level) level k node (now (waiting .entry)) ⌝ }
 {
-    let mut height: usize = 0;
+    let mut height = level;
     let mut nodes = k;
     let mut new = node;
     while nodes % 2 == 1 {

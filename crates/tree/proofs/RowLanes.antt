@@ -3,18 +3,18 @@ use mathlib.Core.Path.{_≡_, sym, ap, ap₂, _∙_}
 use Prim.Native.Nat.{ℕ, zero, suc, _+_, _*_, _<_}
 use native.Mathlib.Omega.{arith}
 use mathlib.Core.List.{List, _++_}
-use lib.ListN.{length, length-append}
+use lib.ListN.{length}
 use Rattle.octets.specs.Splice.{part, splice}
 use Rattle.octets.specs.SpliceLaws.{splice-nothing, splice-append}
 use Rattle.sha256.specs.Fips.{digest}
 use Rattle.node.specs.Node.{nodeHash}
 use Rattle.lanes.specs.Lanes.{lane}
 use Rattle.lanes.specs.NodeWords.{laneBytes}
-use Rattle.lanes.specs.NodeWordsLaws.{held-bytes, lane-bytes-length}
-use Rattle.tree.specs.Place.{RowInTree, NodeInTree, nodePlace}
-use Rattle.tree.specs.PlaceLaws.{row-part, row-inside, left-child, right-child}
-use Rattle.tree.specs.TreeNodes.{treeNodes, children, SizedFor}
-use Rattle.tree.specs.TreeNodesLaws.{node-of-deal, node-of-buffer, node-length}
+use Rattle.lanes.specs.NodeWordsLaws.{held-hash, lane-bytes-length}
+use Rattle.tree.specs.Place.{RowInTree, nodePlace}
+use Rattle.tree.specs.PlaceLaws.{row-part, row-inside}
+use Rattle.tree.specs.TreeNodes.{children, SizedFor}
+use Rattle.tree.specs.TreeNodesLaws.{node-of-deal, node-of-buffer}
 use Rattle.tree.specs.RowLanes.{pairFrom, HoldsRow}
 use Rattle.tree.specs.Renewed.{renewedNode, renewedRow}
 use Rattle.tree.specs.RenewedNodeLaws.{same-children, row-stays}
@@ -48,16 +48,6 @@ module _ (bytes tree : List ℕ) (h q l : ℕ) where
       (node-of-buffer bytes tree h ((q + l) * 2 + 1) up ∙ ap (λ (p : ℕ). part tree p 32) b)
 
 module _ (bytes tree : List ℕ) (s : SizedFor bytes tree) (h q : ℕ) where
-  children-length : (r : ℕ) → NodeInTree (length bytes) (suc h) r → length (children bytes tree h r) ≡ 64
-  unfolding children
-  children-length r t =
-      length-append (treeNodes bytes tree h (r * 2)) (treeNodes bytes tree h (r * 2 + 1))
-      ∙ omega (
-        arith,
-        node-length bytes tree s h (r * 2) (left-child (length bytes) h r t),
-        node-length bytes tree s h (r * 2 + 1) (right-child (length bytes) h r t),
-      )
-
   place-next : (at n : ℕ) → at ≡ nodePlace (length bytes) (suc h) q
       → at + 32 * n ≡ nodePlace (length bytes) (suc h) (q + n)
   unfolding nodePlace
@@ -70,7 +60,7 @@ module _ (bytes tree : List ℕ) (s : SizedFor bytes tree) (h q : ℕ) where
     lane-node n t k =
         let here = row-part (length bytes) (suc h) q (suc n) (q + n) 1 t (omega arith) (omega arith) in
         let before = row-part (length bytes) (suc h) q (suc n) q n t (omega arith) (omega arith) in
-        held-bytes nodes (children bytes tree h (q + n)) n (children-length (q + n) here) (k n (omega arith))
+        held-hash nodes (children bytes tree h (q + n)) n (k n (omega arith))
         ∙ ap nodeHash (same-children bytes tree (renewedRow bytes tree h q n) h (q + n) here
         (λ r w. sym (row-stays bytes h n q tree s before h r w (λ a b c. omega arith))))
 

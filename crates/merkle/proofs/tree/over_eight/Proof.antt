@@ -6,8 +6,9 @@ use native.Mathlib.Omega.{arith}
 use Rattle.sha256.specs.Fips.{digest}
 use Rattle.node.specs.Node.{nodeHash}
 use Rattle.lanes.specs.Lanes.{lane}
+use Rattle.lanes.specs.NodeWordsLaws.{held-hash}
 use Rattle.merkle.specs.Tree.{pairsOf}
-use Rattle.merkle.proofs.Parts.{held-pair, over-eight}
+use Rattle.merkle.proofs.Parts.{over-eight}
 use borrow.Author.Needs.{needs}
 use Rattle.merkle.proofs.tree.over_eight.Statement.{statement}
 use Rattle.merkle.proofs.tree.over_eight.Tie as tie
@@ -25,9 +26,7 @@ returns c =
     λ x held.
     let bytes : (l : ℕ) → l < 4 → digest (lane 8 (four .result) l) ≡ pairsOf x l
     = λ l b.
-    held-pair (four .result) (x (2 * l)) (x (2 * l + 1)) l (held (2 * l) (omega arith) .sized)
-    (held (2 * l + 1) (omega arith) .sized)
-    (four .ensures x held l b) in
+    held-hash (four .result) (x (2 * l) ++ x (2 * l + 1)) l (four .ensures x held l b) in
     c .node-hash3 .ensures
     ∙ ap nodeHash
     (c .before .join3 .ensures

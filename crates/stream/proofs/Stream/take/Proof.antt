@@ -1,21 +1,24 @@
 -- `take`: after i bytes, what the rest of the piece makes of the locals is what the whole piece makes of the state.
-use mathlib.Core.Path.{_≡_, refl, sym, ap, _∙_}
+use mathlib.Core.Path.{_≡_, sym, ap, subst, _∙_}
 use mathlib.Core.List.{List}
 use Prim.Native.Nat.{ℕ, _+_, _-_, _≤_}
 use native.Mathlib.Omega.{arith}
 use denote.Ref.{now}
-use lib.ListN.{length, drop, getD}
+use lib.ListN.{length, take, drop}
 use borrow.Author.Needs.{needs}
+use borrow.Author.Tests.{not-true, not-false}
+use Rattle.octets.specs.SpliceLaws.{part-length, part-range}
 use Rattle.stream.specs.Stream.{takePiece}
 use Rattle.stream.specs.StreamLaws.{running, is-running, piece-after-failure}
+use Rattle.stream.specs.Parts.{Part}
 use Rattle.stream.specs.declared.Stream.{Stream}
-use Rattle.stream.proofs.ByteTurns.{withByte, turn-past, turn-over, turn-open, turn-stray, turn-whole}
+use Rattle.stream.proofs.PieceTurns.{turn-past, turn-over, turn-stray, turn-taken}
 use Rattle.stream.proofs.Stream.take.Statement.{statement}
 use Rattle.stream.proofs.Stream.take.Tie as tie
 
 abbrev Inv-loop : tie.InvT-loop
 Inv-loop self piece count₀ partial₀ waiting₀ i₀ count partial waiting i =
-    (i ≤ length piece) × (length waiting ≡ 1024)
+    (i ≤ length piece) × (length partial ≡ 32) × (length waiting ≡ 1024)
     × (takePiece self piece ≡ takePiece (running count partial waiting) (drop i piece))
 
 abbrev μ-loop : tie.MeasureT-loop
@@ -31,6 +34,7 @@ loop-holds c =
     let a = t .before .before .before .args in (
       search needs,
       search needs,
+      search needs,
       ap (λ (s : Stream). takePiece s (now (a .piece))) (is-running (a .self) (t .if1 .left)),
     )
 
@@ -39,40 +43,61 @@ returns-2 c =
     let l = c .before .before .before in
     let a = l .before .before .before .before .before .before .args in
     let t = turn-past (a .self) (now (a .piece)) (l .loop .count) (l .loop .partial) (l .loop .waiting) (l .loop .i) in
-    c .failed-with .ensures ∙ sym (t (omega arith) (l .loop .inv .2) (omega arith))
+    c .failed-with .ensures ∙ sym (t (l .loop .inv .3) (omega arith) (omega arith))
+
+-- the part that is taken: n bytes from i on
+module _ (c : tie.After-part-length Inv-loop μ-loop) where
+  abbrev at : tie.At-loop Inv-loop μ-loop
+  at = c .before .before .before
+
+  abbrev start : tie.Start Inv-loop μ-loop
+  start = at .before .before .before .before .before .before
+
+  abbrev piece : List ℕ
+  piece = now (start .args .piece)
+
+  abbrev n : ℕ
+  n = c .part-length .result
+
+  fits : at .loop .i + n ≤ length piece
+  fits = omega (arith, c .part-length .ensures .0, at .loop .inv .0)
+
+take-part-requires : tie.Need-take-part-requires Inv-loop μ-loop
+take-part-requires c κs =
+    let p = c .before .before .before in
+    let l = at p in
+    let bytes : List ℕ = take (l .loop .i + n p - l .loop .i) (drop (l .loop .i) (piece p)) in
+    let e : n p ≡ length bytes =
+    sym (ap length (part-range (piece p) (l .loop .i) (n p)) ∙ part-length (piece p) (l .loop .i) (n p) (fits p)) in
+    ((l .loop .inv .1, l .loop .inv .2), subst (Part (l .loop .count)) e (p .part-length .ensures .1))
 
 returns-3 : tie.Need-returns-3 Inv-loop μ-loop
 returns-3 c =
-    let f = c .before .before in
-    let l = f .before .before .before .before in
-    let a = l .before .before .before .before .before .before .args in
-    let put = withByte (l .loop .partial) (l .loop .count) (getD (now (a .piece)) (l .loop .i) 0) in
-    let t = turn-stray (a .self) (now (a .piece)) (l .loop .count) (l .loop .partial) (l .loop .waiting) (l .loop .i) in
+    let d = c .before .before .before .before in
+    let p = d .before .before .before .before in
+    let l = at p in
+    let bytes : List ℕ = take (l .loop .i + n p - l .loop .i) (drop (l .loop .i) (piece p)) in
     c .failed-with2 .ensures
-    ∙ sym (t (omega arith) (l .loop .inv .2) (omega arith) put refl (f .if3 .taken) (c .before .if4 .taken))
+    ∙ sym
+    (turn-stray (start p .args .self) (piece p) (l .loop .count) (l .loop .partial) (l .loop .waiting) (l .loop .i)
+    (l .loop .inv .3) (n p) (fits p) bytes (d .take-part .last .0) (d .take-part .last .1 .0)
+    (part-range (piece p) (l .loop .i) (n p)) (d .take-part .result) (d .take-part .ensures)
+    (not-true _ (c .before .if3 .taken)))
 
 loop-again : tie.Need-loop-again Inv-loop μ-loop
 loop-again c =
-    let f = c .before .before .before .before in
-    let l = f .before .before .before .before in
-    let a = l .before .before .before .before .before .before .args in
-    let count = l .loop .count in
-    let put = withByte (l .loop .partial) count (getD (now (a .piece)) (l .loop .i) 0) in
-    let t = turn-whole (a .self) (now (a .piece)) count (l .loop .partial) (l .loop .waiting) (l .loop .i) in (
+    let d = c .before .before .before in
+    let p = d .before .before .before .before in
+    let l = at p in
+    let bytes : List ℕ = take (l .loop .i + n p - l .loop .i) (drop (l .loop .i) (piece p)) in (
+      fits p,
       search needs,
       search needs,
-      t (omega arith) (l .loop .inv .2) (omega arith) put refl (f .if3 .taken) (omega arith)
-          ∙ ap (λ (w : List ℕ). takePiece (running (count + 1) put w) (drop (l .loop .i + 1) (now (a .piece))))
-          (sym (c .before .add-node .ensures)),
+      turn-taken (start p .args .self) (piece p) (l .loop .count) (l .loop .partial) (l .loop .waiting) (l .loop .i)
+          (l .loop .inv .3) (n p) (fits p) bytes (d .take-part .last .0) (d .take-part .last .1 .0)
+          (part-range (piece p) (l .loop .i) (n p)) (d .take-part .result) (d .take-part .ensures)
+          (not-false _ (c .if3 .left)),
     )
-
-loop-again-2 : tie.Need-loop-again-2 Inv-loop μ-loop
-loop-again-2 c =
-    let l = c .before .before .before .before in
-    let a = l .before .before .before .before .before .before .args in
-    let put = withByte (l .loop .partial) (l .loop .count) (getD (now (a .piece)) (l .loop .i) 0) in
-    let t = turn-open (a .self) (now (a .piece)) (l .loop .count) (l .loop .partial) (l .loop .waiting) (l .loop .i) in
-    (search needs, search needs, t (omega arith) (l .loop .inv .2) (omega arith) put refl (c .if3 .left))
 
 returns-4 : tie.Need-returns-4 Inv-loop μ-loop
 returns-4 c =
@@ -82,7 +107,7 @@ returns-4 c =
     ap (λ (v : ℕ). record { code = v; count = l .loop .count; partial = l .loop .partial; waiting = l .loop .waiting })
     (t .if1 .left)
     ∙ sym
-    (l .loop .inv .2
+    (l .loop .inv .3
     ∙ turn-over (running (l .loop .count) (l .loop .partial) (l .loop .waiting)) (now (a .piece)) (l .loop .i)
     (omega arith))
 
@@ -97,17 +122,18 @@ take-spec =
     (λ c κs. search needs)
     returns-2
     (λ c. search needs)
+    (λ c κs. search needs)
     (λ c. search needs)
     (λ c. search needs)
     (λ c. search needs)
     (λ c. search needs)
+    (λ c. search needs)
+    (λ c. search needs)
+    take-part-requires
     (λ c κs. search needs)
     returns-3
     (λ c. search needs)
     (λ c. search needs)
-    (λ c κs. search needs)
     (λ c. search needs)
     loop-again
-    (λ c. search needs)
-    loop-again-2
     returns-4)

@@ -1,4 +1,4 @@
--- `add_node`: at each height, what is left to do with the new node is what there was at height 0.
+-- `add_node`: at each height, what is left to do with the new node is what there was at its own.
 use mathlib.Core.Path.{_≡_, sym, ap, _∙_}
 use Prim.Native.Nat.{ℕ, _+_, _-_, _/_, _^_, _≤_, _<_}
 use native.Mathlib.Omega.{arith}
@@ -12,12 +12,12 @@ use Rattle.stream.proofs.waiting.add_node.Statement.{statement}
 use Rattle.stream.proofs.waiting.add_node.Tie as tie
 
 abbrev Inv-loop : tie.InvT-loop
-Inv-loop waiting k height₀ nodes₀ new₀ height nodes new =
+Inv-loop waiting level k height₀ nodes₀ new₀ height nodes new =
     (height ≤ 31) × (nodes < 2 ^ (31 - height))
-    × (withNode 32 0 k new₀ waiting ≡ withNode (32 - height) height nodes new waiting)
+    × (withNode (32 - level) level k new₀ waiting ≡ withNode (32 - height) height nodes new waiting)
 
 abbrev μ-loop : tie.MeasureT-loop
-μ-loop waiting k height₀ nodes₀ new₀ height nodes new = nodes
+μ-loop waiting level k height₀ nodes₀ new₀ height nodes new = nodes
 
 loop-again : tie.Need-loop-again Inv-loop μ-loop
 loop-again c =
