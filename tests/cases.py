@@ -1,6 +1,6 @@
 """Calls of the library's routines, random and adversarial."""
 from model import MAX_RAW, area, filled, height, index_numbers, node_place, pad, power, segment_bit, segment_length
-from operations import (BOOK, BUILD, CHECK, COMMITMENT, FIELDS, FILL, FIND, INSPECT, MAKE, MODEL, NAMES, NUMBERS, PAD, PLAIN_FORM, READ,
+from operations import (BOOK, BUILD, CHECK, COMMITMENT, FIELDS, FILL, FIND, INSPECT, MAKE, MODEL, NAMES, NUMBERS, PAD, PLAIN_FORM, READ, ROW,
                         SETTLE, SETTLE_DEAL, SETTLE_TREE, SHA256, STREAM, UNPAD, Case)
 
 RAW_LENGTHS = (1, 2, 31, 32, 63, 64, 126, 127, 128, 254, 255, 381, 508, 1016)
@@ -335,7 +335,19 @@ def small_case(rng, op):
     if op == STREAM:
         data = run(rng, rng.choice((*TOTALS, 1 << rng.randrange(5, 13), rng.randrange(3000))))
         return op, maybe_strayed(rng, data), cuts(rng, len(data))
+    if op == ROW:
+        return row_case(rng)
     return padding_case(rng, op)
+
+
+def row_case(rng):
+    """Pairs of nodes, stray bits among them, and a row above of the right length; one row of four has another one, or is not of pairs."""
+    n = rng.choice((0, 1, 2, 3, 4, 5, 15, 16, 17, 31, 32, 33, 48, 64, rng.randrange(100)))
+    below, above = rng.randbytes(64 * n), rng.randbytes(32 * n)
+    if rng.randrange(4) == 0:
+        below = rng.choice((below, below[:-1], below[:-32], below + bytes(1), below + bytes(32), below + bytes(64), below[:-64]))
+        above = rng.choice((above, above[:-1], above[:-32], above + bytes(1), above + bytes(16), above + bytes(32), above + above))
+    return ROW, below, above
 
 
 def segment_for(rng, data):
@@ -383,7 +395,7 @@ def deal_case(rng, op, data):
 
 
 def case(rng, op, sizes):
-    if op in (SHA256, COMMITMENT, NUMBERS, MAKE, READ, STREAM, PAD, UNPAD):
+    if op in (SHA256, COMMITMENT, NUMBERS, MAKE, READ, STREAM, PAD, UNPAD, ROW):
         return small_case(rng, op)
     made = Case(*deal_case(rng, PLAIN_FORM.get(op, op), odd_deal(rng, sizes)))
     if op == FILL or op in PLAIN_FORM:

@@ -20,7 +20,7 @@ import tree_cases
 from cases import cases, deal, node, paddings, place, run, spoil, strayed, streams
 from model import MAX_RAW, area, index_numbers
 from operations import (BOOK, BOOK_TREE, BUILD, BUILD_TREE, CHECK, COMMITMENT, FIELDS, FILL, FIND, INSPECT, MAKE, MODEL, NAMES, NUMBERS, PAD,
-                        READ, SETTLE, SETTLE_DEAL, SETTLE_TREE, SHA256, STREAM, TALLY, UNPAD, Case, answer, encode)
+                        READ, ROW, SETTLE, SETTLE_DEAL, SETTLE_TREE, SHA256, STREAM, TALLY, UNPAD, Case, answer, encode)
 from vectors import large_deals
 
 ROOT = Path(__file__).resolve().parent.parent
@@ -34,7 +34,7 @@ CODES = {SHA256: {0}, COMMITMENT: {0, 2, 11}, NUMBERS: {0, 2}, MAKE: {0, 1, 8}, 
          BOOK: {0, 2, 4, 11, 13, 14, 15}, BUILD: {0, 2, 6, 11, 12, 16}, CHECK: {*range(11), 19}, SETTLE: {*range(11), 18, 19},
          SETTLE_DEAL: {0, *range(2, 12), 19}, FIELDS: {0}, INSPECT: {0, 2, 6, 11}, STREAM: {0, 2, 11},
          PAD: {0, 2, 12}, UNPAD: {0, 2, 11, 12, 24}, TALLY: {0, 2, 11}, FILL: {0, 2, 11, 12}, BOOK_TREE: {0, 2, 4, 11, 12, 13, 14, 15},
-         BUILD_TREE: {0, 2, 6, 11, 12, 16}, SETTLE_TREE: {0, *range(2, 13), 17, 19}}
+         BUILD_TREE: {0, 2, 6, 11, 12, 16}, SETTLE_TREE: {0, *range(2, 13), 17, 19}, ROW: {0, 12}}
 ENOUGH = 50_000
 
 
@@ -143,6 +143,27 @@ def limits():
         yield FILL, bytes(n), b"", 0, 0, bytes(full)  # the tree is shown by its SHA-256: 2^24 bytes at most
         for op in (BUILD_TREE, SETTLE_TREE):
             yield op, bytes(n), b"", 0, 0, bytes(n - 32)
+    for n in (full, full + 32, full + 64):  # a row has no upper bound
+        yield ROW, bytes(n), bytes(n // 2), 0, 0
+
+
+def long_runs(rng):
+    """Runs from 2^20 bytes on, which the safe functions take by parts: random ones, stray bits in every part, and other lengths."""
+    for d in (1 << 20, 1 << 20, 1 << 21):
+        data = b"".join(node(rng) for _ in range(d // 32))
+        tree = rng.randbytes(d - 32)
+        yield COMMITMENT, data, b"", 0, 0
+        yield FILL, data, b"", 0, 0, tree
+        for part in range(d >> 18):
+            stray = strayed(data, (part << 18) + 32 * rng.randrange(1 << 13) + 31, rng.choice((64, 128)))
+            yield COMMITMENT, stray, b"", 0, 0
+            yield FILL, stray, b"", 0, 0, tree
+        for n in (d - 32, d - 1, d * 3 // 4):
+            yield COMMITMENT, data[:n], b"", 0, 0
+            yield FILL, data[:n], b"", 0, 0, tree
+        yield FILL, data, b"", 0, 0, tree[:-32]
+        yield FILL, data, b"", 0, 0, tree + bytes(32)
+        yield ROW, data, rng.randbytes(d // 2), 0, 0
 
 
 def large_calls(rng, d, sizes):
@@ -203,6 +224,9 @@ def batches(options):
     yield "trees: the refusals in their order", tree_cases.orders(rng)
     yield "trees kept over bookings, and stale ones", tree_cases.runs(rng, 40)
     yield "trees: deals changed behind them", tree_cases.changed_deals(rng, min(300, options.count))
+    yield "rows of trees", tree_cases.rows(rng)
+    if not options.memcheck:
+        yield "runs from 2^20 bytes on", long_runs(random.Random(f"{options.seed}/runs"))
     if options.large:
         rng = random.Random(f"{options.seed}/large")
         yield "lengths at their bounds", limits()

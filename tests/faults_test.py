@@ -43,8 +43,8 @@ SIGNALS = (signal.SIGINT, signal.SIGTERM, signal.SIGHUP)
 # failure is not the program's to handle (memory, threads, time).
 PLAIN = set("""_ITM_deregisterTMCloneTable _ITM_registerTMCloneTable __cxa_finalize __cxa_thread_atexit_impl __errno_location __gmon_start__
 __libc_start_main __tls_get_addr __xpg_strerror_r abort bcmp calloc clock_gettime clock_nanosleep dl_iterate_phdr dlsym free getauxval
-getenv getrandom gettid isatty malloc memcpy memmove memset memchr memcmp mmap64 mprotect munmap pause poll posix_memalign realloc sched_yield
-sigaction sigaltstack signal sigpending strlen syscall sysconf getpid nanosleep""".split())
+getenv getrandom gettid isatty malloc memcpy memmove memset memchr memcmp mmap64 mprotect munmap pause poll posix_memalign realloc
+sched_getaffinity sched_yield sigaction sigaltstack signal sigpending strlen syscall sysconf getpid nanosleep""".split())
 
 
 class Wrong(Exception):

@@ -333,6 +333,12 @@ class Model:
             return 12, tree
         return 0, b"".join(node for level in self.tree(deal)[1:] for node in level)
 
+    def row(self, below, above):
+        """Code, the row above afterwards: the node hashes of the pairs of nodes below."""
+        if len(below) % 64 or len(above) != len(below) // 2:
+            return 12, above
+        return 0, b"".join(self.h.node(below[i : i + 64]) for i in range(0, len(below), 64))
+
     def levels(self, deal, tree):
         """All levels, the nodes of level 0 first: hashed from the deal, or with a tree buffer the others as they stand there."""
         if tree is None:

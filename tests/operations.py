@@ -12,10 +12,11 @@ from model import Model, index_numbers, le, pad, sha256, unpad
 # and COMPARE of the code that settling shares (two paths from one position): no routines of their own.
 (SHA256, COMMITMENT, NUMBERS, MAKE, READ, FIND, BOOK, BUILD, CHECK, SETTLE, SETTLE_DEAL, FIELDS, CHECK_INPUT, INSPECT, COMPARE, STREAM, PAD,
  UNPAD, TALLY, FILL, BOOK_TREE, BUILD_TREE, SETTLE_TREE) = range(1, 24)
+ROW = 28
 
 NAMES = {SHA256: "sha256", COMMITMENT: "commitment", NUMBERS: "index_numbers", MAKE: "make_entry", READ: "read_entry", FIND: "find",
          BOOK: "book", BUILD: "build", CHECK: "check", SETTLE: "settle_records", SETTLE_DEAL: "settle_with_deal", FIELDS: "read_field",
-         TALLY: "tally", FILL: "tree_fill", BOOK_TREE: "book_with_tree", BUILD_TREE: "build_with_tree", SETTLE_TREE: "settle_with_tree"}
+         TALLY: "tally", FILL: "tree_fill", BOOK_TREE: "book_with_tree", BUILD_TREE: "build_with_tree", SETTLE_TREE: "settle_with_tree", ROW: "tree_row"}
 
 # The forms that take a tree, in c; their other arguments are those of the plain forms.
 PLAIN_FORM = {BOOK_TREE: BOOK, BUILD_TREE: BUILD, SETTLE_TREE: SETTLE_DEAL}
@@ -71,6 +72,12 @@ def tree_filled(case):
     """The tree afterwards."""
     code, tree = MODEL.fill(case.a, case.c)
     return code, digest(tree)
+
+
+def row_written(case):
+    """a is the row below, b the row above before; the row above afterwards."""
+    code, above = MODEL.row(case.a, case.b)
+    return code, digest(above)
 
 
 def tree_of(case):
@@ -160,6 +167,7 @@ ANSWERS = {
     BOOK_TREE: booked_with_tree,
     BUILD_TREE: built,
     SETTLE_TREE: lambda case: MODEL.settle_deal(case.a, case.b, case.c),
+    ROW: row_written,
 }
 
 

@@ -4,7 +4,7 @@ from itertools import product
 
 from cases import deal, place, run, segment_size, spoil, standing_places, strayed
 from model import area, index_numbers
-from operations import BOOK_TREE, BUILD_TREE, FILL, MODEL, SETTLE_TREE
+from operations import BOOK_TREE, BUILD_TREE, FILL, MODEL, ROW, SETTLE_TREE
 
 
 def orders(rng):
@@ -24,6 +24,17 @@ def orders(rng):
             yield BUILD_TREE, data, rng.randbytes(n), p, 0, tree
         for r in (record, record[:-1], spoil(rng, record), b""):
             yield SETTLE_TREE, data, r, 0, 0, tree
+
+
+def rows(rng):
+    """Every row of the tree of a deal from the one below it, whole and in parts, over a row that holds other bytes."""
+    for d in (512, 2048, 4096):
+        below = run(rng, d)
+        while len(below) > 32:
+            n = len(below) // 64
+            for first, count in sorted({(0, n), (0, n // 2), (n // 2, n - n // 2), (n // 3, n // 5)}):
+                yield ROW, below[64 * first : 64 * (first + count)], rng.randbytes(32 * count), 0, 0
+            below = MODEL.row(below, bytes(32 * n))[1]
 
 
 def looked_at(rng, data, tree):

@@ -221,6 +221,7 @@ def all_cases():
     yield from tree_cases.orders(random.Random(12))
     yield from tree_cases.runs(random.Random(7), 4, (512, 1024))
     yield from tree_cases.changed_deals(random.Random(4), 12)
+    yield from tree_cases.rows(random.Random(28))
     yield COMMITMENT, run(rng, 8192), b"", 0, 0
     for _ in range(60):
         for op in NAMES:

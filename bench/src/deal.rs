@@ -99,7 +99,7 @@ fn passes(deal: &[u8]) -> Works<'_> {
         black_box(read());
     });
     let hashing = Work::new(|| {
-        black_box(vizhuthamen::commitment(deal).unwrap());
+        black_box(vizhuthamen::commitment_with_threads(deal, 1).unwrap());
     });
     vec![("one pass: every byte read", reading), (HASHING, hashing)]
 }

@@ -73,6 +73,7 @@ functions! {
     settle_records: (In, usize, u64, In, usize, In, usize, Out, usize, Out, usize);
     settle_with_deal: (In, usize, In, usize, Out, usize, Out, usize);
     tree_fill: (In, usize, Out, usize);
+    tree_row: (In, usize, Out, usize);
     book_with_tree: (Out, usize, Out, usize, In, usize, Number, Number);
     build_with_tree: (In, usize, In, usize, u64, Out, usize, Number);
     settle_with_tree: (In, usize, In, usize, In, usize, Out, usize, Out, usize);

@@ -15,6 +15,7 @@ mod record;
 mod routines;
 mod stream;
 mod table;
+mod threads;
 mod timing;
 mod tree;
 
@@ -73,6 +74,11 @@ fn everything(libraries: &[Library]) {
         "At the level that is chosen. 128 kept segments of 64 KiB, but for booking, which has 64 of them.",
     );
     aims.extend(tree::print());
+    section(
+        "Threads",
+        "At the level that is chosen, by the safe functions of the Rust crate. The time that passes: other work on the machine is in it.",
+    );
+    aims.extend(threads::print());
     section("Aims", "One line for each aim of speed: whether this run meets it.");
     aims::print(&aims);
 }

@@ -7,17 +7,20 @@ struct Timespec {
     nanoseconds: i64,
 }
 
+/// The time that passes.
+const CLOCK_MONOTONIC: i32 = 1;
+/// The processor time of this thread: waiting for a busy machine is not in it.
 const CLOCK_THREAD_CPUTIME_ID: i32 = 3;
 
 extern "C" {
     fn clock_gettime(clock: i32, time: *mut Timespec) -> i32;
 }
 
-/// The processor time of this thread in seconds: waiting for a busy machine is not in it.
-fn now() -> f64 {
+/// What a clock says, in seconds.
+fn now(clock: i32) -> f64 {
     let mut time = Timespec { seconds: 0, nanoseconds: 0 };
     // SAFETY: the time is a local with the layout of struct timespec.
-    unsafe { clock_gettime(CLOCK_THREAD_CPUTIME_ID, &mut time) };
+    unsafe { clock_gettime(clock, &mut time) };
     time.seconds as f64 + time.nanoseconds as f64 * 1e-9
 }
 
@@ -46,18 +49,27 @@ impl Times {
     }
 }
 
-/// Times each piece of work in rounds, `repeats` times a round. The pieces take turns; one round before the timed ones warms
-/// caches and buffers.
+/// Times each piece of work in rounds, `repeats` times a round, by the processor time of this thread. The pieces take turns; one
+/// round before the timed ones warms caches and buffers.
 pub fn timed(works: &mut [Work], rounds: usize, repeats: usize) -> Times {
+    timed_by(CLOCK_THREAD_CPUTIME_ID, works, rounds, repeats)
+}
+
+/// The same by the time that passes, for work that several threads do.
+pub fn timed_by_the_clock(works: &mut [Work], rounds: usize, repeats: usize) -> Times {
+    timed_by(CLOCK_MONOTONIC, works, rounds, repeats)
+}
+
+fn timed_by(clock: i32, works: &mut [Work], rounds: usize, repeats: usize) -> Times {
     let mut times = vec![vec![]; works.len()];
     for round in 0..=rounds {
         for (work, times) in works.iter_mut().zip(&mut times) {
-            let began = now();
+            let began = now(clock);
             for _ in 0..repeats {
                 (work.0)();
             }
             if round > 0 {
-                times.push((now() - began) / repeats as f64);
+                times.push((now(clock) - began) / repeats as f64);
             }
         }
     }

@@ -49,7 +49,7 @@ impl InHand {
     }
 
     fn commitment(&self) {
-        black_box(vizhuthamen::commitment(black_box(&self.deal)).expect("a deal"));
+        black_box(vizhuthamen::commitment_with_threads(black_box(&self.deal), 1).expect("a deal"));
     }
 
     /// The places of all entries of a full deal.
@@ -89,7 +89,8 @@ fn passes(full: &InHand) -> Works<'_> {
 
 fn records(full: &InHand) -> Works<'_> {
     let mut tree = full.tree.clone();
-    let fill = move || vizhuthamen::tree_fill(&full.deal, black_box(&mut tree)).expect("a deal and its tree");
+    let fill =
+        move || vizhuthamen::tree_fill_with_threads(&full.deal, black_box(&mut tree), 1).expect("a deal and its tree");
     let record = full.build(full.last).expect("it is kept");
     let settle = move || {
         let settled = vizhuthamen::settle_with_deal(&full.deal, Some(&full.tree), black_box(&record));
@@ -128,7 +129,7 @@ fn bookings<'a>(InHand { mut deal, mut tree, .. }: InHand) -> Works<'a> {
     let work = move || {
         black_box(vizhuthamen::tally(black_box(&lent)).expect("a deal"));
         let commitment = |run: &[u8]| {
-            black_box(vizhuthamen::commitment(black_box(run)).expect("a run"));
+            black_box(vizhuthamen::commitment_with_threads(black_box(run), 1).expect("a run"));
         };
         (0..2).for_each(|_| commitment(&hashed));
         (0..NODES_ABOVE).for_each(|_| commitment(&hashed[..64]));

@@ -141,6 +141,9 @@ extern "C" {
     /// Writes every inner node of a deal into its tree, which has 32 bytes less than the deal. Codes: 2, 11, 12.
     pub fn vz_tree_fill(deal: *const u8, deal_len: usize, tree: *mut u8, tree_len: usize) -> u32;
 
+    /// Writes the nodes over the pairs of nodes of `below` into `above`, which is half as long. Codes: 12.
+    pub fn vz_tree_row(below: *const u8, below_len: usize, above: *mut u8, above_len: usize) -> u32;
+
     /// [`vz_book`] with the deal's tree in hand, which is brought up to date. Codes: 2, 4, 11, 12, 15, 13, 14.
     pub fn vz_book_with_tree(
         deal: *mut u8,

@@ -2,6 +2,7 @@
 use crate::codes::{accepted, Refusal};
 use crate::ffi;
 use crate::node::Node;
+use crate::parts;
 
 /// SHA-256 of a message of 0 to 2^24 bytes. Refusals: 2.
 pub fn sha256(message: &[u8]) -> Result<[u8; 32], Refusal> {
@@ -11,8 +12,28 @@ pub fn sha256(message: &[u8]) -> Result<[u8; 32], Refusal> {
     accepted(code).map(|()| digest)
 }
 
-/// The commitment of a run, a power of two from 32 to 2^24 bytes. Refusals: 2, 11.
+/// The commitment of a run, a power of two from 32 to 2^24 bytes. Refusals: 2, 11. From 2^20 bytes on all processors work on it.
 pub fn commitment(run: &[u8]) -> Result<Node, Refusal> {
+    commitment_with_threads(run, parts::threads(run.len()))
+}
+
+/// [`commitment`] with that many threads at most, this one among them. Below 2^20 bytes this one does all.
+pub fn commitment_with_threads(run: &[u8], threads: usize) -> Result<Node, Refusal> {
+    match threads > 1 && parts::pay_off(run.len()) {
+        true => by_parts(run, threads),
+        false => by_one_call(run),
+    }
+}
+
+/// The commitment of the parts' commitments, or the refusal of a part. That this is the answer for the run is proved:
+/// `parts-accepted` and `part-refused` in crates/merkle/specs/PartsLaws.antt, at 2^m parts of 2^13 nodes with m + 13 <= 19.
+fn by_parts(run: &[u8], threads: usize) -> Result<Node, Refusal> {
+    let answers = parts::each(threads, run.chunks_exact(parts::PART), by_one_call);
+    let nodes: Vec<Node> = answers.into_iter().collect::<Result<_, _>>()?;
+    by_one_call(&nodes.iter().flat_map(|node| node.0).collect::<Vec<u8>>())
+}
+
+fn by_one_call(run: &[u8]) -> Result<Node, Refusal> {
     let mut node = [0; 32];
     // SAFETY: both slices are live, and the one that is written is a local of its own.
     let code = unsafe { ffi::vz_commitment(run.as_ptr(), run.len(), node.as_mut_ptr(), node.len()) };
@@ -23,6 +44,7 @@ pub fn commitment(run: &[u8]) -> Result<Node, Refusal> {
 mod tests {
     use super::*;
     use crate::hex;
+    use crate::testing::{noise, segment};
 
     #[test]
     fn published_digests() {
@@ -54,6 +76,48 @@ mod tests {
         let mut expected = sha256(&[node, node].concat()).unwrap();
         expected[31] &= 0x3f;
         assert_eq!(commitment(&[node, node].concat()), Ok(Node(expected)));
+    }
+
+    #[test]
+    fn by_parts_as_by_one_call() {
+        let sizes = [1 << 20, 1 << 20, 1 << 21, 1 << 22];
+        let runs = (0..).zip(sizes).map(|(seed, size)| noise(seed, size));
+        for run in runs.chain([segment(9, 1 << 24)]) {
+            let expected = by_one_call(&run);
+            assert!(expected.is_ok());
+            assert_eq!(commitment(&run), expected, "{}", run.len());
+            for threads in 0..4 {
+                assert_eq!(commitment_with_threads(&run, threads), expected, "{}, {threads}", run.len());
+                assert_eq!(by_parts(&run, threads), expected, "{}, {threads}", run.len());
+            }
+        }
+    }
+
+    #[test]
+    fn stray_bits_in_each_part() {
+        let mut run = noise(7, 1 << 20);
+        for part in 0..4 {
+            for node in [0, 1000, (1 << 13) - 1] {
+                let last = part * parts::PART + 32 * node + 31;
+                for bit in [0x40, 0x80] {
+                    run[last] ^= bit;
+                    assert_eq!(by_one_call(&run), Err(Refusal::STRAY_BITS));
+                    assert_eq!(commitment(&run), Err(Refusal::STRAY_BITS));
+                    assert_eq!(commitment_with_threads(&run, 3), Err(Refusal::STRAY_BITS));
+                    run[last] ^= bit;
+                }
+            }
+        }
+        assert!(commitment(&run).is_ok());
+    }
+
+    #[test]
+    fn other_lengths_from_2_to_the_20_on() {
+        let run = noise(8, (1 << 24) + 32);
+        for length in [(1 << 20) + 1, (1 << 20) + 32, 3 << 19, 3 << 20, (1 << 24) - 32, (1 << 24) + 32] {
+            assert_eq!(commitment(&run[..length]), Err(Refusal::SIZE), "{length}");
+            assert_eq!(commitment_with_threads(&run[..length], 2), Err(Refusal::SIZE), "{length}");
+        }
     }
 
     #[test]

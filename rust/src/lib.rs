@@ -1,6 +1,8 @@
 //! Verifiable data aggregation (FRC-0058) over the proved static library libvizhuthamen.a.
 //!
-//! Every function here is a safe call of one function of the library, or of one of two where a tree may be in hand. A refusal is
+//! Every function here is a safe call of one function of the library, or of one of two where a tree may be in hand. From 2^20 bytes
+//! on, [`commitment`] and [`tree_fill`] are calls for parts of the run, which all processors take; laws of the library join them.
+//! [`commitment_with_threads`] and [`tree_fill_with_threads`] say how many threads may. A refusal is
 //! a [`Refusal`], which carries the code and its meaning in words. The answers with a code that is not 0 and yet carry values (15
 //! of a booking, 17 of a settling) are cases of [`Booking`] and [`Settled`].
 //!
@@ -29,6 +31,7 @@ mod fr32;
 mod hash;
 pub mod hex;
 mod node;
+mod parts;
 mod record;
 mod streaming;
 mod tree;
@@ -37,13 +40,13 @@ pub use codes::{meaning, Refusal};
 pub use deal::{book, find, inspect, tally, Booking, Found, Position, Slot, Tally, MAX_DEAL};
 pub use entry::{index_numbers, make_entry, read_entry, Entry, IndexNumbers, ReadEntry};
 pub use fr32::{pad, pad_into, segment_length, unpad, unpad_into, MAX_RAW};
-pub use hash::{commitment, sha256};
+pub use hash::{commitment, commitment_with_threads, sha256};
 pub use node::{Node, NotANode};
 pub use record::{
     build, build_into, check, fields, read_field, settle_records, settle_with_deal, Field, Fields, Settled, MAX_RECORD,
 };
 pub use streaming::{Streamed, Streaming, MAX_STREAM, STREAM_STATE};
-pub use tree::{filled_tree, tree_fill, tree_length};
+pub use tree::{filled_tree, tree_fill, tree_fill_with_threads, tree_length, tree_row};
 
 #[cfg(test)]
 mod testing;

@@ -1,6 +1,7 @@
 //! The tree beside a deal: a buffer with every inner node of the deal's tree.
 use crate::codes::{accepted, Refusal};
 use crate::ffi;
+use crate::parts;
 
 /// The length of the tree of a deal of that many bytes.
 pub const fn tree_length(size: usize) -> usize {
@@ -9,7 +10,7 @@ pub const fn tree_length(size: usize) -> usize {
 
 /// Writes every inner node of a deal into its tree, which has [`tree_length`] bytes: heights from the bottom, left to right, so
 /// that node `i` of height `h`, from 1 on, stands at `D - D / 2^(h - 1) + 32 i` for a deal of `D` bytes, and the deal's
-/// commitment in the last 32 bytes. Refusals: 2, 11, 12.
+/// commitment in the last 32 bytes. Refusals: 2, 11, 12. From 2^20 bytes on all processors work on it.
 ///
 /// [`book`](crate::book), [`build`](crate::build) and [`settle_with_deal`](crate::settle_with_deal) take such a tree, and then
 /// every inner node as it stands there. With a tree that was filled for the deal, where since then both were changed by this
@@ -17,6 +18,66 @@ pub const fn tree_length(size: usize) -> usize {
 /// but a record that is built may be refused by the check, a kept segment may be booked again, and the two strings that a
 /// settling shows may have two node hashes.
 pub fn tree_fill(deal: &[u8], tree: &mut [u8]) -> Result<(), Refusal> {
+    tree_fill_with_threads(deal, tree, parts::threads(deal.len()))
+}
+
+/// [`tree_fill`] with that many threads at most, this one among them. Below 2^20 bytes this one does all.
+pub fn tree_fill_with_threads(deal: &[u8], tree: &mut [u8], threads: usize) -> Result<(), Refusal> {
+    let fits = threads > 1 && parts::pay_off(deal.len()) && tree.len() == tree_length(deal.len());
+    match fits && no_stray_bits(deal, threads) {
+        true => fill_by_parts(deal, tree, threads),
+        false => fill_by_one_call(deal, tree),
+    }
+}
+
+/// Whether no node of a deal has stray bits. What has some is left to one call, which refuses it and writes nothing.
+fn no_stray_bits(deal: &[u8], threads: usize) -> bool {
+    let clear = |part: &[u8]| part.chunks_exact(32).all(|node| node[31] < 0x40);
+    parts::each(threads, deal.chunks_exact(parts::PART), clear).into_iter().all(|part| part)
+}
+
+/// Fills the nodes over each part of the deal, up to the one over the whole part, and then the rows above. Each slice is written
+/// from the one below it, which is written before. That the tree is then the one that `vz_tree_fill` writes is proved, however
+/// the rows are cut: `filled-by-ranges` in crates/tree/specs/RowAboveLaws.antt.
+fn fill_by_parts(deal: &[u8], tree: &mut [u8], threads: usize) -> Result<(), Refusal> {
+    let mut low = rows(deal.len(), tree);
+    let high = low.split_off((parts::PART / 32).ilog2() as usize);
+    let count = deal.len() / parts::PART;
+    let mut over: Vec<Vec<&mut [u8]>> = (0..count).map(|_| vec![]).collect();
+    for row in &mut low {
+        let slices = row.chunks_exact_mut(row.len() / count);
+        over.iter_mut().zip(slices).for_each(|(rows, slice)| rows.push(slice));
+    }
+    let work = deal.chunks_exact(parts::PART).zip(over);
+    parts::each(threads, work, |(part, rows)| fill_rows(part, rows)).into_iter().collect::<Result<(), Refusal>>()?;
+    fill_rows(low[low.len() - 1], high)
+}
+
+/// The rows of the tree of a deal of that many bytes, from height 1 on.
+fn rows(size: usize, tree: &mut [u8]) -> Vec<&mut [u8]> {
+    let (mut rows, mut rest, mut length) = (vec![], tree, size / 2);
+    while length >= 32 {
+        let (row, above) = rest.split_at_mut(length);
+        rows.push(row);
+        (rest, length) = (above, length / 2);
+    }
+    rows
+}
+
+/// Writes each row from the one below it.
+fn fill_rows<'a>(below: &'a [u8], rows: impl IntoIterator<Item = &'a mut [u8]>) -> Result<(), Refusal> {
+    rows.into_iter().try_fold(below, |below, row| tree_row(below, row).map(|()| &*row)).map(drop)
+}
+
+/// Writes the nodes over the pairs of `below` into `above`: a row of a tree, or a part of one, from the row below it. `below` has a
+/// whole number of pairs of nodes, and `above` is half as long. Refusals: 12. Stray bits are not looked for.
+pub fn tree_row(below: &[u8], above: &mut [u8]) -> Result<(), Refusal> {
+    // SAFETY: the slices are live and apart, since one is borrowed mutably.
+    let code = unsafe { ffi::vz_tree_row(below.as_ptr(), below.len(), above.as_mut_ptr(), above.len()) };
+    accepted(code)
+}
+
+fn fill_by_one_call(deal: &[u8], tree: &mut [u8]) -> Result<(), Refusal> {
     // SAFETY: the slices are live and apart, since one is borrowed mutably.
     let code = unsafe { ffi::vz_tree_fill(deal.as_ptr(), deal.len(), tree.as_mut_ptr(), tree.len()) };
     accepted(code)
@@ -34,7 +95,7 @@ mod tests {
     use crate::deal::{book, Booking, Position};
     use crate::hash::commitment;
     use crate::record::{build, settle_with_deal, Settled};
-    use crate::testing::segment;
+    use crate::testing::{noise, segment};
 
     /// Every node of the tree, from the definition: the commitments of all runs of a power of two of nodes.
     fn nodes(deal: &[u8]) -> Vec<u8> {
@@ -51,6 +112,87 @@ mod tests {
             assert_eq!(tree, nodes(&deal));
             assert_eq!(tree[size - 64..], commitment(&deal).unwrap().0);
         }
+    }
+
+    #[test]
+    fn by_parts_as_by_one_call() {
+        let sizes = [1 << 20, 1 << 20, 1 << 21, 1 << 22];
+        let deals = (0..).zip(sizes).map(|(seed, size)| noise(seed, size));
+        for deal in deals.chain([segment(9, 1 << 24)]) {
+            let length = tree_length(deal.len());
+            let mut one = vec![1; length];
+            assert_eq!(fill_by_one_call(&deal, &mut one), Ok(()));
+            for threads in 0..4 {
+                let mut parts = vec![2; length];
+                assert_eq!(fill_by_parts(&deal, &mut parts, threads), Ok(()));
+                assert!(one == parts, "{}, {threads}", deal.len());
+            }
+            assert!(filled_tree(&deal) == Ok(one), "{}", deal.len());
+        }
+    }
+
+    #[test]
+    fn refused_fillings_of_2_to_the_20_bytes_change_nothing() {
+        let mut deal = noise(3, 1 << 20);
+        let before = noise(4, 1 << 20);
+        let expected = |deal: &[u8], length: usize, refusal: Refusal| {
+            let (mut one, mut tree) = (before[..length].to_vec(), before[..length].to_vec());
+            assert_eq!(fill_by_one_call(deal, &mut one), Err(refusal));
+            for threads in [1, 3] {
+                assert_eq!(tree_fill_with_threads(deal, &mut tree, threads), Err(refusal));
+                assert!(tree == before[..length]);
+            }
+        };
+        let length = tree_length(deal.len());
+        for tree in [0, length - 32, length - 1, length + 1, length + 32] {
+            expected(&deal, tree, Refusal::OUTPUT);
+            expected(&deal[..3 << 18], tree, Refusal::SIZE);
+            expected(&deal[..(1 << 20) - 1], tree, Refusal::SIZE);
+        }
+        for part in 0..4 {
+            for node in [0, 1000, (1 << 13) - 1] {
+                let last = part * parts::PART + 32 * node + 31;
+                for bit in [0x40, 0x80] {
+                    deal[last] ^= bit;
+                    expected(&deal, length, Refusal::STRAY_BITS);
+                    expected(&deal, length - 1, Refusal::STRAY_BITS);
+                    deal[last] ^= bit;
+                }
+            }
+        }
+        assert!(filled_tree(&deal).is_ok());
+    }
+
+    #[test]
+    fn a_row_is_the_nodes_over_the_pairs() {
+        let below = noise(5, 64 * 100);
+        let expected: Vec<u8> = below.chunks(64).flat_map(|pair| commitment(pair).unwrap().0).collect();
+        for (first, count) in [(0, 100), (0, 0), (0, 1), (3, 16), (5, 17), (40, 33), (99, 1)] {
+            let mut above = noise(6, 32 * count);
+            assert_eq!(tree_row(&below[64 * first..][..64 * count], &mut above), Ok(()));
+            assert_eq!(above, expected[32 * first..][..32 * count], "{first} {count}");
+        }
+    }
+
+    #[test]
+    fn rows_of_other_lengths() {
+        let below = [1; 192];
+        for (pairs, nodes) in
+            [(0, 1), (0, 32), (32, 0), (32, 16), (63, 31), (63, 32), (64, 31), (64, 33), (64, 64), (96, 48), (192, 64)]
+        {
+            let mut above = [7; 64];
+            assert_eq!(tree_row(&below[..pairs], &mut above[..nodes]), Err(Refusal::OUTPUT), "{pairs} {nodes}");
+            assert_eq!(above, [7; 64]);
+        }
+    }
+
+    #[test]
+    fn a_row_over_nodes_with_stray_bits() {
+        let (below, mut above) = ([0xff; 64], [0; 32]);
+        assert_eq!(tree_row(&below, &mut above), Ok(()));
+        let mut expected = crate::hash::sha256(&below).unwrap();
+        expected[31] &= 0x3f;
+        assert_eq!(above, expected);
     }
 
     #[test]

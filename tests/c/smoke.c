@@ -176,6 +176,14 @@ static void with_tree(void) {
   answer("build with tree, record", memcmp(built, record, 234) == 0, 1);
   answer("build with a tree of 481", vz_build_with_tree(booked, 512, before, 481, 300, built, 0, &length), VZ_OUTPUT);
   answer("settle with tree", vz_settle_with_tree(booked, 512, tree, 480, built, 234, left, 64, right, 64), VZ_OK);
+  memset(before, 7, sizeof before);
+  answer("tree row", vz_tree_row(booked, 512, before, 256), VZ_OK);
+  answer("tree row, the next", vz_tree_row(before, 256, before + 256, 128), VZ_OK);
+  answer("tree row, a part of a row", vz_tree_row(before + 256 + 64, 64, before + 384 + 32, 32), VZ_OK);
+  answer("tree row, nodes", memcmp(before, tree, 384) == 0 && memcmp(before + 416, tree + 416, 32) == 0, 1);
+  answer("tree row, nothing else", before[384] == 7 && before[415] == 7 && before[448] == 7, 1);
+  answer("tree row, 31 bytes", vz_tree_row(booked, 64, before, 31), VZ_OUTPUT);
+  answer("tree row of one node", vz_tree_row(booked, 32, before, 16), VZ_OUTPUT);
   tree[448] ^= 1;
   answer("settle with another last node",
          vz_settle_with_tree(booked, 512, tree, 480, built, 234, left, 64, right, 64), VZ_SEGMENT_PATH);

@@ -230,7 +230,7 @@ fn records_of_deal<'a>(kept: &'a Kept, input: &'static str, repeats: usize) -> V
     ]
 }
 
-/// With the tree in hand: filling it; booking, with the entry taken out again; building and settling.
+/// With the tree in hand: filling it, and its lowest row; booking, with the entry taken out again; building and settling.
 fn over_tree<'a>(kept: &'a Kept, input: &'static str, repeats: usize) -> Vec<Case<'a>> {
     let (deal, length, tree, nodes) = (&kept.deal, kept.deal.len(), &kept.tree, kept.tree.len());
     vec![
@@ -240,6 +240,14 @@ fn over_tree<'a>(kept: &'a Kept, input: &'static str, repeats: usize) -> Vec<Cas
                 let tree = black_box(&mut tree).as_mut_ptr();
                 // SAFETY: the slices are live and apart.
                 assert_eq!(unsafe { (library.tree_fill)(deal.as_ptr(), length, tree, nodes) }, 0);
+            })
+        }),
+        case("vz_tree_row", input, repeats, move |library| {
+            let mut row = vec![0; length / 2];
+            Work::new(move || {
+                let row = black_box(&mut row).as_mut_ptr();
+                // SAFETY: the slices are live and apart.
+                assert_eq!(unsafe { (library.tree_row)(deal.as_ptr(), length, row, length / 2) }, 0);
             })
         }),
         case("vz_book_with_tree", input, repeats, move |library| booking_with_tree(library, kept)),

@@ -1,9 +1,16 @@
 -- A row is a part of it and then the rest: two parts, the last node, a turn of the loop over the nodes.
 use mathlib.Core.Path.{_≡_, sym, ap, ap₂, _∙_}
-use Prim.Native.Nat.{ℕ, zero, suc, _+_, _-_, _≤_}
+use Prim.Native.Nat.{ℕ, zero, suc, _+_, _-_, _*_, _/_, _≤_, _<_}
 use native.Mathlib.Omega.{arith}
 use mathlib.Core.List.{List}
 use Rattle.tree.specs.Renewed.{renewedNode, renewedRow}
+
+-- the first of two parts of a row, where it has more than sixteen nodes
+abbrev pub leftPart : ℕ → ℕ
+leftPart count = (count / 16 + 1) / 2 * 16
+
+pub left-part : (count : ℕ) → 16 < count → (0 < leftPart count) × (leftPart count < count)
+left-part count h = (omega arith, omega arith)
 
 module _ (bytes : List ℕ) (h : ℕ) where
   pub row-append : (k n q : ℕ) (tree : List ℕ)

@@ -4,11 +4,7 @@ use Prim.Native.Nat.{ℕ, zero, suc, _^_}
 use mathlib.Core.List.{List, [], _++_}
 use Rattle.merkle.specs.Tree.{nodeAt}
 use Rattle.merkle.specs.NodeSource.{NodeSource}
-
--- n nodes of height h, from position q on
-unfoldable pub nodeRow : NodeSource → ℕ → ℕ → ℕ → List ℕ
-nodeRow nodes h q zero = []
-nodeRow nodes h q (suc n) = nodes h q ++ nodeRow nodes h (suc q) n
+use Rattle.merkle.specs.Parts.{nodeRow}
 
 -- n heights, from h on; the highest is one node
 unfoldable pub nodeRows : NodeSource → ℕ → ℕ → List ℕ

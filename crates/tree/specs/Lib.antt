@@ -14,3 +14,5 @@ pub mod FilledLaws
 pub mod RenewalLaws
 pub mod OrderLaws
 pub mod RowLanes
+pub mod RowAbove
+pub mod RowAboveLaws

@@ -1,51 +1,27 @@
 -- Where a node stands when heights are laid one after the other.
-use mathlib.Core.Path.{_≡_, refl, sym, ap, ap₂, _∙_}
+use mathlib.Core.Path.{_≡_, refl, ap, ap₂, _∙_}
 use Prim.Native.Nat.{ℕ, zero, suc, _+_, _-_, _*_, _^_, _≤_, _<_}
 use native.Mathlib.Nat.{pow-suc}
 use lib.Pow.{pow-mono}
 use native.Mathlib.Omega.{arith}
 use mathlib.Core.List.{List, _++_}
 use lib.ListN.{length, take, drop, length-append, length-drop}
-use lib.Seq.{take-append-le, drop-append-le, drop-append-add, take-at}
+use lib.Seq.{take-append-le, drop-append-le}
 use Rattle.octets.specs.Splice.{part}
 use Rattle.merkle.specs.NodeSource.{NodeSource}
-use Rattle.tree.specs.Filled.{nodeRow, nodeRows}
+use Rattle.merkle.specs.Parts.{nodeRow}
+use Rattle.merkle.specs.NodeRowLaws.{part-second, row-length, row-node}
+use Rattle.tree.specs.Filled.{nodeRows}
 
--- a part of the first of two strings, and of the second
+-- a part of the first of two strings
 part-first : (x y : List ℕ) (p n : ℕ) → p + n ≤ length x → part (x ++ y) p n ≡ part x p n
 unfolding part
 part-first x y p n h =
     ap (take n) (drop-append-le p x y (omega arith)) ∙ take-append-le n (drop p x) y (rw length-drop (omega arith))
 
-first-node : (x y : List ℕ) → length x ≡ 32 → part (x ++ y) 0 32 ≡ x
-unfolding part
-first-node x y e = take-at x y 32 e
-
-part-second : (x y : List ℕ) (k p n at : ℕ) → length x ≡ k → at ≡ k + p → part (x ++ y) at n ≡ part y p n
-unfolding part
-part-second x y k p n at e l =
-    ap (take n) (ap (λ (m : ℕ). drop m (x ++ y)) (l ∙ ap (λ (m : ℕ). m + p) (sym e)) ∙ drop-append-add x y p)
-
 module _ (nodes : NodeSource) (sized : (h q : ℕ) → length (nodes (suc h) q) ≡ 32) where
-  row-length : (n h q : ℕ) → length (nodeRow nodes (suc h) q n) ≡ 32 * n
-  unfolding nodeRow
-  row-length zero h q = refl
-  row-length (suc n) h q =
-      length-append (nodes (suc h) q) (nodeRow nodes (suc h) (suc q) n)
-      ∙ omega (arith, sized h q, row-length n h (suc q))
-
-  row-node : (n h q r : ℕ) → r < n → part (nodeRow nodes (suc h) q n) (32 * r) 32 ≡ nodes (suc h) (q + r)
-  unfolding nodeRow
-  row-node zero h q r l = absurd (omega arith)
-  row-node (suc n) h q zero l =
-      let e : q ≡ q + 0 = omega arith in
-      first-node (nodes (suc h) q) (nodeRow nodes (suc h) (suc q) n) (sized h q) ∙ ap (nodes (suc h)) e
-  row-node (suc n) h q (suc r) l =
-      let e : suc q + r ≡ q + suc r = omega arith in
-      part-second (nodes (suc h) q) (nodeRow nodes (suc h) (suc q) n) 32 (32 * r) 32 (32 * suc r) (sized h q)
-      (omega arith)
-      ∙ row-node n h (suc q) r (omega arith)
-      ∙ ap (nodes (suc h)) e
+  row-sized : (n h q : ℕ) → length (nodeRow nodes (suc h) q n) ≡ 32 * n
+  row-sized n h q = row-length nodes (suc h) n q (λ i l. sized h (q + i))
 
   -- n heights take 32 * 2 ^ n - 32 bytes
   pub rows-length : (n h : ℕ) → length (nodeRows nodes (suc h) n) + 32 ≡ 32 * 2 ^ n
@@ -53,7 +29,7 @@ module _ (nodes : NodeSource) (sized : (h q : ℕ) → length (nodes (suc h) q) 
   rows-length zero h = refl
   rows-length (suc n) h =
       let w = pow-suc 2 n in
-      let a = row-length (2 ^ n) h 0 in
+      let a = row-sized (2 ^ n) h 0 in
       let b = rows-length n (suc h) in
       ap (λ (l : ℕ). l + 32) (length-append (nodeRow nodes (suc h) 0 (2 ^ n)) (nodeRows nodes (suc (suc h)) n))
       ∙ omega arith
@@ -70,9 +46,9 @@ module _ (nodes : NodeSource) (sized : (h q : ℕ) → length (nodes (suc h) q) 
       let a : 0 + q ≡ q = omega arith in
       let b : h ≡ h + 0 = omega arith in
       let row = nodeRow nodes (suc h) 0 (2 ^ (0 + n)) in
-      part-first row (nodeRows nodes (suc (suc h)) (0 + n)) at 32 (omega (arith, row-length (2 ^ (0 + n)) h 0))
+      part-first row (nodeRows nodes (suc (suc h)) (0 + n)) at 32 (omega (arith, row-sized (2 ^ (0 + n)) h 0))
       ∙ ap (λ (m : ℕ). part row m 32) p
-      ∙ row-node (2 ^ (0 + n)) h 0 q (omega arith)
+      ∙ row-node nodes (suc h) (2 ^ (0 + n)) 0 q (λ i g. sized h (0 + i)) (omega arith)
       ∙ ap₂ (λ (i r : ℕ). nodes (suc i) r) b a
   rows-node (suc k) h n q at l e =
       let z : suc k + n ≡ suc (k + n) = omega arith in
@@ -83,7 +59,7 @@ module _ (nodes : NodeSource) (sized : (h q : ℕ) → length (nodes (suc h) q) 
       let f : p + 64 * 2 ^ n ≡ 32 * 2 ^ (suc k + n) + 32 * q = omega arith in
       let b : suc h + k ≡ h + suc k = omega arith in
       part-second (nodeRow nodes (suc h) 0 (2 ^ (suc k + n))) (nodeRows nodes (suc (suc h)) (suc k + n))
-      (32 * 2 ^ (suc k + n)) p 32 at (row-length (2 ^ (suc k + n)) h 0) (omega arith)
+      (32 * 2 ^ (suc k + n)) p 32 at (row-sized (2 ^ (suc k + n)) h 0) (omega arith)
       ∙ ap (λ (m : ℕ). part (nodeRows nodes (suc (suc h)) m) p 32) z
       ∙ rows-node k (suc h) n q p l (f ∙ ap (λ (m : ℕ). 32 * 2 ^ m + 32 * q) z)
       ∙ ap (λ (m : ℕ). nodes (suc m) q) b

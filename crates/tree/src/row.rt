@@ -15,7 +15,7 @@ ghost use Rattle.tree.specs.RowLanes.{pairFrom, HoldsRow};
 ghost use Rattle.tree.specs.Renewed.{renewedNode, renewedRow};
 
 // The nodes over `count` pairs that stand side by side from `at` on, each in a lane.
-fn over_pairs(run: &[u8], at: usize, count: usize) -> [u32; 128]
+pub(crate) fn over_pairs(run: &[u8], at: usize, count: usize) -> [u32; 128]
     requires { ⌜ (0 < count) × (count ≤ lanes) × (at + 64 * count ≤ length (now run)) ⌝ }
     ensures { λ r. ⌜ ((l : ℕ) → l < count → Holds r l (nodeHash (pairFrom (now (run .entry)) at l))) ⌝ }
 {

@@ -138,6 +138,11 @@ fn fill_tree(deal: &[u8], tree: &mut [u8]) {
     show::digest(tree);
 }
 
+fn fill_row(below: &[u8], above: &mut [u8]) {
+    show::code(tree::fill_row(below, above));
+    show::digest(above);
+}
+
 // The answer of a call that writes to an output, and the output afterwards.
 fn written(code: u8, length: usize, out: &[u8]) {
     show::code(code);
@@ -276,6 +281,10 @@ fn answer_any(operation: u64, a: &mut [u8], b: &mut [u8], c: &mut [u8], x: u64, 
     }
     if operation == 22 {
         build_with_tree(a, c, x, b);
+        return;
+    }
+    if operation == 28 {
+        fill_row(a, b);
         return;
     }
     answer_reading(operation, a, b, c, x, y);

@@ -3,6 +3,7 @@ use crate::output::write_u64;
 use crate::output::written_with;
 use room::Booked;
 ghost use mathlib.Core.Path.{_≡_};
+ghost use Rattle.tree.specs.RowAbove.{rowCode, filledRow};
 ghost use Rattle.lent.specs.LentDeal.{lentDeal, treeDeal, dealRefusal};
 ghost use Rattle.lent.specs.FilledTree.{filledTree};
 ghost use Rattle.booking.specs.Booking.{bookAnswer, bookedDeal};
@@ -67,4 +68,13 @@ pub extern "C" fn vz_tree_fill(deal: &[u8], tree: &mut [u8]) -> u32
     ensures { λ r. ⌜ now (tree .exit) ≡ filledTree (now (deal .entry)) (now (tree .entry)) ⌝ }
 {
     lent::fill_tree(deal, tree) as u32
+}
+
+// Writes the nodes over the pairs of `below` into `above`: a row of a tree, or a part of one, from the row below it.
+#[no_mangle]
+pub extern "C" fn vz_tree_row(below: &[u8], above: &mut [u8]) -> u32
+    ensures { λ r. ⌜ r ≡ rowCode (now (below .entry)) (now (above .entry)) ⌝ }
+    ensures { λ r. ⌜ now (above .exit) ≡ filledRow (now (below .entry)) (now (above .entry)) ⌝ }
+{
+    tree::fill_row(below, above) as u32
 }

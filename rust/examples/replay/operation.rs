@@ -43,6 +43,7 @@ operations! {
     21 BookWithTree
     22 BuildWithTree
     23 SettleWithTree
+    28 TreeRow
 }
 
 impl Operation {
@@ -53,7 +54,10 @@ impl Operation {
 
     /// Whether the second argument is lent to be written.
     pub fn writes_b(self) -> bool {
-        matches!(self, Operation::Build | Operation::BuildWithTree | Operation::Pad | Operation::Unpad)
+        matches!(
+            self,
+            Operation::Build | Operation::BuildWithTree | Operation::Pad | Operation::Unpad | Operation::TreeRow
+        )
     }
 
     /// Whether the third argument is lent to be written.

@@ -71,6 +71,7 @@ pub fn answer(case: &mut Case) -> Answer {
         Operation::BookWithTree => Ok(book(a, Some(c), b)?.bytes(&digest(c)?)),
         Operation::BuildWithTree => build(a, Some(c), x, b),
         Operation::SettleWithTree => settle_with_deal(a, Some(c), b),
+        Operation::TreeRow => tree_row(a, b),
     }
 }
 
@@ -149,6 +150,11 @@ fn find(deal: &[u8], c: &[u8]) -> Answer {
 fn tree_fill(deal: &[u8], tree: &mut [u8]) -> Answer {
     let code = unsafe { ffi::vz_tree_fill(deal.as_ptr(), deal.len(), tree.as_mut_ptr(), tree.len()) };
     Ok(Line::code(code).bytes(&digest(tree)?))
+}
+
+fn tree_row(below: &[u8], above: &mut [u8]) -> Answer {
+    let code = unsafe { ffi::vz_tree_row(below.as_ptr(), below.len(), above.as_mut_ptr(), above.len()) };
+    Ok(Line::code(code).bytes(&digest(above)?))
 }
 
 fn book(deal: &mut [u8], tree: Option<&mut [u8]>, segment: &[u8]) -> Answer {

@@ -9,7 +9,7 @@ fn code(result: Result<(), Refusal>) -> Line {
 
 /// The line of a case.
 pub fn answer(case: Case) -> Answer {
-    let Case { operation, mut a, b, mut c, x, y } = case;
+    let Case { operation, mut a, mut b, mut c, x, y } = case;
     match operation {
         Operation::Sha256 => Ok(digest_line(vz::sha256(&a))),
         Operation::Commitment => Ok(digest_line(vz::commitment(&a).map(|node| node.0))),
@@ -32,6 +32,7 @@ pub fn answer(case: Case) -> Answer {
         Operation::BookWithTree => Ok(book(&mut a, Some(&mut c), &b)?.bytes(&digest(&c)?)),
         Operation::BuildWithTree => build(&a, Some(&c), x, b),
         Operation::SettleWithTree => Ok(settled(vz::settle_with_deal(&a, Some(&c), &b))),
+        Operation::TreeRow => tree_row(&a, &mut b),
     }
 }
 
@@ -111,6 +112,10 @@ fn book(deal: &mut [u8], tree: Option<&mut [u8]>, segment: &[u8]) -> Answer {
 /// The tree afterwards is shown by its SHA-256.
 fn tree_fill(deal: &[u8], tree: &mut [u8]) -> Answer {
     Ok(code(vz::tree_fill(deal, tree)).bytes(&digest(tree)?))
+}
+
+fn tree_row(below: &[u8], above: &mut [u8]) -> Answer {
+    Ok(code(vz::tree_row(below, above)).bytes(&digest(above)?))
 }
 
 /// The output afterwards is shown by its SHA-256.

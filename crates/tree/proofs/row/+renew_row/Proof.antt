@@ -1,5 +1,5 @@
 -- `renew_row`: up to sixteen nodes, or two parts of the row one after the other; the number of nodes falls.
-use Prim.Native.Nat.{ℕ, suc, _+_, _-_, _*_, _/_, _<_}
+use Prim.Native.Nat.{ℕ, suc, _+_, _-_, _<_}
 use mathlib.Core.Path.{ap, _∙_}
 use mathlib.Core.List.{List}
 use native.Mathlib.Omega.{arith}
@@ -10,20 +10,13 @@ use borrow.Fn.Kinds.{In}
 use borrow.Fn.PlainCycle.{Measures, is, falls, and}
 use Rattle.tree.specs.PlaceLaws.{row-small, row-part}
 use Rattle.tree.specs.Renewed.{renewedRow}
-use Rattle.tree.proofs.Rows.{row-parts}
+use Rattle.tree.proofs.Rows.{leftPart, left-part, row-parts}
 use Rattle.tree.proofs.row.renew_row.Reads as renew-row
 use Rattle.tree.proofs.row.renew_row.Kinds as renew-row-kinds
 use Rattle.tree.proofs.row.+renew_row.Lts-renew_row as renew-row-lts
 use Rattle.tree.proofs.row.renew_few.Reads as renew-few-reads
 use Rattle.tree.proofs.row.+renew_row.{statement}
 use Rattle.tree.proofs.row.+renew_row.Tie.{close}
-
--- the first of two parts, where there are more than sixteen nodes
-abbrev leftPart : ℕ → ℕ
-leftPart count = (count / 16 + 1) / 2 * 16
-
-parts : (count : ℕ) → 16 < count → (0 < leftPart count) × (leftPart count < count)
-parts count h = (omega arith, omega arith)
 
 abbrev μ-renew-row : Measures 2 renew-row-kinds.ps ℕ
 μ-renew-row κs a = a .1 .1 .1 .1 .0
@@ -52,7 +45,7 @@ pub +renew-row-spec : {M : Type 1} → statement M
     (λ c κs.
     let s = c .before .before .before .before in
     let a = s .args in
-    let h = parts (a .count) (omega arith) in (
+    let h = left-part (a .count) (omega arith) in (
       omega (arith, s .pre .0),
       (
         row-part (length (now (a .deal))) (suc (a .below)) (a .first) (a .count) (a .first) (leftPart (a .count))
@@ -64,17 +57,17 @@ pub +renew-row-spec : {M : Type 1} → statement M
     let s = c .before .before .before .before .before .before .before .before in
     let a = s .args in
     let D = length (now (a .deal)) in
-    let h = parts (a .count) (omega arith) in
+    let h = left-part (a .count) (omega arith) in
     record { fits = omega (arith, row-small D (suc (a .below)) (a .first) (a .count) (s .pre .1 .0)) })
     (λ c.
     let a = c .before .before .before .before .before .before .before .before .args in
-    let h = parts (a .count) (omega arith) in
+    let h = left-part (a .count) (omega arith) in
     omega arith)
     (λ c κs.
     let w = c .before .before .before in
     let s = w .before .before .before .before .before in
     let a = s .args in
-    let h = parts (a .count) (omega arith) in (
+    let h = left-part (a .count) (omega arith) in (
       omega (arith, s .pre .0),
       (
         row-part (length (now (a .deal))) (suc (a .below)) (a .first) (a .count) (a .first + leftPart (a .count))
@@ -89,7 +82,7 @@ pub +renew-row-spec : {M : Type 1} → statement M
     let w = c .before .before in
     let v = w .before .before .before .before in
     let a = v .before .before .before .before .before .args in
-    let h = parts (a .count) (omega arith) in
+    let h = left-part (a .count) (omega arith) in
     w .renew-row2 .ensures
     ∙ ap (λ (tree : List ℕ). renewedRow (now (a .deal)) tree (a .below) (a .first + leftPart (a .count))
     (a .count - leftPart (a .count))) (v .renew-row .ensures)
