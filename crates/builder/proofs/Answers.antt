@@ -9,9 +9,9 @@ use lib.ListN.{length}
 use borrow.Author.Tests.{le-leb, lt-leb}
 use Rattle.octets.specs.Splice.{splice}
 use Rattle.paths.specs.NodesSized.{NodesSized}
-use Rattle.sizes.specs.Sizes.{placeAllowed, dealLevel}
+use Rattle.sizes.specs.Sizes.{placeAllowed, dealLevel, segmentLevel, segmentPosition}
 use Rattle.index.specs.Slots.{entryAt, keptRow}
-use Rattle.index.specs.SlotsLaws.{answer-kept, answer-not-kept}
+use Rattle.index.specs.SlotsLaws.{keeps, answer-kept, answer-not-kept}
 use Rattle.index.specs.declared.Row.{Row}
 use Rattle.lent.specs.LentDeal.{LentDeal, dealSize, dealRefusal}
 use Rattle.lent.specs.LentDealLaws.{refusal-none, refused-answer}
@@ -42,6 +42,8 @@ pub record Passed (deal : LentDeal) (place : ℕ) : Type 0 where
 -- what is known of an entry that was found to be kept
 pub record KeptHere (deal : LentDeal) (place : ℕ) (entry : Row) : Type 0 where
   pub within : InDeal (dealSize deal) place (entry .offset) (entry .size)
+  pub node-is : entry .commitment
+      ≡ deal .nodes (segmentLevel (entry .size)) (segmentPosition (entry .offset) (entry .size))
   pub builds : recordAt deal place ≡ built (recordAs deal place entry)
   pub sized : length (recordAs deal place entry) ≡ recordLength (dealSize deal) (entry .size)
 
@@ -58,6 +60,11 @@ kept-here deal place entry each p e t =
     let r = record-of-entry deal (entryAt (deal .bytes) place) place in
     record {
       within = w;
+      node-is =
+          s .commitment-is
+          ∙ sym (keeps (deal .nodes) (dealSize deal) (entryAt (deal .bytes) place) (a .is-kept) .node-is)
+          ∙ (λ j. deal .nodes (segmentLevel (sym (s .size-is) j))
+          (segmentPosition (sym (s .offset-is) j) (sym (s .size-is) j)));
       builds = means-build deal place (recordAs deal place entry) (f .0) (f .1) (f .2) (p .allowed) (a .is-kept)
           (rw (s .commitment-is, s .offset-is, s .size-is) r);
       sized = record-length deal each (entry .commitment) (entry .offset) (entry .size) place c w;

@@ -1,3 +1,4 @@
 -- What the proofs of several functions use.
+pub mod PathsWritten
 pub mod RecordWritten
 pub mod Answers

@@ -39,16 +39,11 @@ module _ {deal : LentDeal} {entry : Row} {place level position : ℕ}
   pub segment-inside : InTree (dealLevel (dealSize deal)) (pathStart SegmentLevels level position)
   segment-inside = rw (w .level-is, w .position-is) (segment-start (w .within))
 
-  -- their fields have room in an output of m bytes that has room for the record; each starts where the fields before it
-  -- end
-  module _ {m n : ℕ} (e : m ≡ n) (h : recordLength (dealSize deal) (entry .size) ≤ n) where
-    pub segment-room : {at : ℕ} → at ≡ 68 → at + 3 + 32 * SegmentLevels ≤ m
-    unfolding recordLength
-    segment-room a = rw (w .level-is, e, a) (omega arith)
-
-    pub entry-room : {at : ℕ} → at ≡ 71 + 32 * SegmentLevels → at + 3 + 32 * EntryLevels ≤ m
-    unfolding recordLength
-    entry-room a = rw (a, w .level-is, e) (omega arith)
+  -- their fields have room in an output of m bytes that has room for the record; they start where the numbers end
+  pub paths-room : {m n at : ℕ} → m ≡ n → recordLength (dealSize deal) (entry .size) ≤ n → at ≡ 68
+      → at + 6 + 32 * SegmentLevels + 32 * EntryLevels ≤ m
+  unfolding recordLength
+  paths-room e h a = rw (w .level-is, e, a) (omega arith)
 
   -- the two paths as the code writes them, and the fields of the record
   abbrev pub SegmentPath : List ℕ

@@ -1,19 +1,20 @@
 // Writing a whole record.
-use fields::FieldRule;
 use index::Row;
+use lent::PathNode;
 ghost use mathlib.Core.Path.{_≡_};
-ghost use Prim.Native.Nat.{_+_, _-_, _*_, _≤_};
+ghost use Prim.Native.Nat.{_+_, _-_, _*_, _≤_, _<_};
 ghost use mathlib.Core.List.{[]};
 ghost use lib.ListN.{length};
 ghost use Rattle.octets.specs.Splice.{splice};
 ghost use Rattle.fields.specs.Table.{putField};
 ghost use Rattle.paths.specs.Start.{pathStart, InTree};
 ghost use Rattle.paths.specs.Siblings.{siblings};
-ghost use Rattle.sizes.specs.Sizes.{dealLevel};
+ghost use Rattle.sizes.specs.Sizes.{dealLevel, segmentLevel, segmentPosition};
 ghost use Rattle.sizes.specs.SizesLaws.{LentSize, SegmentSize};
 ghost use Rattle.lent.specs.LentDeal.{lentWith};
 ghost use Rattle.lent.specs.Usable.{Usable};
-ghost use Rattle.record.specs.Form.{recordLength};
+ghost use Rattle.lent.specs.PathNodes.{IsNode};
+ghost use Rattle.record.specs.Form.{tableRow, recordLength};
 ghost use Rattle.builder.specs.BuildLaws.{InDeal};
 ghost use Rattle.builder.specs.Encode.{recordFor};
 
@@ -28,36 +29,56 @@ pub(crate) fn record_length(d: u64, size: u64) -> usize
     record::FIXED_LENGTH + 32 * levels + 32 * entry_levels
 }
 
-// Writes the field of a row, which holds the Merkle path of the node at a position of a level of the deal, up to the
-// deal's top node, and answers the place after it.
-fn put_path(
+// Writes the fields of the two Merkle paths: that of the segment, whose node is in hand, and behind it that of the
+// entry at a position.
+fn put_paths(
     out: &mut [u8],
     at: usize,
-    row: FieldRule,
     deal: &[u8],
     tree: &[u8],
     has_tree: bool,
     level: usize,
-    position: usize,
-) -> usize
+    segment: PathNode,
+    entry_position: usize,
+)
     requires { ⌜ Usable (lentWith «has_tree» (now deal) (now tree)) ⌝ }
+    requires { ⌜ (0 < level) × InTree (dealLevel (length (now deal)))
+        (pathStart (dealLevel (length (now deal)) - level) level (segment .position)) ⌝ }
+    requires { ⌜ IsNode (lentWith «has_tree» (now deal) (now tree) .nodes) level segment ⌝ }
     requires { ⌜ InTree (dealLevel (length (now deal)))
-        (pathStart (dealLevel (length (now deal)) - level) level position) ⌝ }
-    requires { ⌜ at + 3 + 32 * (dealLevel (length (now deal)) - level) ≤ length (now out) ⌝ }
-    ensures { λ r. ⌜ (now (out .exit) ≡ splice (now (out .entry)) at
-        (putField (row .tag)
+        (pathStart (dealLevel (length (now deal)) - 1) 1 «entry_position») ⌝ }
+    requires { ⌜ at + 6 + 32 * (dealLevel (length (now deal)) - level) + 32 * (dealLevel (length (now deal)) - 1)
+        ≤ length (now out) ⌝ }
+    ensures { λ _. ⌜ now (out .exit) ≡ splice (splice (now (out .entry)) at
+        (putField (tableRow 4 .tag)
         (siblings (lentWith «has_tree» (now (deal .entry)) (now (tree .entry)) .nodes)
-        (dealLevel (length (now (deal .entry))) - level) level position) []))
-        × (r ≡ at + (3 + 32 * (dealLevel (length (now (deal .entry))) - level))) ⌝ }
+        (dealLevel (length (now (deal .entry))) - level) level (segment .position)) []))
+        (at + (3 + 32 * (dealLevel (length (now (deal .entry))) - level)))
+        (putField (tableRow 5 .tag)
+        (siblings (lentWith «has_tree» (now (deal .entry)) (now (tree .entry)) .nodes)
+        (dealLevel (length (now (deal .entry))) - 1) 1 «entry_position») []) ⌝ }
 {
-    let levels = sizes::deal_level(deal.len() as u64) - level;
-    let content = fields::put_head(out, at, row.tag, 32 * levels);
-    lent::write_path(deal, tree, has_tree, levels, level, position, out, content);
-    content + 32 * levels
+    let top = sizes::deal_level(deal.len() as u64);
+    let size = 32 * (top - level);
+    let row = record::row(record::SEGMENT_PATH);
+    let content = fields::put_head(out, at, row.tag, size);
+    let entry_row = record::row(record::ENTRY_PATH);
+    let entry_content = fields::put_head(out, content + size, entry_row.tag, 32 * (top - 1));
+    lent::write_paths(
+        deal,
+        tree,
+        has_tree,
+        level,
+        segment,
+        entry_position,
+        out,
+        content,
+        entry_content,
+    );
 }
 
-// Writes the record for the entry at a place of a lent deal into the first bytes of `out`: the fields of the table in
-// its order, each where the one before it ends.
+// Writes the record for the kept entry at a place of a lent deal into the first bytes of `out`: the fields of the table
+// in its order, each where the one before it ends. Its commitment is the node over the segment.
 pub(crate) fn write_record(
     deal: &[u8],
     tree: &[u8],
@@ -68,6 +89,9 @@ pub(crate) fn write_record(
 )
     requires { ⌜ Usable (lentWith «has_tree» (now deal) (now tree)) ⌝ }
     requires { ⌜ InDeal (length (now deal)) place (entry .offset) (entry .size) ⌝ }
+    requires { ⌜ entry .commitment
+        ≡ lentWith «has_tree» (now deal) (now tree) .nodes (segmentLevel (entry .size))
+        (segmentPosition (entry .offset) (entry .size)) ⌝ }
     requires { ⌜ recordLength (length (now deal)) (entry .size) ≤ length (now out) ⌝ }
     ensures { λ _. ⌜ now (out .exit) ≡ splice (now (out .entry)) 0
         (recordFor (lentWith «has_tree» (now (deal .entry)) (now (tree .entry))) (entry .commitment) (entry .offset)
@@ -81,8 +105,18 @@ pub(crate) fn write_record(
     let at = fields::put_number(out, at, record::row(record::OFFSET), entry.offset);
     let at = fields::put_number(out, at, record::row(record::SIZE), entry.size);
     let at = fields::put_number(out, at, record::row(record::PLACE), place);
-    let segment_row = record::row(record::SEGMENT_PATH);
-    let at = put_path(out, at, segment_row, deal, tree, has_tree, level, position);
-    let entry_row = record::row(record::ENTRY_PATH);
-    put_path(out, at, entry_row, deal, tree, has_tree, 1, entry_position);
+    let segment = PathNode {
+        position,
+        node: commitment,
+    };
+    put_paths(
+        out,
+        at,
+        deal,
+        tree,
+        has_tree,
+        level,
+        segment,
+        entry_position,
+    );
 }

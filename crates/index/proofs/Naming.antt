@@ -21,7 +21,8 @@ use Rattle.lent.specs.LentDeal.{LentDeal, dealSize}
 use Rattle.index.specs.Slots.{entryAt, standing, nodeOver, kept, free, holds, rowOf, rowArea}
 use Rattle.index.specs.SlotsLaws.{StandsAs, answer-stands}
 use Rattle.index.specs.KeptLaws.{row-stands, row-free, area-node}
-use Rattle.index.specs.Find.{keepsCommitment, namingRow, keptBy, TriedBefore, foundIn}
+use Rattle.index.specs.Find.{keepsCommitment, foundIn}
+use Rattle.index.specs.Tried.{namingRow, keptBy, TriedBefore}
 use Rattle.index.specs.declared.Row.{Row}
 
 either-free : (t : Bool) → choose t free free ≡ free

@@ -1,45 +1,24 @@
 -- Finding a segment by its commitment (document 01, "Booking, finding, building, settling": find).
-use mathlib.Core.Path.{_≡_}
 use mathlib.Core.Bool.{Bool, _&&_}
-use Prim.Native.Nat.{ℕ, _<_}
+use Prim.Native.Nat.{ℕ}
 use mathlib.Core.List.{List, _∷_}
-use lib.ListN.{length, getD}
+use lib.ListN.{length}
 use lib.Dec.{eqb}
-use Rattle.rules.specs.Choice.{choose}
 use Rattle.rules.specs.Refusals.{rule, firstRefusal, unlessRefused}
 use Rattle.rules.specs.Search.{lowest}
 use Rattle.rules.specs.declared.Found.{Found}
 use Rattle.rules.specs.declared.Found.the-variants.{At, Missing}
 use Rattle.octets.specs.Equality.{sameBytes}
 use Rattle.octets.specs.Splice.{part}
-use Rattle.merkle.specs.NodeSource.{NodeSource}
-use Rattle.sizes.specs.Sizes.{entryCount, slotPlace, segmentLevel, segmentPosition}
+use Rattle.sizes.specs.Sizes.{entryCount, slotPlace}
 use Rattle.entries.specs.Entry.{commitmentIn, offsetIn, sizeIn}
 use Rattle.lent.specs.LentDeal.{LentDeal, dealSize, dealRules}
-use Rattle.index.specs.Slots.{entryAt, slotAt, keptAt, free, rowOf}
-use Rattle.index.specs.declared.Row.{Row}
+use Rattle.index.specs.Slots.{slotAt, keptAt}
 use Rattle.index.specs.declared.FoundSegment.{FoundSegment}
 
 -- slot i holds a kept entry with this commitment
 unfoldable pub keepsCommitment : LentDeal → List ℕ → ℕ → Bool
 keepsCommitment deal commitment i = keptAt deal i && sameBytes (commitmentIn (slotAt (deal .bytes) i)) commitment
-
--- the row of the entry at a place, where it stands and names this commitment
-abbrev pub namingRow : List ℕ → List ℕ → ℕ → Row
-namingRow deal commitment place =
-    let row = rowOf (length deal) (entryAt deal place) in
-    choose (sameBytes (row .commitment) commitment) row free
-
--- a row is that of a kept entry: it stands, and the node over its area is the commitment that it names
-abbrev pub keptBy : NodeSource → Row → Bool
-keptBy nodes row =
-    row .stands
-    && sameBytes (nodes (segmentLevel (row .size)) (segmentPosition (row .offset) (row .size))) (row .commitment)
-
--- the area from an offset is one of the first that were tried
-abbrev pub TriedBefore : List ℕ → List ℕ → ℕ → ℕ → ℕ → Type 0
-TriedBefore offsets areas count offset area =
-    (j : ℕ) × (j < count) × (getD offsets j 0 ≡ offset) × (getD areas j 0 ≡ area)
 
 -- the lowest slot that keeps a commitment
 abbrev pub lowestWithCommitment : LentDeal → List ℕ → Found

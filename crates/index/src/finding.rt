@@ -13,8 +13,8 @@ ghost use denote.Ref.{ptr};
 ghost use Rattle.merkle.specs.Tree.{nodeAt};
 ghost use Rattle.sizes.specs.Sizes.{lentSizeAllowed, segmentSizeAllowed, offsetAllowed};
 ghost use Rattle.lent.specs.LentDeal.{lentDeal};
-ghost use Rattle.index.specs.Find.{namingRow, keptBy, TriedBefore, foundIn, lowestWithCommitment};
-ghost use Rattle.index.specs.Find.{findNumbers, findView};
+ghost use Rattle.index.specs.Tried.{namingRow, keptBy, TriedBefore};
+ghost use Rattle.index.specs.Find.{foundIn, lowestWithCommitment, findNumbers, findView};
 ghost use Rattle.index.specs.Find as F;
 
 // The row of the entry at a place of a lent deal, where it stands and names this commitment. Nothing of the segment is

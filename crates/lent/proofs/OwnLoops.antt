@@ -1,6 +1,6 @@
 -- Turns of the loop that compares a path with a source's own pairs of nodes: i of n levels are passed.
 use mathlib.Core.Path.{_≡_, sym, ap, ap₂, subst, _∙_}
-use Prim.Native.Nat.{ℕ, suc, _+_, _-_, _*_, _/_, _^_, _≤_, _<_}
+use Prim.Native.Nat.{ℕ, suc, _+_, _-_, _*_, _/_, _≤_, _<_}
 use native.Mathlib.Omega.{arith}
 use mathlib.Core.List.{List}
 use lib.ListN.{take, drop}
@@ -17,6 +17,7 @@ use Rattle.paths.specs.SiblingsLaws.{step, rest}
 use Rattle.paths.specs.Compare.{comparedAbove}
 use Rattle.paths.specs.CompareOwn.{comparedWithOwn}
 use Rattle.paths.specs.declared.Compared.{Compared}
+use Rattle.lent.proofs.Ways.{parent-in}
 
 -- at position p, where the node on the way is b, and what is left of the source's own path
 pub record OwnTurn (nodes : NodeSource) (top : ℕ) (own : List ℕ) (n level i p : ℕ) (b : List ℕ) : Type 0 where
@@ -56,10 +57,7 @@ module _ (nodes : NodeSource) (top : ℕ) (own : List ℕ) (n level : ℕ) where
 
     -- the node above is one of the tree's
     pub own-above : InTree top (pathStart (n - i - 1) (level + i + 1) (p / 2))
-    own-above =
-        let m : n - (i + 1) ≡ n - i - 1 = omega arith in
-        let w = turn-above n level i p h (t .in-tree) in
-        record { up = omega (arith, w .up); among = subst (λ (k : ℕ). p / 2 < 2 ^ k) m (w .among) }
+    own-above = parent-in n level i p h (t .in-tree)
 
     pub own-next : (b' : List ℕ) → b' ≡ nodes (level + i + 1) (p / 2)
         → OwnTurn nodes top own n level (i + 1) (p / 2) b'

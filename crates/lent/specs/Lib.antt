@@ -1,6 +1,7 @@
 pub mod LentDeal
 pub mod LentDealLaws
 pub mod Usable
+pub mod PathNodes
 pub mod UsableLaws
 pub mod FilledTree
 pub mod FilledTreeLaws

@@ -1,9 +1,8 @@
 // A path compared with a lent deal's own pairs of nodes along it.
-use crate::nodes::node_in;
+use crate::nodes::node_above;
 use paths::Compared;
 ghost use mathlib.Core.Path.{_≡_};
-ghost use Prim.Native.Nat.{_+_, _*_, _/_};
-ghost use mathlib.Core.List.{_++_};
+ghost use Prim.Native.Nat.{_/_};
 ghost use lib.ListN.{length};
 ghost use Rattle.sizes.specs.Sizes.{dealLevel};
 ghost use Rattle.paths.specs.Start.{pathStart, InTree};
@@ -12,38 +11,16 @@ ghost use Rattle.paths.specs.CompareOwn.{comparedWithOwn};
 ghost use Rattle.lent.specs.LentDeal.{lentWith};
 ghost use Rattle.lent.specs.Usable.{Usable};
 
-// The node above a pair of the deal's nodes of a level, with `levels` levels above it: with a tree as it stands there,
-// without one worked out from the pair.
-fn node_above(
-    deal: &[u8],
-    tree: &[u8],
-    has_tree: bool,
-    levels: usize,
-    level: usize,
-    position: usize,
-    pair: [u8; 64],
-) -> [u8; 32]
-    requires { ⌜ Usable (lentWith «has_tree» (now deal) (now tree)) ⌝ }
-    requires { ⌜ InTree (dealLevel (length (now deal))) (pathStart levels (level + 1) position) ⌝ }
-    requires { ⌜ pair ≡ (lentWith «has_tree» (now deal) (now tree) .nodes level (position * 2)
-        ++ lentWith «has_tree» (now deal) (now tree) .nodes level (position * 2 + 1)) ⌝ }
-    ensures { λ r. ⌜ r ≡ lentWith «has_tree» (now (deal .entry)) (now (tree .entry)) .nodes (level + 1) position ⌝ }
-{
-    if has_tree {
-        return node_in(deal, tree, has_tree, levels, level + 1, position);
-    }
-    node::node_hash(pair)
-}
-
 // Compares the strings of a path, from a node x at a position of a level, with the deal's own pairs of nodes along it;
-// `own` is the deal's own Merkle path from there. They are met from the bottom up, so the last difference is the first
-// from the top. `seen` is the difference of what stands below.
+// `own_node` is the deal's own node there, and `own` its Merkle path. They are met from the bottom up, so the last
+// difference is the first from the top. `seen` is the difference of what stands below.
 pub fn compare_with_own(
     deal: &[u8],
     tree: &[u8],
     has_tree: bool,
     level: usize,
     position: usize,
+    own_node: [u8; 32],
     own: &[u8],
     x: [u8; 32],
     path: &[u8],
@@ -51,6 +28,7 @@ pub fn compare_with_own(
 ) -> Compared
     requires { ⌜ Usable (lentWith «has_tree» (now deal) (now tree)) ⌝ }
     requires { ⌜ InTree (dealLevel (length (now deal))) (pathStart (length (now path) / 32) level position) ⌝ }
+    requires { ⌜ «own_node» ≡ lentWith «has_tree» (now deal) (now tree) .nodes level position ⌝ }
     requires { ⌜ now own
         ≡ siblings (lentWith «has_tree» (now deal) (now tree) .nodes) (length (now path) / 32) level position ⌝ }
     ensures { λ r. ⌜ r
@@ -60,7 +38,7 @@ pub fn compare_with_own(
     let levels = path.len() / 32;
     let mut p = position;
     let mut a = x;
-    let mut b = node_in(deal, tree, has_tree, levels, level, position);
+    let mut b = own_node;
     let mut last = seen;
     let mut i: usize = 0;
     while i < levels {

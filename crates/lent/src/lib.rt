@@ -8,7 +8,7 @@ mod own_paths; // own_paths.rt: the deal's own Merkle paths
 pub use comparing::compare_with_own;
 pub use filling::fill_tree;
 pub use nodes::node_in;
-pub use own_paths::write_path;
+pub use own_paths::write_paths;
 ghost use mathlib.Core.Path.{_≡_};
 ghost use mathlib.Core.Bool.{true};
 ghost use lib.ListN.{length};
@@ -17,6 +17,12 @@ ghost use Prim.Native.Nat.{_-_};
 ghost use Rattle.rules.specs.Choice.{choose};
 ghost use Rattle.sizes.specs.Sizes.{lentSizeAllowed};
 ghost use Rattle.lent.specs.LentDeal.{lentWith, lentDeal, dealRefusal};
+
+// A node of the deal's tree on a level: its position there, and its bytes.
+pub struct PathNode {
+    pub position: usize,
+    pub node: [u8; 32],
+}
 
 // Whether a tree has the length that a deal of this many bytes asks.
 pub fn tree_sized(size: usize, tree: &[u8], has_tree: bool) -> bool

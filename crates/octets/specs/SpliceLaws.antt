@@ -3,6 +3,7 @@ use mathlib.Core.Path.{_≡_, sym, ap, ap₂, _∙_}
 use mathlib.Core.List.{List, [], _++_, append-assoc, append-nil}
 use Prim.Native.Nat.{ℕ, _+_, _≤_, _<_, _-_}
 use native.Mathlib.Nat.{add-assoc, add-zero, zero-add, add-sub-cancel-left}
+use native.Mathlib.Decide.{decLt}
 use native.Mathlib.Omega.{arith}
 use lib.ListN.{length, take, drop, getD, length-append, length-drop, List·getD-append, drop-of-length-le}
 use lib.ListN.{take-append-drop}
@@ -155,6 +156,62 @@ pub splice-both : (d s t : List ℕ) → length d ≡ length s + length t → sp
 splice-both d s t h =
     splice-append d 0 (length s) s t (omega arith) (omega arith)
     ∙ splice-whole d (s ++ t) (omega (arith, length-append s t))
+
+-- two splices apart from one another, in either order
+module _ (d : List ℕ) (a : ℕ) (s : List ℕ) (b : ℕ) (t : List ℕ) (h : a + length s ≤ b) (k : b + length t ≤ length d)
+  where
+    first-fits : a + length s ≤ length (splice d b t)
+    first-fits = omega (arith, length-splice d b t k)
+
+    second-fits : b + length t ≤ length (splice d a s)
+    second-fits = omega (arith, length-splice d a s (omega arith))
+
+    below-second : (j : ℕ) → j < b → getD (splice d a s) j 0 ≡ getD (splice (splice d b t) a s) j 0
+    below-second j l =
+        elim (decLt j a) [
+          | yes x ↦
+              splice-before d a s (omega arith) j x
+              ∙ sym (splice-before (splice d b t) a s first-fits j x ∙ splice-before d b t k j l)
+          | no x ↦
+              elim (decLt j (a + length s)) [
+                | yes y ↦
+                    let e : j ≡ a + (j - a) = omega arith in
+                    ap (λ (i : ℕ). getD (splice d a s) i 0) e
+                    ∙ splice-inside d a s (omega arith) (j - a) (omega arith)
+                    ∙ sym (ap (λ (i : ℕ). getD (splice (splice d b t) a s) i 0) e
+                    ∙ splice-inside (splice d b t) a s first-fits (j - a) (omega arith))
+                | no y ↦
+                    splice-after d a s (omega arith) j (omega arith)
+                    ∙ sym (splice-after (splice d b t) a s first-fits j (omega arith) ∙ splice-before d b t k j l)
+              ]
+        ]
+
+    from-second : (j : ℕ) → b ≤ j → getD (splice (splice d a s) b t) j 0 ≡ getD (splice d b t) j 0
+    from-second j l =
+        elim (decLt j (b + length t)) [
+          | yes x ↦
+              let e : j ≡ b + (j - b) = omega arith in
+              ap (λ (i : ℕ). getD (splice (splice d a s) b t) i 0) e
+              ∙ splice-inside (splice d a s) b t second-fits (j - b) (omega arith)
+              ∙ sym (ap (λ (i : ℕ). getD (splice d b t) i 0) e ∙ splice-inside d b t k (j - b) (omega arith))
+          | no x ↦
+              splice-after (splice d a s) b t second-fits j (omega arith)
+              ∙ splice-after d a s (omega arith) j (omega arith)
+              ∙ sym (splice-after d b t k j (omega arith))
+        ]
+
+    pub splice-apart : splice (splice d a s) b t ≡ splice (splice d b t) a s
+    splice-apart =
+        ext-getD 0 (splice (splice d a s) b t) (splice (splice d b t) a s)
+        (length-splice (splice d a s) b t second-fits
+        ∙ length-splice d a s (omega arith)
+        ∙ sym (length-splice (splice d b t) a s first-fits ∙ length-splice d b t k))
+        (λ j l.
+        elim (decLt j b) [
+          | yes x ↦ splice-before (splice d a s) b t second-fits j x ∙ below-second j x
+          | no x ↦
+              from-second j (omega arith) ∙ sym (splice-after (splice d b t) a s first-fits j (omega arith))
+        ])
 
 pub bytes-splice : (d : List ℕ) (at : ℕ) (s : List ℕ) → Bytes d → Bytes s → Bytes (splice d at s)
 unfolding splice

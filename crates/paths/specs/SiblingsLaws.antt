@@ -26,7 +26,7 @@ use Rattle.paths.specs.NodesSized.{NodesSized}
 use Rattle.paths.specs.Siblings.{siblingOf, siblings, pairAt, nodePairs, nodeFrom, siblingsFrom, pairsFrom}
 
 -- a node and its sibling, in order
-pair-here : (nodes : NodeSource) (i q : ℕ)
+pub pair-here : (nodes : NodeSource) (i q : ℕ)
     → pairOf q (nodes i q) (nodes i (siblingOf q)) ≡ pairAt nodes i q
 unfolding pairOf
 pair-here nodes i q = go (q % 2) refl

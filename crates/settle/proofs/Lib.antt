@@ -2,5 +2,4 @@
 pub mod Answers
 pub mod RecordsCases
 pub mod OwnPath
-pub mod OwnEntryPath
 pub mod DealCases

@@ -1,53 +1,70 @@
--- A Merkle path of a lent deal, from level 1 or above up to its top, written into a buffer of 18 nodes.
-use mathlib.Core.Path.{_≡_, sym, ap, _∙_}
+-- A lent deal's own paths, as they stand in a buffer of 35 nodes.
+use mathlib.Core.Path.{_≡_, ap, subst, _∙_}
 use Prim.Native.Nat.{ℕ, _+_, _*_, _≤_}
 use native.Mathlib.Omega.{arith}
 use mathlib.Core.List.{List}
-use lib.ListN.{length, take, replicate}
+use lib.ListN.{length, replicate}
 use Rattle.octets.specs.Splice.{part, splice}
-use Rattle.octets.specs.SpliceLaws.{length-splice, part-written}
-use Rattle.paths.specs.Start.{PathStart, InTree}
+use Rattle.octets.specs.SpliceLaws.{length-splice, part-before, part-written}
 use Rattle.paths.specs.NodesSized.{NodesSized}
-use Rattle.paths.specs.Siblings.{siblingsFrom}
-use Rattle.paths.specs.SiblingsLaws.{path-length}
-use Rattle.sizes.specs.Sizes.{dealLevel}
+use Rattle.sizes.specs.Sizes.{dealLevel, segmentPathLevels, entryPathLevels}
 use Rattle.lent.specs.LentDeal.{LentDeal, dealSize}
-use Rattle.lent.specs.Usable.{Usable}
-use Rattle.lent.specs.UsableLaws.{usable-size}
+use Rattle.builder.specs.Build.{segmentPathOf, entryPathOf}
+use Rattle.builder.specs.BuildLaws.{InDeal, segment-path-length, entry-path-length}
+use Rattle.settle.specs.OwnPaths.{ownPaths}
 
--- a deal whose nodes may be looked up, and the start of such a path
-pub record OwnPath (deal : LentDeal) (start : PathStart) : Type 0 where
-  pub usable : Usable deal
-  pub each : NodesSized (deal .nodes) (dealLevel (dealSize deal))
-  pub inside : InTree (dealLevel (dealSize deal)) start
-  pub low : 1 ≤ start .level
+-- two strings behind one another at the start of a buffer
+module _ (buffer s t : List ℕ) (m n : ℕ) (ls : length s ≡ m) (lt : length t ≡ n) (room : m + n ≤ length buffer) where
+  one-length : length (splice buffer 0 s) ≡ length buffer
+  one-length = length-splice buffer 0 s (omega arith)
 
--- what was written at the start of a buffer
-front : (out buffer path : List ℕ) (n : ℕ) → out ≡ splice buffer 0 path → length path ≡ n → n ≤ length buffer
-    → take n out ≡ path
-unfolding part
-front out buffer path n e l h =
-    ap (take n) e ∙ ap (λ (k : ℕ). take k (splice buffer 0 path)) (sym l) ∙ part-written buffer 0 path (omega arith)
+  both-length : length (splice (splice buffer 0 s) m t) ≡ length buffer
+  both-length = let l = one-length in length-splice (splice buffer 0 s) m t (omega arith) ∙ l
 
-module _ {deal : LentDeal} {start : PathStart} (w : OwnPath deal start) where
-  pub path-room : 0 + 32 * start .levels ≤ 576
-  path-room = omega (arith, w .inside .up, usable-size (w .usable) .lent-level, w .low)
+  first-read : part (splice (splice buffer 0 s) m t) 0 m ≡ s
+  first-read =
+      let l = one-length in
+      part-before (splice buffer 0 s) m t (omega arith) 0 m (omega arith)
+      ∙ subst (λ (k : ℕ). part (splice buffer 0 s) 0 k ≡ s) ls (part-written buffer 0 s (omega arith))
 
-  own-length : length (siblingsFrom (deal .nodes) start) ≡ 32 * start .levels
-  own-length = path-length (deal .nodes) (dealLevel (dealSize deal)) (w .each) start (w .inside)
+  second-read : part (splice (splice buffer 0 s) m t) m n ≡ t
+  second-read =
+      let l = one-length in
+      subst (λ (k : ℕ). part (splice (splice buffer 0 s) m t) m k ≡ t) lt
+      (part-written (splice buffer 0 s) m t (omega arith))
 
-  module _ (out : List ℕ) (e : out ≡ splice (replicate 576 0) 0 (siblingsFrom (deal .nodes) start)) where
-    pub path-written : take (32 * start .levels) out ≡ siblingsFrom (deal .nodes) start
-    path-written =
-        front out (replicate 576 0) (siblingsFrom (deal .nodes) start) (32 * start .levels) e own-length
-        (omega (arith, path-room))
+module _ (deal : LentDeal) (each : NodesSized (deal .nodes) (dealLevel (dealSize deal))) (place offset size : ℕ)
+    (w : InDeal (dealSize deal) place offset size) where
+  abbrev pub SegmentBytes : ℕ
+  SegmentBytes = 32 * segmentPathLevels (dealSize deal) size
 
-    pub written-length : 32 * start .levels ≡ length (take (32 * start .levels) out)
-    written-length = sym (ap length path-written ∙ own-length)
+  abbrev pub EntryBytes : ℕ
+  EntryBytes = 32 * entryPathLevels (dealSize deal)
 
-    pub written-fits : 32 * start .levels ≤ length out
-    written-fits =
-        let l = own-length in
-        let r = path-room in
-        let s = length-splice (replicate 576 0) 0 (siblingsFrom (deal .nodes) start) (omega arith) in
-        omega (arith, ap length e ∙ s)
+  pub paths-room : SegmentBytes + EntryBytes ≤ 1120
+  paths-room = omega (arith, w .segment-up, w .entry-up, w .size-is .level-low, w .lent-is .lent-level)
+
+  segment-sized : length (segmentPathOf deal offset size) ≡ SegmentBytes
+  segment-sized = segment-path-length deal each place offset size w
+
+  entry-sized : length (entryPathOf deal place) ≡ EntryBytes
+  entry-sized = entry-path-length deal each place offset size w
+
+  module _ (out : List ℕ) (e : out ≡ ownPaths deal offset size place (replicate 1120 0)) where
+    pub own-length : length out ≡ 1120
+    own-length =
+        ap length e
+        ∙ both-length (replicate 1120 0) (segmentPathOf deal offset size) (entryPathOf deal place) SegmentBytes
+        EntryBytes segment-sized entry-sized paths-room
+
+    pub own-segment : part out 0 SegmentBytes ≡ segmentPathOf deal offset size
+    own-segment =
+        ap (λ (x : List ℕ). part x 0 SegmentBytes) e
+        ∙ first-read (replicate 1120 0) (segmentPathOf deal offset size) (entryPathOf deal place) SegmentBytes
+        EntryBytes segment-sized entry-sized paths-room
+
+    pub own-entry : part out SegmentBytes EntryBytes ≡ entryPathOf deal place
+    own-entry =
+        ap (λ (x : List ℕ). part x SegmentBytes EntryBytes) e
+        ∙ second-read (replicate 1120 0) (segmentPathOf deal offset size) (entryPathOf deal place) SegmentBytes
+        EntryBytes segment-sized entry-sized paths-room

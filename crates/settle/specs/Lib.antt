@@ -1,5 +1,6 @@
 pub mod Settle
 pub mod AcceptedRecord
+pub mod OwnPaths
 pub mod Comparing
 pub mod SettleLaws
 pub mod AcceptedRecordLaws

@@ -6,21 +6,27 @@ use crate::strings::compare_strings;
 use crate::strings::no_difference;
 use crate::strings::not_settled;
 use crate::strings::settled_from;
+use lent::PathNode;
 use paths::Compared;
 use record::ParsedRecord;
 ghost use mathlib.Core.Path.{_≡_};
 ghost use mathlib.Core.Bool.{true};
 ghost use lib.ListN.{length};
-ghost use Rattle.sizes.specs.Sizes.{dealSizeAllowed, placeAllowed};
+ghost use Rattle.sizes.specs.Sizes.{dealSizeAllowed, segmentSizeAllowed, offsetAllowed, placeAllowed};
+ghost use Rattle.sizes.specs.Sizes.{segmentLevel, segmentPosition};
 ghost use Rattle.record.specs.ParsedRecordLaws.{fieldsAt};
 ghost use Rattle.lent.specs.LentDeal.{lentWith, lentDeal, treeDeal, dealRefusal};
-ghost use Rattle.builder.specs.Build.{termsOf, entryPathOf};
+ghost use Rattle.lent.specs.Usable.{Usable};
+ghost use Rattle.builder.specs.Build.{termsOf, segmentPathOf, entryPathOf};
+ghost use Rattle.builder.specs.BuildLaws.{InDeal};
 ghost use Rattle.settle.specs.Settle.{settleWithDeal};
 ghost use Rattle.settle.specs.AcceptedRecord.{AcceptedRecord};
+ghost use Rattle.settle.specs.OwnPaths.{ownPaths};
 ghost use Rattle.settle.specs.Comparing.{entryWithDeal, segmentWithDeal};
 
-// A lent deal has at most 2^19 nodes of 32 bytes, and its longest path is that of an entry, from level 1 up.
-const LONGEST_PATH: usize = 32 * 18;
+// A lent deal has at most 2^19 nodes of 32 bytes: the path of an entry, from level 1 up, has at most 18 nodes, and that
+// of a segment, from level 2 up, at most 17.
+const LONGEST_PATHS: usize = 32 * 35;
 
 // An allowed entry place: this one where it is allowed, else the first of the index.
 fn allowed_place(size: u64, place: u64) -> u64
@@ -34,20 +40,68 @@ fn allowed_place(size: u64, place: u64) -> u64
     first
 }
 
-// The deal's commitment: with a tree its last node as it stands there, without one the node that the deal's own entry
-// path at an allowed place leads to.
-fn own_commitment(deal: &[u8], tree: &[u8], has_tree: bool, place: u64, own_path: &[u8]) -> [u8; 32]
-    requires { ⌜ (dealRefusal (lentWith «has_tree» (now deal) (now tree)) ≡ 0)
-        × (placeAllowed (length (now deal)) place ≡ true)
-        × (now «own_path» ≡ entryPathOf (lentWith «has_tree» (now deal) (now tree)) place) ⌝ }
-    ensures { λ r. ⌜ r ≡ termsOf (lentWith «has_tree» (now (deal .entry)) (now (tree .entry))) .commitment ⌝ }
+// An allowed segment size: this one where it is allowed, else 1.
+fn allowed_size(d: u64, size: u64) -> u64
+    requires { ⌜ dealSizeAllowed d ≡ true ⌝ }
+    ensures { λ r. ⌜ (segmentSizeAllowed d r ≡ true) × (segmentSizeAllowed d size ≡ true → r ≡ size) ⌝ }
 {
-    if has_tree {
-        let top = sizes::deal_level(deal.len() as u64);
-        return lent::node_in(deal, tree, has_tree, 0, top, 0);
+    if sizes::segment_size_allowed(d, size) {
+        return size;
     }
-    let own_entry = octets::pair_at(deal, place as usize);
-    paths::path_root(node::node_hash(own_entry), place / 64, own_path)
+    1
+}
+
+// An allowed offset for a segment of an allowed size: this one where it is allowed, else 0.
+fn allowed_offset(d: u64, offset: u64, size: u64) -> u64
+    requires { ⌜ (dealSizeAllowed d ≡ true) × (segmentSizeAllowed d size ≡ true) ⌝ }
+    ensures { λ r. ⌜ (offsetAllowed d r size ≡ true) × (offsetAllowed d offset size ≡ true → r ≡ offset) ⌝ }
+{
+    if sizes::offset_allowed(d, offset, size) {
+        return offset;
+    }
+    0
+}
+
+// Writes the deal's own paths for a segment, whose node is in hand, and for an entry place into `out`: the segment's
+// from 0 on, and the entry's behind it. The answer is the deal's commitment.
+fn write_own(
+    deal: &[u8],
+    tree: &[u8],
+    has_tree: bool,
+    offset: u64,
+    size: u64,
+    node: [u8; 32],
+    place: u64,
+    out: &mut [u8],
+) -> [u8; 32]
+    requires { ⌜ Usable (lentWith «has_tree» (now deal) (now tree)) ⌝ }
+    requires { ⌜ InDeal (length (now deal)) place offset size ⌝ }
+    requires { ⌜ node
+        ≡ lentWith «has_tree» (now deal) (now tree) .nodes (segmentLevel size) (segmentPosition offset size) ⌝ }
+    requires { ⌜ length (now out) ≡ 1120 ⌝ }
+    ensures { λ r. ⌜ (r ≡ termsOf (lentWith «has_tree» (now (deal .entry)) (now (tree .entry))) .commitment)
+        × (now (out .exit)
+        ≡ ownPaths (lentWith «has_tree» (now (deal .entry)) (now (tree .entry))) offset size place
+        (now (out .entry))) ⌝ }
+{
+    let level = sizes::segment_level(size);
+    let segment = PathNode {
+        position: sizes::segment_position(offset, size) as usize,
+        node,
+    };
+    let end = 32 * (sizes::deal_level(deal.len() as u64) - level);
+    let entry_position = (place / 64) as usize;
+    lent::write_paths(
+        deal,
+        tree,
+        has_tree,
+        level,
+        segment,
+        entry_position,
+        out,
+        0,
+        end,
+    )
 }
 
 // Compares the entry strings of an accepted record with those of the deal: the 64 bytes at the entry place, and the
@@ -73,12 +127,15 @@ fn compare_deal_entry(
     let seen = compare_strings(entry, own_entry);
     let entry_path = path_in(record, x.entry_path, x.entry_path_length);
     let node = node::node_hash(entry);
+    let levels = entry_path.len() / 32;
+    let own_node = lent::node_in(deal, tree, has_tree, levels, 1, place / 64);
     lent::compare_with_own(
         deal,
         tree,
         has_tree,
         1,
         place / 64,
+        own_node,
         own_path,
         node,
         entry_path,
@@ -86,27 +143,30 @@ fn compare_deal_entry(
     )
 }
 
-// Compares the segment strings of an accepted record with those of the deal: the pairs of nodes above the segment.
+// Compares the segment strings of an accepted record with those of the deal: the pairs of nodes above the segment. The
+// deal's own node over the segment is in hand, and its segment path.
 fn compare_deal_segment(
     deal: &[u8],
     tree: &[u8],
     has_tree: bool,
+    own_node: [u8; 32],
+    own_path: &[u8],
     record: &[u8],
     x: ParsedRecord,
 ) -> Compared
     requires { ⌜ (dealRefusal (lentWith «has_tree» (now deal) (now tree)) ≡ 0)
-        × AcceptedRecord (termsOf (lentWith «has_tree» (now deal) (now tree))) (now «record») x ⌝ }
+        × AcceptedRecord (termsOf (lentWith «has_tree» (now deal) (now tree))) (now «record») x
+        × («own_node»
+        ≡ lentWith «has_tree» (now deal) (now tree) .nodes (segmentLevel (x .size))
+        (segmentPosition (x .offset) (x .size)))
+        × (now «own_path»
+        ≡ segmentPathOf (lentWith «has_tree» (now deal) (now tree)) (x .offset) (x .size)) ⌝ }
     ensures { λ r. ⌜ r
         ≡ segmentWithDeal (lentWith «has_tree» (now (deal .entry)) (now (tree .entry)))
         (fieldsAt (now («record» .entry)) x) ⌝ }
 {
     let level = sizes::segment_level(x.size);
-    let levels = sizes::deal_level(deal.len() as u64) - level;
     let position = sizes::segment_position(x.offset, x.size) as usize;
-    let mut path = [0u8; LONGEST_PATH];
-    lent::write_path(deal, tree, has_tree, levels, level, position, &mut path, 0);
-    let end = 32 * levels;
-    let own_path = &path[..end];
     let commitment = x.commitment;
     let segment_path = path_in(record, x.segment_path, x.segment_path_length);
     let seen = no_difference();
@@ -116,6 +176,7 @@ fn compare_deal_segment(
         has_tree,
         level,
         position,
+        own_node,
         own_path,
         commitment,
         segment_path,
@@ -123,8 +184,8 @@ fn compare_deal_segment(
     )
 }
 
-// Settling over a lent deal with a tree beside it or without one. The deal's own entry path is written once: without a
-// tree it leads to the commitment, and for an accepted record it is the one to compare.
+// Settling over a lent deal with a tree beside it or without one. The deal's own two paths are written in one pass;
+// they lead to the commitment, and for an accepted record they are the ones to compare.
 fn settle_in(deal: &[u8], tree: &[u8], has_tree: bool, record: &[u8]) -> Settled
     ensures { λ r. ⌜ r
         ≡ settleWithDeal (lentWith «has_tree» (now (deal .entry)) (now (tree .entry))) (now («record» .entry)) ⌝ }
@@ -133,33 +194,26 @@ fn settle_in(deal: &[u8], tree: &[u8], has_tree: bool, record: &[u8]) -> Settled
     if refusal != 0 {
         return not_settled(refusal);
     }
-    let size = deal.len() as u64;
+    let d = deal.len() as u64;
     let x = record::parse(record);
-    let place = allowed_place(size, x.place);
-    let levels = sizes::deal_level(size) - 1;
-    let mut path = [0u8; LONGEST_PATH];
-    lent::write_path(
-        deal,
-        tree,
-        has_tree,
-        levels,
-        1,
-        (place / 64) as usize,
-        &mut path,
-        0,
-    );
-    let end = 32 * levels;
-    let own_path = &path[..end];
-    let commitment = own_commitment(deal, tree, has_tree, place, own_path);
-    let refusal = record::check(&commitment, size, record);
+    let place = allowed_place(d, x.place);
+    let size = allowed_size(d, x.size);
+    let offset = allowed_offset(d, x.offset, size);
+    let node = index::segment_node(deal, tree, has_tree, offset, size);
+    let mut own = [0u8; LONGEST_PATHS];
+    let commitment = write_own(deal, tree, has_tree, offset, size, node, place, &mut own);
+    let refusal = record::check(&commitment, d, record);
     if refusal != 0 {
         return not_settled(refusal);
     }
-    let found = compare_deal_entry(deal, tree, has_tree, own_path, record, x);
+    let middle = x.segment_path_length;
+    let end = middle + x.entry_path_length;
+    let found = compare_deal_entry(deal, tree, has_tree, &own[middle..end], record, x);
     if found.differs {
         return settled_from(found);
     }
-    settled_from(compare_deal_segment(deal, tree, has_tree, record, x))
+    let segment_path = &own[..middle];
+    settled_from(compare_deal_segment(deal, tree, has_tree, node, segment_path, record, x))
 }
 
 // Settles a record with a deal: 2 for a deal size that is not allowed, 11 for a deal with stray bits, the refusal of

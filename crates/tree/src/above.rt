@@ -1,5 +1,5 @@
-// A row of nodes, or a part of one, written from the row below it: the two stand in slices of their own, so parts of one
-// tree can be filled at the same time.
+// A row of nodes, or a part of one, written from the row below it: the two stand in slices of their own, so parts of
+// one tree can be filled at the same time.
 use crate::row::over_pairs;
 ghost use mathlib.Core.Path.{_≡_};
 ghost use Prim.Native.Nat.{_+_, _*_, _≤_};
@@ -37,8 +37,8 @@ fn fill_part(below: &[u8], above: &mut [u8], first: usize, count: usize)
     fill_part(below, above, first + left, count - left);
 }
 
-// Writes the nodes over the pairs of `below` into `above`. 12 where `below` is no whole number of pairs or `above` not half
-// as long: then nothing is written.
+// Writes the nodes over the pairs of `below` into `above`. 12 where `below` is no whole number of pairs or `above` not
+// half as long: then nothing is written.
 pub fn fill_row(below: &[u8], above: &mut [u8]) -> u8
     ensures { λ r. ⌜ r ≡ rowCode (now (below .entry)) (now (above .entry)) ⌝ }
     ensures { λ _. ⌜ now (above .exit) ≡ filledRow (now (below .entry)) (now (above .entry)) ⌝ }

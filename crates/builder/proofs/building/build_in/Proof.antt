@@ -110,7 +110,10 @@ write-record-requires : tie.Need-write-record-requires
 write-record-requires c κs =
     let r = c .before .before in (
       fine (r .before .before .before .before),
-      (kept (r .before) .within, omega (arith, r .record-length .ensures, c .before .if4 .left)),
+      (
+        kept (r .before) .within,
+        (kept (r .before) .node-is, omega (arith, r .record-length .ensures, c .before .if4 .left)),
+      ),
     )
 
 same-length : tie.Need-same-length

@@ -1,25 +1,27 @@
 -- Row by row, each field where the one before it ends.
-use mathlib.Core.Path.{_≡_, refl, _∙_}
+use mathlib.Core.Path.{_≡_, refl, sym, _∙_}
+use mathlib.Core.List.{[]}
+use Prim.Native.Nat.{_+_, _*_}
 use native.Mathlib.Omega.{arith}
 use lib.ListN.{length}
 use denote.Ref.{now}
+use Rattle.octets.specs.Splice.{splice}
 use Rattle.octets.specs.LittleEndian.{bytesOf}
 use Rattle.octets.specs.LittleEndianLaws.{length-bytesOf}
+use Rattle.fields.specs.Table.{putField}
 use Rattle.fields.specs.WrittenLaws.{wrote-field}
 use Rattle.record.specs.Form.{tableRow, recordLength}
 use Rattle.lent.specs.LentDeal.{LentDeal, lentWith}
 use Rattle.lent.specs.UsableLaws.{nodes-sized}
 use Rattle.builder.specs.BuildLaws.{entry-start}
-use Rattle.builder.proofs.RecordWritten.{WorkedOut, segment-inside, segment-room, segment-path-sized}
-use Rattle.builder.proofs.RecordWritten.{entry-room, entry-path-sized, SegmentPath, EntryPath, record-written}
+use Rattle.builder.proofs.RecordWritten.{WorkedOut, segment-inside, paths-room, segment-path-sized}
+use Rattle.builder.proofs.RecordWritten.{entry-path-sized, SegmentLevels, EntryLevels, SegmentPath, EntryPath}
+use Rattle.builder.proofs.RecordWritten.{record-written}
 use borrow.Author.Needs.{needs}
 use Rattle.builder.proofs.writing.write_record.Statement.{statement}
 use Rattle.builder.proofs.writing.write_record.Tie as tie
 
 -- the field before each, and where the function starts, before the level and the position are worked out
-abbrev four : tie.After-put-path → tie.After-put-number3
-four c = c .before .before .before .before .before
-
 abbrev three : tie.After-put-number3 → tie.After-put-number2
 three c = c .before .before .before .before .before
 
@@ -106,50 +108,37 @@ put-number-requires-3 c κs =
     omega (
       arith,
       same,
-      entered p .pre .1 .1,
+      entered p .pre .1 .1 .1,
       k .put-number2 .ensures .1,
       two k .put-number .ensures .1,
       first .put-node .ensures .1,
     )
 
-row-requires-5 : tie.Need-row-requires-5
-row-requires-5 c κs = search needs
-
-put-path-requires : tie.Need-put-path-requires
-put-path-requires c κs =
-    let k = c .before .before .before .before in
+put-paths-requires : tie.Need-put-paths-requires
+put-paths-requires c κs =
+    let k = c .before .before .before in
     let w = worked-out (position k) in
     let s = entered (position k) in
-    (s .pre .0, (segment-inside w, segment-room w (kept k) (s .pre .1 .1) (after-numbers k)))
-
-row-requires-6 : tie.Need-row-requires-6
-row-requires-6 c κs = search needs
-
-put-path-requires-2 : tie.Need-put-path-requires-2
-put-path-requires-2 c κs =
-    let f = c .before .before .before .before in
-    let k = four f in
-    let w = worked-out (position k) in
-    let s = entered (position k) in (
+    let low = w .within .size-is .level-low in (
       s .pre .0,
       (
-        entry-start (w .within),
-        entry-room w (f .put-path .kept .0 ∙ kept k) (s .pre .1 .1)
-            (omega (arith, f .put-path .ensures .1, after-numbers k)),
+        (omega (arith, low, w .level-is), segment-inside w),
+        (
+          s .pre .1 .1 .0 ∙ (λ j. deal s .nodes (sym (w .level-is) j) (sym (w .position-is) j)),
+          (entry-start (w .within), paths-room w (kept k) (s .pre .1 .1 .1) (after-numbers k)),
+        ),
       ),
     )
 
 same-length : tie.Need-same-length
 same-length c =
     let last = c .before .before in
-    let path = last .before .before .before .before .before in
-    last .put-path2 .kept .0 ∙ path .put-path .kept .0 ∙ kept (four path)
+    last .put-paths .kept .0 ∙ kept (last .before .before .before .before)
 
 returns : tie.Need-returns
 returns c =
-    let f6 = c .before .before in
-    let f5 = f6 .before .before .before .before .before in
-    let f4 = four f5 in
+    let f5 = c .before .before in
+    let f4 = f5 .before .before .before .before in
     let f3 = three f4 in
     let f2 = two f3 in
     let f1 = one f2 in
@@ -157,7 +146,8 @@ returns c =
     let a = entered p .args in
     let w = worked-out p in
     let size = f1 .put-node .ensures .2 in
-    record-written w (now (a .out)) size (entered p .pre .1 .1) (
+    let at = f4 .put-number3 .result in
+    record-written w (now (a .out)) size (entered p .pre .1 .1 .1) (
       _,
       _,
       wrote-field (tableRow 0) (a .entry .commitment) (f1 .before .row .ensures) size (f1 .put-node .ensures .0)
@@ -178,15 +168,13 @@ returns c =
             wrote-field (tableRow 3) (bytesOf 8 (a .place)) (f4 .before .row4 .ensures) (length-bytesOf 8 (a .place))
                 (f4 .put-number3 .ensures .0) (f4 .put-number3 .ensures .1),
             (
-              _,
-              _,
-              wrote-field (tableRow 4) (SegmentPath w) (f5 .before .before .row5 .ensures) (segment-path-sized w)
-                  (f5 .put-path .ensures .0) (f5 .put-path .ensures .1),
+              splice (f4 .put-number3 .last .0) at (putField (tableRow 4 .tag) (SegmentPath w) []),
+              at + (3 + 32 * SegmentLevels w),
+              wrote-field (tableRow 4) (SegmentPath w) refl (segment-path-sized w) refl refl,
               (
-                _,
-                _,
-                wrote-field (tableRow 5) (EntryPath w) (f6 .before .before .row6 .ensures) (entry-path-sized w)
-                    (f6 .put-path2 .ensures .0) (f6 .put-path2 .ensures .1),
+                f5 .put-paths .last .0,
+                at + (3 + 32 * SegmentLevels w) + (3 + 32 * EntryLevels w),
+                wrote-field (tableRow 5) (EntryPath w) refl (entry-path-sized w) (f5 .put-paths .ensures) refl,
                 refl,
               ),
             ),
@@ -209,9 +197,6 @@ write-record-spec =
     put-number-requires-2
     row-requires-4
     put-number-requires-3
-    row-requires-5
-    put-path-requires
-    row-requires-6
-    put-path-requires-2
+    put-paths-requires
     same-length
     returns)

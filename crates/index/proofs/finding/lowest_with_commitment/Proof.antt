@@ -1,5 +1,5 @@
--- No slot below i keeps the commitment, so the lowest that does is the lowest of those from i on; and the areas that were
--- hashed below i were hashed in vain.
+-- No slot below i keeps the commitment, so the lowest that does is the lowest of those from i on; and the areas that
+-- were hashed below i were hashed in vain.
 use mathlib.Core.Path.{_≡_, sym, ap, _∙_}
 use mathlib.Core.Bool.{Bool, true}
 use mathlib.Core.List.{List}
@@ -16,7 +16,8 @@ use Rattle.sizes.specs.Sizes.{lentSizeAllowed, entryCount}
 use Rattle.sizes.specs.SizesLaws.{lent-size}
 use Rattle.lent.specs.LentDeal.{lentDeal}
 use Rattle.index.specs.KeptRowsLaws.{slot-within}
-use Rattle.index.specs.Find.{keepsCommitment, keptBy, lowestWithCommitment, foundIn}
+use Rattle.index.specs.Find.{keepsCommitment, lowestWithCommitment, foundIn}
+use Rattle.index.specs.Tried.{keptBy}
 use Rattle.index.proofs.Naming.{Missed, names, row-keeps, row-found, tried-in-vain, missed-next}
 use Rattle.index.proofs.finding.lowest_with_commitment.Statement.{statement}
 use Rattle.index.proofs.finding.lowest_with_commitment.Tie as tie

@@ -36,7 +36,7 @@ abbrev Start : Type 0
 Start = tie.Start Inv-loop μ-loop
 
 abbrev start : tie.At-loop Inv-loop μ-loop → Start
-start l = l .before .before .before .before .before .before
+start l = l .before .before .before .before .before
 
 -- the deal's nodes, the level of its top, and the number of levels up to it
 abbrev nodes : Start → NodeSource
@@ -53,7 +53,7 @@ each s = nodes-sized (s .args .has-tree) (now (s .args .deal)) (now (s .args .tr
 
 own-length : (s : Start) → length (now (s .args .own)) ≡ 32 * levels s
 own-length s =
-    ap length (s .pre .1 .1)
+    ap length (s .pre .1 .1 .1)
     ∙ path-length (nodes s) (top s) (each s) (pathStart (levels s) (s .args .level) (s .args .position)) (s .pre .1 .0)
 
 -- a turn of the loop
@@ -78,17 +78,13 @@ own-string c =
     ∙ own-pair (nodes s) (top s) (now (s .args .own)) (levels s) (s .args .level) i p b (below c) (each s)
     (l .loop .inv .1)
 
-node-in-requires : tie.Need-node-in-requires Inv-loop μ-loop
-node-in-requires c κs = let s = c .before .before .before .before in (s .pre .0, s .pre .1 .0)
-
 loop-holds : tie.Need-loop-holds Inv-loop μ-loop
 loop-holds c =
-    let f = c .before in
-    let s = f .before .before .before .before in
+    let s = c .before .before .before .before in
     let a = s .args in (
       omega arith,
-      own-start (nodes s) (top s) (now (a .own)) (levels s) (a .level) (a .position) (c .node-in .result) (s .pre .1 .0)
-          (s .pre .1 .1) (c .node-in .ensures),
+      own-start (nodes s) (top s) (now (a .own)) (levels s) (a .level) (a .position) (a .own-node) (s .pre .1 .0)
+          (s .pre .1 .1 .1) (s .pre .1 .1 .0),
       compared-start (nodes s) (levels s) (a .level) (a .position) (a .x) (now (a .path)) (a .seen),
     )
 
@@ -187,7 +183,6 @@ compare-with-own-spec =
     (tie.spec
     Inv-loop
     μ-loop
-    node-in-requires
     loop-holds
     mul-node-at
     node-at-requires

@@ -68,22 +68,35 @@ path-in-requires c κs = within (start (c .before .before) .pre .1) .entry-path-
 node-hash-requires : tie.Need-node-hash-requires
 node-hash-requires c κs = search needs
 
-compare-with-own-requires : tie.Need-compare-with-own-requires
-compare-with-own-requires c κs =
+-- where the record's path starts
+path-inside : (p : tie.After-path-in)
+    → InTree (dealLevel (dealSize (deal (start1 p))))
+    (pathStart (length (now (p .path-in .result)) / 32) 1 (entryPosition (named (start1 p) .place)))
+path-inside p =
+    let s = start1 p in
+    subst (InTree (dealLevel (dealSize (deal s)))) (sym (start-is p))
+    (entry-start (inside (deal s) (s .pre .0) (taken s)))
+
+node-in-requires : tie.Need-node-in-requires
+node-in-requires c κs =
     let p = c .before in
     let s = start1 p in
-    let there = entry-start (inside (deal s) (s .pre .0) (taken s)) in
-    let back = sym (start-is p) in (
+    (usable (deal s) (s .pre .0), path-inside p)
+
+compare-with-own-requires : tie.Need-compare-with-own-requires
+compare-with-own-requires c κs =
+    let p = c .before .before in
+    let s = start1 p in (
       usable (deal s) (s .pre .0),
       (
-        subst (InTree (dealLevel (dealSize (deal s)))) back there,
-        s .pre .2 ∙ ap (siblingsFrom (deal s .nodes)) back,
+        path-inside p,
+        (c .node-in .ensures, s .pre .2 ∙ ap (siblingsFrom (deal s .nodes)) (sym (start-is p))),
       ),
     )
 
 returns : tie.Need-returns
 returns c =
-    let h = c .before in
+    let h = c .before .before in
     let p = h .before in
     let l = p .before in
     let o = l .before in
@@ -107,5 +120,6 @@ compare-deal-entry-spec =
     compare-strings-requires
     path-in-requires
     node-hash-requires
+    node-in-requires
     compare-with-own-requires
     returns)

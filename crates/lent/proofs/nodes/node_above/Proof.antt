@@ -10,8 +10,8 @@ use Rattle.merkle.specs.TreeLaws.{node-split}
 use Rattle.paths.specs.Start.{PathStart, pathStart}
 use Rattle.lent.specs.UsableLaws.{node-level}
 use borrow.Author.Needs.{needs}
-use Rattle.lent.proofs.comparing.node_above.Statement.{statement}
-use Rattle.lent.proofs.comparing.node_above.Tie as tie
+use Rattle.lent.proofs.nodes.node_above.Statement.{statement}
+use Rattle.lent.proofs.nodes.node_above.Tie as tie
 
 abbrev above : tie.Start → PathStart
 above s = pathStart (s .args .levels) (s .args .level + 1) (s .args .position)
