@@ -5,10 +5,10 @@
  * pointer may be dangling only where its length is 0, and is never NULL. Memory that is written must not overlap any
  * other argument.
  *
- * An output that has one fixed length is refused with 12, before all else, where it has another; a tree is refused with
- * 12 right after 11. Outputs are written with code 0 (numbers also with 15 in the bookings, strings with 17 in the
- * settlings) and left as they were with every other code. A stream's state is written by vz_stream_take with every code
- * but 12.
+ * An output that has one fixed length is refused with 12, before all else, where it has another; a second deal is
+ * refused with 12 right after 2, a tree right after 11. Outputs are written with code 0 (numbers also with 15 in the
+ * bookings, strings with 17 in the settlings) and left as they were with every other code. A stream's state is written
+ * by vz_stream_take with every code but 12.
  */
 #ifndef VIZHUTHAMEN_H
 #define VIZHUTHAMEN_H
@@ -33,14 +33,15 @@ enum {
   VZ_SEGMENT_PATH = 9,       /* the segment path does not lead to the deal commitment */
   VZ_ENTRY_PATH = 10,        /* the entry path does not lead to it */
   VZ_STRAY_BITS = 11,        /* a node of a lent run, deal, stream or segment has stray bits */
-  VZ_OUTPUT = 12,            /* a lent output is too short, or an output or a tree is not of its one length */
+  VZ_OUTPUT = 12,            /* an output is too short, or an output, second deal or tree is not of its one length */
   VZ_NO_SLOT = 13,           /* no slot is free */
   VZ_NO_PLACE = 14,          /* no free place */
   VZ_ALREADY_KEPT = 15,      /* the segment is kept already */
-  VZ_NOT_KEPT = 16,          /* no kept entry at that place, or with that commitment */
+  VZ_NOT_KEPT = 16,          /* no kept entry at that place, or with that commitment; to cancel, no standing entry */
   VZ_COLLISION = 17,         /* two different 64-byte strings with one node hash are shown */
   VZ_OTHER_PLACE = 18,       /* the two records name different entry places */
   VZ_PATH_BITS = 19,         /* a node of a path has stray bits */
+  VZ_OVERLAP = 20,           /* two standing entries overlap */
   VZ_SEGMENT_LENGTH = 24     /* the segment has another length than the raw length gives */
 };
 
@@ -117,6 +118,18 @@ uint32_t vz_find(const uint8_t *deal, size_t deal_len, const uint8_t *commitment
 uint32_t vz_book(uint8_t *deal, size_t deal_len, const uint8_t *segment, size_t segment_len, uint64_t *offset,
                  uint64_t *place);
 
+/* Cancels the entry that stands at a place, kept or not: with 0 its 64 bytes are zeros, and no other byte changes. Its
+ * slot is then free for booking, and so are its segment's bytes wherever no other standing entry covers them. Codes: 2,
+ * 11, 6, 16 where no entry stands. */
+uint32_t vz_cancel(uint8_t *deal, size_t deal_len, uint64_t place);
+
+/* Collects a deal: with 0 second, of deal_len bytes, is a new deal without gaps, whatever it held. The segments of the
+ * standing entries, all bytes of each area, are packed from 0 by falling area, equal ones by old offset; the entries,
+ * with commitment and size as they were, stand from the first slot on in that order; all else is zero. The deal itself
+ * stays; records that were built from it belong to its commitment, not to the new deal's. Codes: 2, 12 for a second
+ * deal of any other length, 11, 20. */
+uint32_t vz_collect(const uint8_t *deal, size_t deal_len, uint8_t *second, size_t second_len);
+
 /* Builds the inclusion record of the entry at a place: it fills the first length bytes of record, the rest stays.
  * 1,962 bytes hold any record. Codes: 2, 11, 6, 16, 12. */
 uint32_t vz_build(const uint8_t *deal, size_t deal_len, uint64_t place, uint8_t *record, size_t record_len,
@@ -143,10 +156,11 @@ uint32_t vz_settle_with_deal(const uint8_t *deal, size_t deal_len, const uint8_t
  * deal's commitment in the last 32 bytes. It has D - 32 bytes; any other length, longer ones too, is refused with 12.
  *
  * The functions that take a tree take every inner node that they need as it stands there, and hash little of the deal.
- * With a tree that was filled for the deal, where since then both were changed by vz_tree_fill and vz_book_with_tree
- * alone, their answers are those of the functions without one. With any other tree they answer too, but a record that
- * is built may be refused by vz_check, a kept segment may be booked again, and the two strings of a settling may have
- * two node hashes. */
+ * With a tree that was filled for the deal, where since then both were changed by vz_tree_fill, vz_book_with_tree and
+ * vz_cancel_with_tree alone, their answers are those of the functions without one. With any other tree they answer too,
+ * but a record that is built may be refused by vz_check, a kept segment may be booked again, and the two strings of a
+ * settling may have two node hashes. vz_collect_with_tree fills a tree for the second deal, as vz_tree_fill would; the
+ * deal's own tree it does not need. */
 
 /* Writes every inner node of a deal into its tree. Codes: 2, 11, 12. */
 uint32_t vz_tree_fill(const uint8_t *deal, size_t deal_len, uint8_t *tree, size_t tree_len);
@@ -163,6 +177,15 @@ uint32_t vz_tree_row(const uint8_t *below, size_t below_len, uint8_t *above, siz
  * tree changes. Codes: 2, 4, 11, 12, 15, 13, 14. */
 uint32_t vz_book_with_tree(uint8_t *deal, size_t deal_len, uint8_t *tree, size_t tree_len, const uint8_t *segment,
                            size_t segment_len, uint64_t *offset, uint64_t *place);
+
+/* vz_cancel with the tree in hand. With 0 every node above the 64 bytes is worked out anew, from the bottom up; no
+ * other byte of the tree changes. Codes: 2, 11, 12, 6, 16. */
+uint32_t vz_cancel_with_tree(uint8_t *deal, size_t deal_len, uint8_t *tree, size_t tree_len, uint64_t place);
+
+/* vz_collect with a tree for the second deal: with 0 it holds every inner node of the new deal, whatever it held.
+ * Codes: 2, 12 (second deal), 11, 12 (tree), 20. */
+uint32_t vz_collect_with_tree(const uint8_t *deal, size_t deal_len, uint8_t *second, size_t second_len, uint8_t *tree,
+                              size_t tree_len);
 
 /* vz_build with the tree in hand: whether the entry is kept, and the nodes of both paths, are read there. Codes: 2, 11,
  * 12 (tree), 6, 16, 12 (record). */

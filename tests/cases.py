@@ -1,7 +1,8 @@
 """Calls of the library's routines, random and adversarial."""
 from model import MAX_RAW, area, filled, height, index_numbers, node_place, pad, power, segment_bit, segment_length
-from operations import (BOOK, BUILD, CHECK, COMMITMENT, FIELDS, FILL, FIND, INSPECT, MAKE, MODEL, NAMES, NUMBERS, PAD, PLAIN_FORM, READ, ROW,
-                        SETTLE, SETTLE_DEAL, SETTLE_TREE, SHA256, STREAM, UNPAD, Case)
+from operations import (BOOK, BUILD, CANCEL, CHECK, COLLECT, COMMITMENT, FIELDS, FILL, FIND, INSPECT, MAKE, MODEL,
+                        NAMES, NUMBERS, PAD, PLAIN_FORM, READ, ROW, SETTLE, SETTLE_DEAL, SETTLE_TREE, SHA256, STREAM,
+                        UNPAD, Case)
 
 RAW_LENGTHS = (1, 2, 31, 32, 63, 64, 126, 127, 128, 254, 255, 381, 508, 1016)
 TOTALS = (0, 1, 31, 32, 33, 63, 64, 65, 96, 127, 128, 256, 1000, 1024, 2048, 4064, 4096)
@@ -123,12 +124,14 @@ def segment_size(rng, d):
 
 
 def deal(rng, sizes, steps=6):
-    """A deal made by bookings, and then spoilt in one of the ways that the rules tell apart."""
+    """A deal made by bookings and cancellations, and then spoilt in one of the ways that the rules tell apart."""
     m, d = MODEL, rng.choice(sizes)
     _, n, start = index_numbers(d)
     data = bytes(d) if rng.randrange(3) else run(rng, start) + bytes(d - start)
     for _ in range(rng.randrange(steps)):
         data = m.book(data, run(rng, segment_size(rng, d)))[3]
+        if not rng.randrange(4):
+            data = m.cancel(data, start + 64 * rng.randrange(n))[1]
     data = bytearray(data)
     for _ in range(rng.choice((0, 0, 0, 1, 2))):
         i = rng.randrange(n)
@@ -179,6 +182,21 @@ def standing_places(data):
     if code or len(data) > 1 << 24:
         return []
     return [start + 64 * i for i in range(n) if MODEL.standing(data, i)]
+
+
+def entry_place(rng, data):
+    """Mostly the place of a standing entry; now and then one that differs from it in its high bits alone."""
+    places = standing_places(data)
+    p = rng.choice(places) if places and rng.randrange(4) else place(rng, len(data))
+    return p if rng.randrange(12) else p ^ 1 << rng.choice((32, 40, 63))
+
+
+def second_deal(rng, data):
+    """What a deal is collected into: any bytes, zeros, the deal once more; now and then of another length."""
+    n = len(data)
+    if not rng.randrange(10):
+        return rng.randbytes(rng.choice((0, 1, 32, n // 2, max(n - 1, 0), max(n - 32, 0), n + 1, n + 32, 2 * n)))
+    return rng.choice((rng.randbytes(n), rng.randbytes(n), bytes(n), data))
 
 
 def kept_places(data):
@@ -377,10 +395,12 @@ def deal_case(rng, op, data):
         return op, data, commitment_for(rng, data)
     if op == BOOK:
         return op, data, segment_for(rng, data)
+    if op == CANCEL:
+        return op, data, b"", entry_place(rng, data)
+    if op == COLLECT:
+        return op, data, second_deal(rng, data)
     if op == BUILD:
-        places = standing_places(data)
-        p = rng.choice(places) if places and rng.randrange(4) else place(rng, len(data))
-        return op, data, rng.randbytes(rng.choice((0, 201, 202, 233, 234, 300, 1000, 2000))), p
+        return op, data, rng.randbytes(rng.choice((0, 201, 202, 233, 234, 300, 1000, 2000))), entry_place(rng, data)
     if op == CHECK:
         return op, maybe_spoilt(rng, record_of(rng, data)), root_of(rng, data), deal_size(rng, data)
     if op == SETTLE:

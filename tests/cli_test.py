@@ -17,12 +17,12 @@ import unittest
 from pathlib import Path
 
 from cases import node
-from model import MAX_RAW, Model, filled, pad, segment_length, unpad
+from model import MAX_RAW, Model, area, filled, index_numbers, pad, segment_length, unpad
 
 ROOT = Path(__file__).resolve().parent.parent
 BINARY = Path(os.environ.get("VIZHUTHAMEN", ROOT / "rust" / "target" / "release" / "vizhuthamen"))
-COMMANDS = ("new", "commit", "stream", "pad", "unpad", "book", "list", "tally", "find", "build", "check", "settle", "settle-deal",
-            "show", "fsck", "repair", "salvage")
+COMMANDS = ("new", "commit", "stream", "pad", "unpad", "book", "cancel", "collect", "list", "tally", "find", "build", "check", "settle",
+            "settle-deal", "show", "fsck", "repair", "salvage")
 MODEL = Model()
 USAGE, DATA, IO, BUSY = 64, 65, 74, 75
 
@@ -194,6 +194,255 @@ class MainJob(Calls):
         self.assertEqual(self.answer("tally", "deal"), "blank 1\ndamaged 0\nvalid 3\n")
 
 
+class Cancelling(Calls):
+    def test_an_entry_its_slot_and_its_bytes(self):
+        deal, places = self.booked(1024, (256, 128, 128))
+        commitment = deal[places[1] : places[1] + 32].hex()
+        out, err = self.call("cancel", "deal", places[1])
+        self.assertEqual(out, f"offset 256\nplace {places[1]}\nsize 128\ncommitment {commitment}\n")
+        notes = err.splitlines()
+        self.assertIn("the segment's bytes stay in deal", notes[0])
+        self.assertIn("vizhuthamen collect deal NEW", notes[0])
+        self.assertIn("deal has another commitment now; records that were built before belong to the old one", notes[1])
+        cancelled = self.get("deal")
+        self.assertEqual(cancelled, deal[: places[1]] + bytes(64) + deal[places[1] + 64:])
+        self.assertEqual(self.answer("tally", "deal"), "blank 2\ndamaged 0\nvalid 2\n")
+        self.assertEqual(self.files(), ["deal", "deal.vz"])
+        out, err = self.call("cancel", "deal", places[1], status=16)
+        self.assertTrue(out.startswith("code 16: "), out)
+        self.assertEqual(err, f"vizhuthamen: slot 1 (place {places[1]}) is blank; see: vizhuthamen list deal\n")
+        self.assertEqual(self.get("deal"), cancelled)
+        segment = self.put("segment", self.segment())
+        self.assertTrue(self.answer("book", "deal", "segment").startswith(f"offset 256\nplace {places[1]}\n"))
+        self.assertEqual(self.get("deal"), MODEL.book(cancelled, segment)[3])
+
+    def test_records_belong_to_the_old_commitment(self):
+        deal, places = self.booked(1024, (256, 128))
+        self.answer("build", "deal", places[0], "-o", "record")
+        old = self.answer("commit", "deal").strip()
+        self.answer("cancel", "deal", places[1])
+        new = self.answer("commit", "deal").strip()
+        self.answer("check", old, 1024, "record")
+        self.refused(9, "check", new, 1024, "record")
+        self.refused(9, "settle-deal", "deal", "record")
+        self.answer("build", "deal", places[0], "-o", "record")
+        self.answer("check", new, 1024, "record")
+
+    def test_an_entry_that_stands_and_is_not_kept(self):
+        deal, places = self.booked(512, (128,))
+        spoilt = self.put("deal", bytes([deal[0] ^ 1]) + deal[1:])
+        self.answer("cancel", "deal", places[0])
+        self.assertEqual(self.get("deal"), MODEL.cancel(spoilt, places[0])[1])
+
+    def test_refusals(self):
+        deal, places = self.booked(1024, (128, 128))
+        spoilt = bytearray(deal)
+        spoilt[places[0]] ^= 1
+        spoilt[places[1] : places[1] + 64] = MODEL.entry(bytes(32), 64, 128)
+        self.put("deal", bytes(spoilt))
+        for place, what in ((places[0], "is damaged; see: vizhuthamen fsck deal"), (960, "is blank; see: vizhuthamen list deal"),
+                            (places[1], "holds an entry that does not stand; see: vizhuthamen fsck deal")):
+            out, err = self.call("cancel", "deal", place, status=16)
+            self.assertTrue(out.startswith("code 16: "), out)
+            self.assertIn(f"(place {place}) {what}\n", err)
+        for place in (0, 704, 767, 769, 800, 1024, (1 << 64) - 64):
+            out, err = self.call("cancel", "deal", place, status=6)
+            self.assertTrue(out.startswith("code 6: "), out)
+            self.assertIn("an entry place here is a multiple of 64 from 768 to 960; they are shown by: vizhuthamen list deal\n", err)
+        self.assertEqual(self.get("deal"), bytes(spoilt))
+        self.put("deal", deal[:31] + b"\x40" + deal[32:])
+        for place in (places[0], 960, 1):
+            out, err = self.call("cancel", "deal", place, status=11)
+            self.assertIn("vizhuthamen fsck deal", err)
+        self.put("short", bytes(1000))
+        self.assertIn("short has 1000 bytes", self.call("cancel", "short", 0, status=2)[1])
+        self.assertIn("the deal must be a file", self.failed(USAGE, "cancel", "-", 256))
+        self.failed(IO, "cancel", "missing", 256)
+        self.assertEqual(self.files(), ["deal", "short"])
+
+    def test_the_entry_that_is_meant(self):
+        deal, places = self.booked(1024, (128, 128))
+        mine, other = (deal[p : p + 32].hex() for p in places)
+        self.refused(1, "cancel", "deal", places[0], "--commitment", mine[:-2])
+        error = self.failed(DATA, "cancel", "deal", places[0], "--commitment", other)
+        self.assertIn(f"the entry at place {places[0]} has the commitment {mine}, which is not the given one; nothing is changed", error)
+        self.refused(16, "cancel", "deal", 960, "--commitment", other)
+        self.assertEqual((self.get("deal"), self.files()), (deal, ["deal"]))
+        self.answer("cancel", "deal", places[0], "--commitment", mine.upper())
+        self.assertEqual(self.get("deal"), MODEL.cancel(deal, places[0])[1])
+
+    def test_a_cancelled_entry_is_brought_back(self):
+        deal, places = self.booked(2048, (256, 128, 128))
+        self.put("segment", deal[256:384])
+        self.answer("cancel", "deal", places[1])
+        self.answer("repair", "deal", "--segment", "segment", "--place", places[1])
+        self.assertEqual(self.get("deal"), deal)
+
+
+class Collecting(Calls):
+    def moved(self, old, new):
+        """Where each standing entry of a deal stands in the new one, from the rules."""
+        _, n, start = index_numbers(len(old))
+        rows = [(MODEL.standing(old, i), start + 64 * i) for i in range(n) if MODEL.standing(old, i)]
+        rows.sort(key=lambda row: (-area(row[0][2]), row[0][1]))
+        moved = []
+        for i, ((commitment, offset, size), place) in enumerate(rows):
+            _, new_offset, _ = MODEL.standing(new, i)
+            moved.append({"place": place, "new_place": start + 64 * i, "offset": offset, "new_offset": new_offset, "size": size,
+                          "commitment": commitment.hex()})
+        return moved
+
+    def test_gaps_are_closed(self):
+        deal, places = self.booked(4096, (128, 512, 128, 256))
+        for place in places[:1]:
+            deal = MODEL.cancel(deal, place)[1]
+        self.put("deal", deal)
+        out, err = self.call("collect", "deal", "new")
+        new = MODEL.collect(deal, bytes(4096))[1]
+        self.assertEqual((self.get("deal"), self.get("new")), (deal, new))
+        self.assertEqual(self.get("new.vz"), b"vizhuthamen deal 1\nsize 4096\n")
+        self.assertEqual(self.files(), ["deal", "new", "new.vz"])
+        rows = [line.split() for line in out.splitlines()]
+        self.assertEqual(rows[0], ["place", "new_place", "offset", "new_offset", "size", "commitment"])
+        self.assertEqual([dict(zip(rows[0], row)) for row in rows[1:]],
+                         [{k: str(v) for k, v in row.items()} for row in self.moved(deal, new)])
+        self.assertIn("records that were built from deal belong to its commitment; those of new are built anew, at the new places", err)
+        self.answer("fsck", "new")
+        self.records(deal, new)
+
+    def records(self, deal, new):
+        """A record of the old deal is the old deal's alone; at the new places the new deal has others, which are accepted."""
+        old_root, new_root = (MODEL.commitment(d)[1].hex() for d in (deal, new))
+        for row in self.moved(deal, new):
+            self.answer("build", "deal", row["place"], "-o", "old")
+            self.answer("build", "new", row["new_place"], "-o", "record")
+            self.answer("check", old_root, 4096, "old")
+            self.answer("check", new_root, 4096, "record")
+            self.refused(9, "check", new_root, 4096, "old")
+            found = {"offset": row["new_offset"], "size": row["size"], "place": row["new_place"]}
+            self.assertEqual(self.answer("find", "new", row["commitment"]), "".join(f"{k} {v}\n" for k, v in found.items()))
+
+    def test_any_deal_that_can_be_collected(self):
+        for i in range(25):
+            deal = bytes(4096) if i % 2 else b"".join(node(self.rng) for _ in range(120)) + bytes(256)
+            for _ in range(self.rng.randrange(9)):
+                deal = MODEL.book(deal, self.segment(self.rng.choice((128, 256, 512, 1024)))[: self.rng.choice((1, 100, 130, 1024))])[3]
+                deal = MODEL.cancel(deal, 3840 + 64 * self.rng.randrange(5))[1] if self.rng.randrange(3) else deal
+            deal = bytearray(deal)
+            deal[self.rng.randrange(1024)] ^= self.rng.randrange(2)  # now and then a segment that is not kept: it is moved as it is
+            self.put("deal", bytes(deal))
+            out = json.loads(self.answer("collect", "deal", f"new{i}", "--json"))
+            new = MODEL.collect(bytes(deal), bytes(4096))[1]
+            self.assertEqual((self.get("deal"), self.get(f"new{i}")), (deal, new))
+            self.assertEqual(out, {"code": 0, "meaning": "done", "size": 4096, "moved": self.moved(deal, new), "left": []})
+
+    def test_an_empty_deal_and_the_largest(self):
+        self.put("deal", bytes(512))
+        self.assertEqual(self.answer("collect", "deal", "new"), "place  new_place  offset  new_offset  size  commitment\n")
+        self.assertEqual(self.get("new"), bytes(512))
+        self.answer("new", "large", 1 << 24)
+        quarter, small = self.put("quarter", self.segment(1 << 12) * (1 << 10)), self.put("small", self.segment())
+        for name in ("small", "quarter"):
+            self.answer("book", "large", name)
+        self.answer("collect", "large", "packed")
+        packed = self.get("packed")
+        self.assertEqual((packed[: 1 << 22], packed[1 << 22 : (1 << 22) + 256]), (quarter, small + bytes(128)))
+        self.answer("fsck", "packed")
+
+    def test_no_file_is_overwritten(self):
+        deal, _ = self.booked(1024, (128,))
+        self.put("taken", b"precious")
+        self.path("folder").mkdir()
+        self.path("nowhere").symlink_to("missing")
+        for name in ("taken", "folder", "nowhere"):
+            self.assertIn("the file exists", self.failed(IO, "collect", "deal", name))
+        self.path("link").symlink_to("deal")
+        os.link(self.path("deal"), self.path("second"))
+        for name in ("deal", "./deal", "folder/../deal", str(self.path("deal")), "link", "second"):
+            self.assertIn("is the deal that is collected; NEW must be another file", self.failed(USAGE, "collect", "deal", name))
+            self.failed(USAGE, "collect", "link", name)
+        self.failed(USAGE, "collect", "deal", "-")
+        self.failed(IO, "collect", "deal", "no/such/folder")
+        self.assertEqual((self.get("deal"), self.get("taken")), (deal, b"precious"))
+        self.assertEqual(self.files(), ["deal", "folder", "link", "nowhere", "second", "taken"])
+        self.answer("collect", "second", "folder/new")  # a deal with several names is read as any other
+
+    def test_from_standard_input(self):
+        deal, _ = self.booked(1024, (256, 128))
+        self.assertEqual(self.answer("collect", "-", "new", stdin=deal), self.answer("collect", "deal", "other"))
+        self.assertEqual(self.get("new"), self.get("other"))
+        with open(self.path("deal"), "rb") as file:
+            ran = subprocess.run([self.program, "collect", "-", "deal"], stdin=file, cwd=self.folder, capture_output=True)
+        self.assertEqual((ran.returncode, self.get("deal")), (USAGE, deal))
+
+    def test_refusals(self):
+        self.put("short", bytes(1000))
+        self.assertIn("short has 1000 bytes", self.call("collect", "short", "new", status=2)[1])
+        self.put("long", bytes((1 << 24) + 1))
+        self.assertIn("long has more than 16777216 bytes", self.call("collect", "long", "new", status=2)[1])
+        deal, _ = self.booked(1024, (128,))
+        self.put("deal", deal[:31] + b"\x80" + deal[32:])
+        self.assertIn("vizhuthamen fsck deal", self.call("collect", "deal", "new", status=11)[1])
+        self.failed(IO, "collect", "missing", "new")
+        self.failed(IO, "collect", ".", "new")
+        self.put("new.vz", b"vizhuthamen deal 1\nsize 512\n")
+        self.put("deal", deal)
+        self.assertIn("says that it has 512", self.failed(DATA, "collect", "deal", "new"))
+        self.assertEqual(self.files(), ["deal", "long", "new.vz", "short"])
+
+    def test_overlapping_entries_are_named(self):
+        deal, places = self.booked(2048, (256, 128))
+        over = deal[:1920] + MODEL.entry(bytes(32), 128, 128) + MODEL.entry(bytes(32), 0, 512)
+        self.put("deal", over)
+        out, err = self.call("collect", "deal", "new", status=20)
+        self.assertEqual(out.splitlines(), ["code 20: two standing entries overlap", "slot 2 (place 1920) overlaps slot 0",
+                                            "slot 3 (place 1984) overlaps slot 0"])
+        for part in ("vizhuthamen fsck deal", "vizhuthamen list deal", "vizhuthamen cancel deal PLACE"):
+            self.assertIn(part, err)
+        value = json.loads(self.answer("collect", "deal", "new", "--json", status=20))
+        self.assertEqual([(w["slot"], w["place"], w["overlaps"]) for w in value["overlapping"]], [(2, 1920, 0), (3, 1984, 0)])
+        self.assertEqual((self.get("deal"), self.files()), (over, ["deal"]))
+        for place in (1920, 1984):
+            self.answer("cancel", "deal", place)
+        self.answer("collect", "deal", "new")
+        self.assertEqual(self.get("new"), MODEL.collect(deal, bytes(2048))[1])
+
+    def test_a_slot_that_is_not_sound_is_not_left_out_unasked(self):
+        deal, places = self.booked(1024, (128, 128, 256))
+        spoilt = bytearray(deal)
+        spoilt[places[0]] ^= 1
+        spoilt[960:] = MODEL.entry(bytes(32), 64, 128)
+        self.put("deal", bytes(spoilt))
+        error = self.failed(DATA, "collect", "deal", "new")
+        for part in (f"slot 0 (place {places[0]}) is damaged, and the new deal would be without it", "nothing is written",
+                     "vizhuthamen fsck deal", "vizhuthamen repair deal", "--force"):
+            self.assertIn(part, error)
+        self.assertEqual(self.files(), ["deal"])
+        out, err = self.call("collect", "deal", "new", "--force", "--json")
+        self.assertEqual([(w["slot"], w["state"]) for w in json.loads(out)["left"]], [(0, "damaged"), (3, "valid")])
+        self.assertIn(f"slot 0 (place {places[0]}) is damaged, and is left out\n", err)
+        self.assertEqual(self.get("new"), MODEL.collect(bytes(spoilt), bytes(1024))[1])
+
+    def test_permissions_of_the_new_deal(self):
+        self.booked(1024, (128,))
+        for mode, mask, expected in ((0o600, 0o022, 0o600), (0o640, 0o022, 0o640), (0o666, 0o022, 0o644), (0o444, 0o077, 0o600)):
+            self.path("deal").chmod(mode)
+            name = f"new-{mode:o}-{mask:o}"
+            self.answer("collect", "deal", name, umask=mask)
+            for made in (name, name + ".vz"):
+                self.assertEqual(stat.S_IMODE(self.path(made).stat().st_mode), expected, made)
+
+    def test_a_journal_of_an_older_deal_is_not_ended_over_the_new_one(self):
+        deal, _ = self.booked(1024, (128,))
+        self.put(".new.vz-journal", b"vizhuthamen journal 1\n0 6e6577\n")
+        self.put(".new.vz-new.0", b"dead")
+        for words in (("collect", "deal", "new"), ("new", "new", 1024)):
+            self.assertIn(".new.vz-journal was left by a change of an older deal of that name; remove it first", self.failed(IO, *words))
+        self.path(".new.vz-journal").unlink()
+        self.answer("collect", "deal", "new")
+        self.assertEqual((self.get("new"), self.files()), (MODEL.collect(deal, bytes(1024))[1], ["deal", "new", "new.vz"]))
+
+
 class Streams(Calls):
     def test_as_commit(self):
         for size in (32, 64, 4096, 1 << 18, 1 << 22):
@@ -325,6 +574,10 @@ class Json(Calls):
         self.object("check", root, 1024, "record")
         self.object("settle", root, 1024, "record", "record")
         self.object("settle-deal", "deal", "record")
+        self.assertEqual([m["new_place"] for m in self.object("collect", "deal", "collected")["moved"]], places)
+        cancelled = self.object("cancel", "deal", places[0])
+        self.assertEqual(cancelled, {"code": 0, "meaning": "done", "offset": 0, "place": places[0], "size": 256, "commitment": commitment})
+        self.object("cancel", "deal", places[0], status=16)
         fields = self.object("show", "record")["fields"]
         self.assertEqual([f["tag"] for f in fields], [1, 2, 3, 4, 5, 6])
         self.assertEqual([f.get("value") for f in fields], [None, 0, 256, places[0], None, None])
@@ -413,7 +666,7 @@ class Usage(Calls):
     def test_help_and_version(self):
         overall = self.answer("--help")
         for command in COMMANDS:
-            self.assertIn(f"  {command} ", overall)
+            self.assertIn(f"\n  {command} ", overall)
             text = self.answer(command, "--help")
             self.assertTrue(text.startswith(f"Usage: vizhuthamen {command} "), text)
             self.assertEqual(text, self.answer("help", command))
@@ -477,11 +730,12 @@ class Usage(Calls):
             raw_length = str(len(data) * 127 // 128)
             for words in (("show", "file"), ("list", "file"), ("tally", "file"), ("commit", "file"), ("stream", "file"),
                           ("settle-deal", "file", "file"), ("pad", "file"), ("unpad", raw_length, "file"), ("fsck", "file"),
-                          *((("salvage", "file", "out"), ("repair", "file")) if i % 8 == 0 else ())):
+                          *((("collect", "file", "new"), ("salvage", "file", "out"), ("cancel", "file", "832"), ("repair", "file"))
+                            if i % 8 == 0 else ())):
                 ran = subprocess.run([self.program, *words], capture_output=True, cwd=self.folder)
                 self.assertIn(ran.returncode, (*range(25), DATA), words)
                 self.assertNotIn(b"panicked", ran.stderr, words)
-            for name in ("out", "file.vz", *(p.name for p in self.folder.glob("file.before-repair*"))):
+            for name in ("out", "new", "new.vz", "file.vz", *(p.name for p in self.folder.glob("file.before-repair*"))):
                 shutil.rmtree(self.path(name)) if self.path(name).is_dir() else self.path(name).unlink(missing_ok=True)
 
 
@@ -492,7 +746,8 @@ class Failures(Calls):
         for words in (("commit", "missing"), ("commit", "folder"), ("stream", "missing"), ("stream", "folder"), ("list", "missing"),
                       ("pad", "missing"), ("pad", "folder"), ("unpad", 127, "missing"), ("unpad", 127, "folder"),
                       ("tally", "missing"), ("list", "folder"), ("book", "missing", "deal"), ("book", "folder", "deal"),
-                      ("book", "deal", "missing"),
+                      ("book", "deal", "missing"), ("cancel", "missing", 768), ("cancel", "folder", 768), ("collect", "missing", "new"),
+                      ("collect", "folder", "new"),
                       ("show", "missing"), ("settle-deal", "deal", "missing"), ("check", "00" * 32, 512, "missing"),
                       ("build", "missing", 0), ("find", "missing", "00" * 32)):
             self.assertIn("missing" if "missing" in words else "folder", self.failed(IO, *words))
@@ -520,6 +775,16 @@ class Failures(Calls):
             self.assertEqual(self.get("deal"), deal)
             self.assertEqual(self.files(), ["deal", "segment"])
         self.answer("book", "deal", "segment", **self.limited(1024, True))
+
+    def test_a_cancellation_or_a_collection_that_cannot_write_leaves_all_as_it_was(self):
+        deal, places = self.booked()
+        for words in (("cancel", "deal", places[0]), ("collect", "deal", "new")):
+            for size in (0, 100, 1023):
+                self.assertIn("File too large", self.failed(IO, *words, **self.limited(size, True)))
+                self.call(*words, status=-signal.SIGXFSZ, **self.limited(size, False))
+                self.assertEqual((self.get("deal"), self.files()), (deal, ["deal"]))
+        self.answer("collect", "deal", "new", **self.limited(1024, True))
+        self.answer("cancel", "deal", places[0], **self.limited(1024, True))
 
     def test_a_booking_that_is_killed_while_writing_leaves_the_old_deal(self):
         deal, _ = self.booked()
@@ -552,6 +817,8 @@ class Failures(Calls):
         self.path("deal").chmod(0o666)
         self.folder.chmod(0o555)
         self.failed(IO, "book", "deal", "segment", **nobody())
+        self.failed(IO, "cancel", "deal", 768, **nobody())
+        self.failed(IO, "collect", "deal", "new", **nobody())
         self.failed(IO, "build", "deal", 768, "-o", "record", **nobody())
         self.folder.chmod(0o777)
         self.assertEqual(self.get("deal"), deal)

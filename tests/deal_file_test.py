@@ -2,14 +2,17 @@
 import fcntl
 import json
 import os
+import re
 import resource
 import select
 import shutil
 import signal
 import stat
 import subprocess
+import threading
 import time
 import unittest
+from concurrent.futures import ThreadPoolExecutor
 
 from cli_test import BINARY, BUSY, DATA, IO, MODEL, Calls, nobody
 from model import area, filled, index_numbers, pad, segment_length
@@ -56,7 +59,8 @@ class Locks(Deals):
         self.put("segment", self.segment())
         before = self.get("deal")
         held = self.held()
-        for words in (("book", "deal", "segment"), ("repair", "deal"), ("fsck", "deal"), ("salvage", "deal", "out")):
+        for words in (("book", "deal", "segment"), ("cancel", "deal", 768), ("collect", "deal", "new"), ("repair", "deal"),
+                      ("fsck", "deal"), ("salvage", "deal", "out")):
             self.assertIn("in use by another process", self.failed(BUSY, *words, "--no-wait"))
         self.assertEqual((self.get("deal"), self.files()), (before, ["deal", "segment"]))
         held.close()
@@ -68,7 +72,9 @@ class Locks(Deals):
         held = self.held(mode=fcntl.LOCK_SH)
         self.answer("fsck", "deal", "--no-wait")
         self.answer("salvage", "deal", "out", "--no-wait")
+        self.answer("collect", "deal", "new", "--no-wait")
         self.failed(BUSY, "book", "deal", "segment", "--no-wait")
+        self.failed(BUSY, "cancel", "deal", 768, "--no-wait")
         held.close()
         self.answer("book", "deal", "segment", "--no-wait")
 
@@ -159,6 +165,120 @@ class Locks(Deals):
         self.assertEqual((self.get("deal"), self.files()), (deal, ["deal", "segment"]))
 
 
+class Races(Deals):
+    """Calls at once. Their answers, and the deal afterwards, must be those of the same calls one after the other, in some order."""
+
+    def outcome(self, deal, call):
+        """Exit status, what is made or told, and the deal afterwards, by the rules."""
+        name, what = call
+        if name == "book":
+            code, offset, place, after = MODEL.book(deal, self.get(what))
+            return code, (offset, place) if code in (0, 15) else None, after
+        if name == "cancel":
+            code, after = MODEL.cancel(deal, what)
+            return code, None, after
+        code, new = MODEL.collect(deal, bytes(len(deal)))
+        return code, new, deal
+
+    def ordered(self, deal, answers, end):
+        """Whether some order of the calls gives these answers and ends with this deal."""
+        if not answers:
+            return deal == end
+        for call, answer in answers.items():
+            code, told, after = self.outcome(deal, call)
+            if (code, told) == answer and self.ordered(after, {c: a for c, a in answers.items() if c != call}, end):
+                return True
+        return False
+
+    def told(self, call, out, status):
+        name, what = call
+        if name == "collect":
+            return self.get(what)
+        if name == "book" and status in (0, 15):
+            lines = dict(line.split() for line in out.decode().splitlines() if not line.startswith("code"))
+            return int(lines["offset"]), int(lines["place"])
+        return None
+
+    def at_once(self, deal, calls):
+        """Starts calls at once on a deal. Gives their answers: the exit status, and what was made or told."""
+        self.put("deal", deal)
+        started = [subprocess.Popen([self.program, call[0], "deal", str(call[1])], cwd=self.folder, stdout=subprocess.PIPE,
+                                    stderr=subprocess.PIPE) for call in calls]
+        answers = {}
+        for call, process in zip(calls, started):
+            out, err = process.communicate(timeout=60)
+            self.assertIn(process.returncode, range(21), (call, err))
+            answers[call] = (process.returncode, self.told(call, out, process.returncode))
+        return answers
+
+    def test_calls_at_once_are_calls_in_some_order(self):
+        sizes = (1, 100, 128, 200, 256)
+        for i in range(12):
+            deal, _, places = self.deal_of(1024, self.rng.sample(sizes, self.rng.randrange(1, 4)))
+            for s in range(2):
+                self.put(f"s{s}", self.segment(256)[: self.rng.choice(sizes)])
+            calls = [("book", "s0"), ("book", "s1"), ("collect", f"new{i}"), *(("cancel", p) for p in places)]
+            self.rng.shuffle(calls)
+            answers = self.at_once(deal, calls)
+            self.assertTrue(self.ordered(deal, answers, self.get("deal")), answers)
+        self.assertEqual(self.files(), sorted(["deal", "deal.vz", "s0", "s1", *(f"new{i}{e}" for i in range(12) for e in ("", ".vz"))]))
+
+    def test_one_of_several_cancellations_is_answered_with_0(self):
+        for processes in range(2, 9):
+            deal, _, places = self.deal_of(1024, (128, 256))
+            self.put("deal", deal)
+            calls = [subprocess.Popen([self.program, "cancel", "deal", str(places[0])], cwd=self.folder, stdout=subprocess.PIPE,
+                                      stderr=subprocess.PIPE) for _ in range(processes)]
+            statuses = sorted((call.communicate(timeout=60), call.returncode)[1] for call in calls)
+            self.assertEqual(statuses, [0] + [16] * (processes - 1))
+            self.assertEqual(self.get("deal"), MODEL.cancel(deal, places[0])[1])
+
+    def test_a_collection_is_of_one_state_of_a_deal_that_others_change(self):
+        """One process after the other books and cancels, while others collect."""
+        states, steps = [self.put("deal", bytes(MIB))], []
+        for i in range(12):
+            segment = self.put(f"s{i}", self.segment(self.rng.choice((128, 512, 4096))))
+            code, _, place, after = MODEL.book(states[-1], segment)
+            self.assertEqual(code, 0)
+            steps.append(("book", "deal", f"s{i}"))
+            states.append(after)
+            if i % 2:
+                steps.append(("cancel", "deal", place))
+                states.append(MODEL.cancel(after, place)[1])
+        ends = [MODEL.collect(state, bytes(MIB))[1] for state in states]
+        done, met = threading.Event(), set()
+
+        def collecting(name):
+            number = 0
+            while not done.is_set():
+                self.answer("collect", "deal", f"{name}{number}")
+                new = self.get(f"{name}{number}")
+                self.assertIn(new, ends)
+                met.add(ends.index(new))
+                self.path(f"{name}{number}").unlink()
+                number += 1
+
+        with ThreadPoolExecutor(2) as pool:
+            others = [pool.submit(collecting, name) for name in ("a", "b")]
+            for step in steps:
+                self.answer(*step)
+            done.set()
+            for other in others:
+                other.result()
+        self.assertEqual(self.get("deal"), states[-1])
+        self.assertGreater(len(met), 3)
+
+    def test_a_place_that_was_booked_again_meanwhile(self):
+        deal, _, places = self.deal_of(1024, (128, 256))
+        commitment = deal[places[0] : places[0] + 32].hex()
+        self.put("segment", self.segment())
+        self.answer("cancel", "deal", places[0])
+        self.answer("book", "deal", "segment")
+        booked = self.get("deal")
+        self.failed(DATA, "cancel", "deal", places[0], "--commitment", commitment)
+        self.assertEqual(self.get("deal"), booked)
+
+
 class FreeSlots(Deals):
     def test_a_damaged_slot_is_not_booked_over(self):
         deal, _, places = self.deal_of(1024, (128, 128))
@@ -230,21 +350,25 @@ class ByteStreams(Deals):
     def test_a_closed_standard_output_is_an_error_before_anything_is_changed(self):
         deal, *_ = self.deal_of(1024, (128,))
         self.put("segment", self.segment())
-        for words in (("list", "deal"), ("book", "deal", "segment"), ("new", "other", "512"), ("pad", "segment", "-o", "-"), ("--help",)):
+        for words in (("list", "deal"), ("book", "deal", "segment"), ("cancel", "deal", "768"), ("collect", "deal", "other"),
+                      ("new", "other", "512"), ("pad", "segment", "-o", "-"), ("--help",)):
             ran = subprocess.run(["sh", "-c", '"$0" "$@" >&-', self.program, *words], cwd=self.folder, capture_output=True)
             self.assertEqual((ran.returncode, ran.stderr), (IO, b"vizhuthamen: standard output is closed; nothing is done\n"))
         self.assertEqual((self.get("deal"), self.files()), (deal, ["deal", "segment"]))
         ran = subprocess.run([self.program, "list", "deal"], cwd=self.folder, stdout=subprocess.DEVNULL)
         self.assertEqual(ran.returncode, 0)
 
-    def test_a_booking_that_cannot_be_told_says_that_it_is_done(self):
+    def test_what_cannot_be_told_is_said_to_be_done(self):
         self.deal_of(1024, (128,))
         self.put("segment", self.segment())
-        with open("/dev/full", "wb") as full:
-            ran = subprocess.run([self.program, "book", "deal", "segment"], cwd=self.folder, stdout=full, stderr=subprocess.PIPE)
-        self.assertEqual(ran.returncode, IO)
-        self.assertIn(b"what was asked is done", ran.stderr)
+        for words in (("book", "deal", "segment"), ("cancel", "deal", "768"), ("collect", "deal", "new")):
+            with open("/dev/full", "wb") as full:
+                ran = subprocess.run([self.program, *words], cwd=self.folder, stdout=full, stderr=subprocess.PIPE)
+            self.assertEqual(ran.returncode, IO)
+            self.assertRegex(ran.stderr, rb"\Avizhuthamen: [^\n]+; what was asked is done\n\Z")
         self.refused(15, "book", "deal", "segment")
+        self.refused(16, "cancel", "deal", 768)
+        self.assertEqual(self.get("new"), MODEL.collect(self.get("deal"), bytes(1024))[1])
 
 
 class Sidecar(Deals):
@@ -255,8 +379,9 @@ class Sidecar(Deals):
         self.answer("book", "deal", "segment")
         os.truncate(self.path("deal"), MIB)
         cut = self.get("deal")
-        for words in (("book", "deal", "segment"), ("repair", "deal"), ("list", "deal"), ("tally", "deal"), ("commit", "deal"),
-                      ("stream", "deal"), ("build", "deal", 0), ("find", "deal", "00" * 32), ("settle-deal", "deal", "segment")):
+        for words in (("book", "deal", "segment"), ("cancel", "deal", MIB - 64), ("collect", "deal", "new"), ("repair", "deal"),
+                      ("list", "deal"), ("tally", "deal"), ("commit", "deal"), ("stream", "deal"), ("build", "deal", 0),
+                      ("find", "deal", "00" * 32), ("settle-deal", "deal", "segment")):
             error = self.failed(DATA, *words)
             self.assertIn(f"has {MIB} bytes, and", error)
             self.assertIn(f"says that it has {2 * MIB}", error)
@@ -499,7 +624,7 @@ class Replacing(Deals):
         deal, *_ = self.deal_of(1024, (128,))
         self.put("segment", self.segment())
         os.link(self.path("deal"), self.path("second"))
-        for words in (("book", "deal", "segment"), ("repair", "deal")):
+        for words in (("book", "deal", "segment"), ("cancel", "deal", 768), ("repair", "deal")):
             self.assertIn("several names (hard links)", self.failed(IO, *words))
         self.assertEqual((self.get("deal"), self.get("second")), (deal, deal))
         self.assertTrue(self.path("deal").samefile(self.path("second")))
@@ -542,8 +667,11 @@ class Replacing(Deals):
         self.put("segment", self.segment())
         self.path("deal").chmod(0o666)
         self.assertIn("it belongs to user 0", self.failed(IO, "book", "deal", "segment", **nobody()))
+        self.assertIn("it belongs to user 0", self.failed(IO, "cancel", "deal", 768, **nobody()))
         self.assertEqual((self.get("deal"), self.files()), (deal, ["deal", "segment"]))
-        self.answer("book", "deal", "segment", "--new-owner", **nobody())
+        self.answer("collect", "deal", "new", **nobody())
+        self.assertEqual(self.path("new").owner(), "nobody")
+        self.answer("cancel", "deal", 768, "--new-owner", **nobody())
         info = self.path("deal").stat()
         self.assertEqual((stat.S_IMODE(info.st_mode), info.st_uid != 0), (0o666, True))
 
@@ -583,19 +711,21 @@ class Replacing(Deals):
     def test_a_full_disk(self):
         self.deal_of(1 << 16, (128,))
         self.put("segment", self.segment())
-        ran = self.mounted("-o size=128k", '"$0" book deal segment; echo $?; cmp deal ../deal && ls -A')
-        self.assertEqual(ran.stdout, "74\ndeal\nsegment\n", ran.stderr)
-        self.assertRegex(ran.stderr, "No space left on device.*nothing is changed")
+        calls = '"book deal segment" "cancel deal 65280" "collect deal new"'
+        ran = self.mounted("-o size=128k", f'for call in {calls}; do "$0" $call; echo $?; done; cmp deal ../deal && ls -A')
+        self.assertEqual(ran.stdout, "74\n74\n74\ndeal\nsegment\n", ran.stderr)
+        self.assertEqual(len(re.findall("No space left on device.*nothing is changed", ran.stderr)), 2, ran.stderr)
+        self.assertIn("cannot make new: No space left on device", ran.stderr)
 
     @unittest.skipIf(os.getuid() != 0 or not shutil.which("unshare"), "needs a mount of its own")
     def test_a_read_only_disk(self):
         self.deal_of(1024, (128,))
         self.put("segment", self.segment())
         self.path("deal").chmod(0o666)
-        script = 'mount -o remount,ro none . && { "$0" book deal segment; "$0" new other 512; "$0" pad segment -o out; "$0" list deal; }'
-        ran = self.mounted("", script)
-        self.assertEqual(ran.stderr.count("Read-only file system"), 3, ran.stderr)
-        self.assertEqual(ran.stderr.count("is read-only"), 2, ran.stderr)
+        calls = ("book deal segment", "cancel deal 768", "new other 512", "collect deal other", "pad segment -o out", "list deal")
+        ran = self.mounted("", "mount -o remount,ro none . && { %s; }" % "; ".join(f'"$0" {call}' for call in calls))
+        self.assertEqual(ran.stderr.count("Read-only file system"), 5, ran.stderr)
+        self.assertEqual(ran.stderr.count("is read-only"), 3, ran.stderr)
         self.assertIn("kept", ran.stdout)
 
     def test_names_in_messages_stay_on_one_line(self):

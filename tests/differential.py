@@ -16,11 +16,13 @@ import time
 from collections import Counter
 from pathlib import Path
 
+import change_cases
 import tree_cases
 from cases import cases, deal, node, paddings, place, run, spoil, strayed, streams
 from model import MAX_RAW, area, index_numbers
-from operations import (BOOK, BOOK_TREE, BUILD, BUILD_TREE, CHECK, COMMITMENT, FIELDS, FILL, FIND, INSPECT, MAKE, MODEL, NAMES, NUMBERS, PAD,
-                        READ, ROW, SETTLE, SETTLE_DEAL, SETTLE_TREE, SHA256, STREAM, TALLY, UNPAD, Case, answer, encode)
+from operations import (BOOK, BOOK_TREE, BUILD, BUILD_TREE, CANCEL, CANCEL_TREE, CHECK, COLLECT, COLLECT_TREE,
+                        COMMITMENT, FIELDS, FILL, FIND, INSPECT, MAKE, MODEL, NAMES, NUMBERS, PAD, READ, ROW, SETTLE,
+                        SETTLE_DEAL, SETTLE_TREE, SHA256, STREAM, TALLY, UNPAD, Case, answer, encode)
 from vectors import large_deals
 
 ROOT = Path(__file__).resolve().parent.parent
@@ -34,7 +36,9 @@ CODES = {SHA256: {0}, COMMITMENT: {0, 2, 11}, NUMBERS: {0, 2}, MAKE: {0, 1, 8}, 
          BOOK: {0, 2, 4, 11, 13, 14, 15}, BUILD: {0, 2, 6, 11, 12, 16}, CHECK: {*range(11), 19}, SETTLE: {*range(11), 18, 19},
          SETTLE_DEAL: {0, *range(2, 12), 19}, FIELDS: {0}, INSPECT: {0, 2, 6, 11}, STREAM: {0, 2, 11},
          PAD: {0, 2, 12}, UNPAD: {0, 2, 11, 12, 24}, TALLY: {0, 2, 11}, FILL: {0, 2, 11, 12}, BOOK_TREE: {0, 2, 4, 11, 12, 13, 14, 15},
-         BUILD_TREE: {0, 2, 6, 11, 12, 16}, SETTLE_TREE: {0, *range(2, 13), 17, 19}, ROW: {0, 12}}
+         BUILD_TREE: {0, 2, 6, 11, 12, 16}, SETTLE_TREE: {0, *range(2, 13), 17, 19}, CANCEL: {0, 2, 6, 11, 16},
+         CANCEL_TREE: {0, 2, 6, 11, 12, 16}, COLLECT: {0, 2, 11, 12, 20}, COLLECT_TREE: {0, 2, 11, 12, 20},
+         ROW: {0, 12}}
 ENOUGH = 50_000
 
 
@@ -143,6 +147,8 @@ def limits():
         yield FILL, bytes(n), b"", 0, 0, bytes(full)  # the tree is shown by its SHA-256: 2^24 bytes at most
         for op in (BUILD_TREE, SETTLE_TREE):
             yield op, bytes(n), b"", 0, 0, bytes(n - 32)
+        for op in (COLLECT, COLLECT_TREE):  # the second deal is shown by its SHA-256 too
+            yield op, bytes(n), bytes(full), 0, 0, bytes(full - 32)
     for n in (full, full + 32, full + 64):  # a row has no upper bound
         yield ROW, bytes(n), bytes(n // 2), 0, 0
 
@@ -227,6 +233,13 @@ def batches(options):
     yield "rows of trees", tree_cases.rows(rng)
     if not options.memcheck:
         yield "runs from 2^20 bytes on", long_runs(random.Random(f"{options.seed}/runs"))
+    rng = random.Random(f"{options.seed}/changes")
+    yield "changes: the refusals in their order", change_cases.orders(rng)
+    yield "changes: two entries that overlap or not", change_cases.overlaps(rng)
+    yield "changes: entries that stand or not by one rule", change_cases.one_rule(rng)
+    yield "changes: runs of bookings, cancellations and collections", change_cases.runs(rng, min(60, options.count))
+    yield "changes: deals that others have made", change_cases.foreign_deals(rng, min(200, options.count))
+    yield "changes: deals of 2^20 bytes that others have made", change_cases.foreign_deals(rng, 2, (1 << 20,))
     if options.large:
         rng = random.Random(f"{options.seed}/large")
         yield "lengths at their bounds", limits()
@@ -236,13 +249,16 @@ def batches(options):
         for mixed in (False, True):
             yield "trees of 2^20 bytes", tree_cases.kept_tree(rng, 1 << 20, [128, 1 << 12, 1 << 18, 130, 1 << 15, 1, 1 << 10, 128], mixed)
         yield "trees of 2^24 bytes", tree_cases.kept_tree(rng, 1 << 24, [1 << 20, 130], False)
+        yield "changes of deals of 2^20 bytes", change_cases.large_changes(rng, 1 << 20, 3)
+        yield "changes of deals of 2^24 bytes", change_cases.large_changes(rng, 1 << 24, 1)
     for i, calls in enumerate(random_batches(options.seed, options.count)):
         yield f"batch {i}", calls
 
 
 def arguments():
     parser = argparse.ArgumentParser(description="Compares the library with the independent model.")
-    parser.add_argument("--count", type=int, help="random calls on deals of 512 to 4,096 bytes (default 100000; with --memcheck 2000)")
+    parser.add_argument("--count", type=int,
+                        help="random calls on deals of 512 to 4,096 bytes (default 96000; with --memcheck 2000)")
     parser.add_argument("--seed", help="seed of the calls (default: a fresh one, which is printed)")
     parser.add_argument("--large", action="store_true", help="add deals of 2^20 and 2^24 bytes and lengths at the upper bounds")
     parser.add_argument("--memcheck", action="store_true", help="run the library under valgrind's memcheck")
@@ -251,7 +267,7 @@ def arguments():
     options = parser.parse_args()
     options.seed = options.seed or os.urandom(4).hex()
     if options.count is None:
-        options.count = 2000 if options.memcheck else 100_000
+        options.count = 2000 if options.memcheck else 96_000
     return options
 
 

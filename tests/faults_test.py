@@ -10,9 +10,9 @@ writes is run once for every call of it and every way in which that call can go 
   pause    the process is stopped before the call, another one books into the same deal, and the first goes on.
 
 All of it is done with unnamed files and without them (`plain`), as on a system that has none. Then processes are killed at random
-moments, and 2 to 8 processes book into one deal at once, undisturbed and while others of them are killed. Afterwards every booking that
-was answered with 0 must be in the deal where it was told to be, every deal must be a whole one, and no file may be there that nobody
-asked for.
+moments, and 2 to 8 processes book into one deal at once, undisturbed, and, with some bookings cancelled again, while others of them are
+killed. Afterwards every booking that was answered with 0 and not cancelled must be in the deal where it was told to be, every deal must
+be a whole one, and no file may be there that nobody asked for.
 """
 import argparse
 import errno
@@ -30,13 +30,14 @@ from concurrent.futures import ProcessPoolExecutor
 from pathlib import Path
 
 from cases import node
-from model import Model, area, pad, segment_length
+from model import Model, filled, pad, segment_length
 
 ROOT = Path(__file__).resolve().parent.parent
 BINARY = Path(os.environ.get("VIZHUTHAMEN", ROOT / "rust" / "target" / "release" / "vizhuthamen"))
 MODEL = Model()
 DATA, IO, BUSY = 65, 74, 75
 ERRORS = (errno.ENOSPC, errno.EIO, errno.EINTR, errno.EXDEV, errno.EACCES)
+BREAKDOWNS = (errno.EROFS, errno.EIO, errno.ENOSPC)
 SIGNALS = (signal.SIGINT, signal.SIGTERM, signal.SIGHUP)
 
 # Functions of the C library that the program uses and that need no fault: they do not go to the system, or only at the start, or their
@@ -140,19 +141,21 @@ def fault(at, what):
 
 
 class Scene:
-    """A command, the files before it and after it, and its exit statuses: done, and run once more afterwards."""
+    """A command, the files before it, what it does to files, its exit statuses (done, and run once more afterwards), and the deal that it
+    makes, if it makes one."""
 
-    def __init__(self, name, words, before, after, again):
-        self.name, self.words, self.before, self.after, self.again = name, words, before, after, again
+    def __init__(self, name, words, before, effect, again, made=None):
+        self.name, self.words, self.before, self.effect, self.again, self.made = name, words, before, effect, again, made
+        self.after = effect(before)
         # Files that the command makes or changes.
-        self.changed = [n for n in after if before.get(n) != after[n]]
+        self.changed = [n for n in self.after if before.get(n) != self.after[n]]
 
     def whole(self, state):
-        """Every file that the command changes is the old one or the new one, and there are no others but such as nobody else sees."""
+        """Every file that the command changes is the old one or the new one, and every other is as it was."""
         for name in self.changed:
             check(state.get(name) in (self.before.get(name), self.after[name]), self.name, "torn:", name)
-        for name in self.before:
-            check(name in state, self.name, "lost:", name)
+        for name, data in self.before.items():
+            check(name in state and (name in self.changed or state[name] == data), self.name, "lost:", name)
 
     def litter(self, state):
         return [name for name in state if name not in self.before and name not in self.after]
@@ -165,23 +168,42 @@ class Scene:
         return all(new)
 
 
+def sidecar(deal):
+    return b"vizhuthamen deal 1\nsize %d\n" % len(deal)
+
+
+def with_deal(files, deal, name="deal"):
+    """The files with this deal, and what is known of it."""
+    return {**files, name: deal, name + ".vz": sidecar(deal)}
+
+
+def booked(files, segment, name="deal"):
+    return with_deal(files, MODEL.book(files[name], segment)[3], name)
+
+
 def scenes(rng):
-    segment = b"".join(node(rng) for _ in range(4))
+    segment, third = (b"".join(node(rng) for _ in range(4)) for _ in range(2))
     first = b"".join(node(rng) for _ in range(8))
-    sidecar = b"vizhuthamen deal 1\nsize 1024\n"
     old = MODEL.book(bytes(1024), first)[3]
     new = MODEL.book(old, segment)[3]
+    gap = MODEL.cancel(new, 768)[1]
     spoilt = old[:768] + bytes([old[768] ^ 1]) + old[769:]
     record = MODEL.build(old, 768)[1]
     files = {"segment": segment, "deal": old}
-    yield Scene("book", ("book", "deal", "segment"), {**files, "deal.vz": sidecar}, {**files, "deal.vz": sidecar, "deal": new}, (0, 15))
-    yield Scene("book, nothing known", ("book", "deal", "segment"), files, {**files, "deal.vz": sidecar, "deal": new}, (0, 15))
-    made = {"segment": segment, "deal": bytes(1024), "deal.vz": sidecar}
-    yield Scene("new", ("new", "deal", 1024), {"segment": segment}, made, (0, IO))
-    yield Scene("repair", ("repair", "deal"), {"deal": spoilt}, {"deal": old, "deal.vz": sidecar, "deal.before-repair": spoilt}, (0, 0))
-    yield Scene("output", ("build", "deal", 768, "-o", "record"), {"deal": old}, {"deal": old, "record": record}, (0, 0))
-    yield Scene("output, replaced", ("build", "deal", 768, "-o", "record"), {"deal": old, "record": b"before"},
-                {"deal": old, "record": record}, (0, 0))
+    book = lambda files: booked(files, segment)
+    yield Scene("book", ("book", "deal", "segment"), {**files, "deal.vz": sidecar(old)}, book, (0, 15))
+    yield Scene("book, nothing known", ("book", "deal", "segment"), files, book, (0, 15))
+    cancel = lambda files: with_deal(files, MODEL.cancel(files["deal"], 768)[1])
+    yield Scene("cancel", ("cancel", "deal", 768), {"deal": new, "deal.vz": sidecar(new)}, cancel, (0, 16))
+    yield Scene("cancel, nothing known", ("cancel", "deal", 768), {"deal": new}, cancel, (0, 16))
+    collect = lambda files: with_deal(files, MODEL.collect(files["deal"], bytes(1024))[1], "new")
+    yield Scene("collect", ("collect", "deal", "new"), {"segment": third, "deal": gap}, collect, (0, IO), "new")
+    yield Scene("new", ("new", "deal", 1024), {"segment": segment}, lambda files: with_deal(files, bytes(1024)), (0, IO), "deal")
+    repair = lambda files: {**with_deal(files, old), "deal.before-repair": spoilt}
+    yield Scene("repair", ("repair", "deal"), {"deal": spoilt}, repair, (0, 0))
+    output = lambda files: {**files, "record": record}
+    yield Scene("output", ("build", "deal", 768, "-o", "record"), {"deal": old}, output, (0, 0))
+    yield Scene("output, replaced", ("build", "deal", 768, "-o", "record"), {"deal": old, "record": b"before"}, output, (0, 0))
 
 
 class Faults:
@@ -193,12 +215,12 @@ class Faults:
         status, _, err = self.place.run(scene.words, plain=plain)
         check(status in scene.again, scene.name, "run again:", status, err)
         state, after = self.place.state(), scene.after
-        if scene.name == "new":
+        if scene.made:
             # What is known of a deal can be done without; the first booking puts it there, and removes what was left.
-            check(state["deal"] == after["deal"], scene.name, "after running again")
-            status, _, err = self.place.run(("book", "deal", "segment"), plain=plain)
+            check(state[scene.made] == after[scene.made], scene.name, "after running again")
+            status, _, err = self.place.run(("book", scene.made, "segment"), plain=plain)
             check(status == 0, scene.name, "booking afterwards:", status, err)
-            state, after = self.place.state(), {**after, "deal": MODEL.book(after["deal"], after["segment"])[3]}
+            state, after = self.place.state(), booked(after, after["segment"], scene.made)
         check(state == after, scene.name, "after running again:", *sorted(state))
 
     def kills(self, scene, plain):
@@ -210,7 +232,7 @@ class Faults:
             state = self.place.state()
             scene.whole(state)
             self.counts["kills"] += 1
-            if "deal" in state and scene.name != "new":
+            if not scene.made:
                 status, _, err = self.place.run(("fsck", "deal"), plain=plain)
                 check(status in (0, DATA), scene.name, at, "fsck:", status, err)
                 scene.together(self.place.state())
@@ -226,7 +248,7 @@ class Faults:
                 state = self.place.state()
                 scene.whole(state)
                 check(not scene.litter(state), scene.name, at, number, "left:", *scene.litter(state))
-                if scene.name != "new":
+                if not scene.made:
                     scene.together(state)
                 self.counts["signals"] += 1
                 self.after(scene, plain)
@@ -256,17 +278,17 @@ class Faults:
                 state = self.place.state()
                 scene.whole(state)
                 made = all(state.get(n) == scene.after[n] for n in scene.changed)
-                check(made or status != 0 or scene.name == "new" and b"could not be written" in err, *here)
+                check(made or status != 0 or scene.made and b"could not be written" in err, *here)
                 check(b"nothing is changed" not in err or not made, *here)
                 # A name that could not be removed, or a change that the next call ends, may be left for that.
                 check(not scene.litter(state) or name == "unlink" or b"next call" in err, *here, *scene.litter(state))
                 self.counts["errors"] += 1
                 self.after(scene, plain)
 
-    def breakdowns(self, scene, plain):
+    def breakdowns(self, scene, plain, numbers):
         """From one call on nothing can be written any more: what is there is whole, and all can be done later."""
         names = self.place.calls_of(scene, plain)
-        for number in (errno.EIO, errno.EROFS):
+        for number in numbers:
             for at, name in enumerate(names, 1):
                 if name not in ("write", "fsync", "ftruncate64", "linkat", "rename", "renameat2", "unlink"):
                     continue
@@ -303,10 +325,12 @@ class Faults:
                 self.after(scene, plain)
 
     def pauses(self, scene, plain, other):
-        """Stopped before each call while another process books; both bookings are in the deal afterwards."""
+        """Stopped before each call while another process books; all files are then as if one call had come after the other."""
         words = ("book", "deal", "other", "--no-wait")
+        before = {**scene.before, "other": other}
+        ends = (booked(scene.effect(before), other), scene.effect(booked(before, other)))
         for at in range(1, len(self.place.calls_of(scene, plain)) + 1):
-            self.place.put({**scene.before, "other": other})
+            self.place.put(before)
             call = self.place.start(scene.words, fault=fault(at, f"kill {int(signal.SIGSTOP)}"), plain=plain)
             info = os.waitid(os.P_PID, call.pid, os.WSTOPPED | os.WEXITED | os.WNOWAIT)
             check(info.si_code == os.CLD_STOPPED, scene.name, at, "not stopped")
@@ -319,10 +343,11 @@ class Faults:
                 status, out, err = self.place.run(words, plain=plain)
                 check(status == 0, scene.name, at, status, err)
             state = self.place.state()
-            accounted(state["deal"], {told(mine): scene.before["segment"], told(out): other})
-            check(sorted(state) == ["deal", "deal.vz", "other", "segment"], scene.name, at, "left:", *sorted(state))
+            check(state in ends, scene.name, at, "lost or left:", *sorted(state))
+            accounted(state["deal"], {told(out): other})
+            if scene.words[0] == "book":
+                accounted(state["deal"], {told(mine): before["segment"]})
             self.counts["pauses"] += 1
-
 
     def paused_outputs(self, scene, plain, raw):
         """Stopped before each call, with a name in the way that a dead process has left, while another process writes the same output."""
@@ -355,9 +380,9 @@ def told(out):
 def accounted(deal, bookings):
     """Every booking is in the deal where it was told to be, with its entry."""
     for (offset, place), segment in bookings.items():
-        filled = segment + bytes(area(len(segment)) - len(segment))
-        check(deal[offset : offset + len(filled)] == filled, "a booking's bytes are lost: offset", offset)
-        entry = MODEL.entry(MODEL.tree(filled)[-1][0], offset, len(segment))
+        whole = filled(segment)
+        check(deal[offset : offset + len(whole)] == whole, "a booking's bytes are lost: offset", offset)
+        entry = MODEL.entry(MODEL.tree(whole)[-1][0], offset, len(segment))
         check(deal[place : place + 64] == entry, "a booking's entry is lost: place", place)
 
 
@@ -374,10 +399,12 @@ class Races:
         return segments
 
     def end(self, segments, answers):
+        """The deal keeps the segments that were answered, where they were told to be, and no others."""
         state = self.place.state()
         check(sorted(state) == sorted([*segments, "deal", "deal.vz"]), "left:", *sorted(state))
-        check(len(set(answers.values())) == len(segments), "a place was told twice:", answers)
+        check(len(set(answers.values())) == len(answers), "a place was told twice:", answers)
         accounted(state["deal"], {where: segments[name] for name, where in answers.items()})
+        check(MODEL.tally(state["deal"])[3] == len(answers), "a cancelled booking is there")
         check(self.place.run(("fsck", "deal"))[0] == 0, "fsck")
 
     def undisturbed(self, processes, bookings, size, plain):
@@ -395,37 +422,49 @@ class Races:
         self.counts["races"] += 1
         self.counts["raced bookings"] += bookings
 
-    def disturbed(self, processes, bookings, size, plain):
-        """The same with workers that repeat a booking until it is answered, while bookings are killed at random moments."""
-        segments = self.prepare(size, bookings)
-        queue, answers, failures, lock = list(segments), {}, [], threading.Lock()
-        seeds = [self.rng.random() for _ in range(processes)]
+    def answered(self, words, statuses, rng, plain):
+        """Repeats a call that is killed at random moments until it is answered."""
+        while True:
+            call = self.place.start(words, plain=plain)
+            if rng.random() < 0.6:
+                time.sleep(rng.random() * 0.03)
+                call.kill()
+            out, err = call.communicate(timeout=120)
+            if call.returncode != -9:
+                check(call.returncode in statuses, *words, call.returncode, err)
+                return call.returncode, out
+            with self.lock:
+                self.counts["kills"] += 1
 
-        def book(name, rng):
-            while True:
-                call = self.place.start(("book", "deal", name), plain=plain)
-                if rng.random() < 0.6:
-                    time.sleep(rng.random() * 0.03)
-                    call.kill()
-                out, err = call.communicate(timeout=120)
-                if call.returncode == -9:
-                    with lock:
-                        self.counts["kills"] += 1
-                    continue
-                check(call.returncode in (0, 15), "booking", name, call.returncode, err)
-                lines = out.decode().splitlines()
-                return told("\n".join(lines[call.returncode == 15:]).encode())
+    def booked(self, name, segment, rng, plain):
+        """Books until it is answered, and then cancels every third booking in the same way. Gives where it is, if it was not cancelled."""
+        status, out = self.answered(("book", "deal", name), (0, 15), rng, plain)
+        where = told(b"\n".join(out.splitlines()[status == 15:]))
+        if rng.randrange(3):
+            return where
+        commitment = MODEL.tree(filled(segment))[-1][0].hex()
+        # One that was killed may have been done: then nothing stands there (16), or another booking does by now (65).
+        self.answered(("cancel", "deal", where[1], "--commitment", commitment), (0, 16, DATA), rng, plain)
+        with self.lock:
+            self.counts["raced cancellations"] += 1
+        return None
+
+    def disturbed(self, processes, bookings, size, plain):
+        """The same with workers that repeat a call until it is answered, while calls are killed at random moments."""
+        segments = self.prepare(size, bookings)
+        queue, answers, failures, self.lock = list(segments), {}, [], threading.Lock()
+        seeds = [self.rng.random() for _ in range(processes)]
 
         def work(seed):
             rng = random.Random(seed)
             try:
                 while True:
-                    with lock:
+                    with self.lock:
                         if not queue:
                             return
                         name = queue.pop()
-                    answer = book(name, rng)
-                    with lock:
+                    answer = self.booked(name, segments[name], rng, plain)
+                    with self.lock:
                         answers[name] = answer
             except Exception as error:  # told by the main thread
                 failures.append(error)
@@ -437,8 +476,11 @@ class Races:
             thread.join()
         check(not failures, *failures)
         # Whatever the last kill has left goes with the next booking.
-        check(self.place.run(("book", "deal", next(iter(segments))))[0] == 15, "a booking is lost")
-        self.end(segments, answers)
+        last = next(name for name in segments)
+        status, out, _ = self.place.run(("book", "deal", last))
+        check(status == (15 if answers[last] else 0), "a booking is lost, or a cancelled one is not")
+        answers[last] = answers[last] or told(out)
+        self.end(segments, {name: where for name, where in answers.items() if where})
         self.counts["races"] += 1
         self.counts["raced bookings"] += bookings
 
@@ -469,22 +511,33 @@ class Races:
             self.counts["races"] += 1
 
     def random_kills(self, count, size, plain):
-        """One process at a time, killed at a random moment: the deal is the old one or the new one."""
-        segments = self.prepare(size, 1)
-        new = MODEL.book(bytes(size), segments["s0"])[3]
-        began = time.monotonic()
-        check(self.place.run(("book", "deal", "s0"), plain=plain)[0] == 0, "booking")
-        span = time.monotonic() - began
-        for _ in range(count):
-            self.place.path("deal").write_bytes(bytes(size))
-            call = self.place.start(("book", "deal", "s0"), plain=plain)
+        """One process at a time, killed at a random moment: the deal is the old one or the new one, and a new deal is whole."""
+        segment = self.prepare(size, 1)["s0"]
+        place = size - 64 * max(4, size // 131072)
+        full = MODEL.book(bytes(size), segment)[3]
+        cancelled, collected = MODEL.cancel(full, place)[1], MODEL.collect(full, bytes(size))[1]
+        known = {"s0": segment, "deal.vz": sidecar(full)}
+        kinds = [(("book", "deal", "s0"), "deal", bytes(size), (bytes(size), full)),
+                 (("cancel", "deal", place), "deal", full, (full, cancelled)),
+                 (("collect", "deal", "new"), "new", full, (None, collected))]
+        for number in range(count):
+            words, name, before, ends = kinds[number % 3]
+            self.place.put({**known, "deal": before})
+            began = time.monotonic()
+            if number < 3:
+                check(self.place.run(words, plain=plain)[0] == 0, *words)
+                span = time.monotonic() - began
+                continue
+            call = self.place.start(words, plain=plain)
             time.sleep(self.rng.random() * 1.3 * span)
             call.kill()
             call.communicate()
-            check(self.place.path("deal").read_bytes() in (bytes(size), new), "a torn deal")
+            state = self.place.state()
+            check(state.get(name) in ends, "torn:", name)
+            check(name == "deal" or state["deal"] == before, "the collected deal is changed")
             self.counts["kills"] += 1
-        check(self.place.run(("book", "deal", "s0"), plain=plain)[0] in (0, 15), "booking")
-        self.end(segments, {"s0": (0, size - 64 * max(4, size // 131072))})
+            check(self.place.run(words, plain=plain)[0] in (0, 15, 16, IO), *words)
+            check(self.place.path(name).read_bytes() == ends[1], "after running again:", name)
 
 
 def work(job):
@@ -512,16 +565,16 @@ def disturb(place, rng, name, plain, options):
     faults = Faults(place, counts)
     faults.kills(scene, plain)
     faults.signals(scene, plain, SIGNALS if options.large else (rng.choice(SIGNALS),))
-    every = options.large or scene.name.startswith("book") and plain < 2
+    every = options.large or (scene.name, plain) in EVERY_ERROR
     faults.errors(scene, plain, ERRORS if every else (errno.ENOSPC, errno.EIO))
-    faults.breakdowns(scene, plain)
-    if scene.name in ("book, nothing known", "repair"):
+    faults.breakdowns(scene, plain, BREAKDOWNS if options.large else BREAKDOWNS[:2] if plain else BREAKDOWNS[1:])
+    if scene.name in ("book, nothing known", "repair") or scene.name == "cancel, nothing known" and options.large:
         faults.recoveries(scene, plain, options.large)
     if scene.name == "book" and plain:
         faults.ignored(scene, plain)
     if scene.name == "output, replaced":
         faults.paused_outputs(scene, plain, rng.randbytes(1000))
-    if scene.name.startswith("book"):
+    if scene.words[0] in ("book", "cancel", "collect"):
         faults.pauses(scene, plain, b"".join(node(rng) for _ in range(4)))
     mode = ("", ", no unnamed files", ", no unnamed files, no rename to a free name")[plain]
     return counts, f"{scene.name}{mode}: {len(names)} calls"
@@ -541,9 +594,18 @@ def race(place, rng, name, plain, options):
     return counts, f"races{', no unnamed files' if plain else ''}"
 
 
+# With unnamed files (0), without them (1), and without a rename to a free name too (2). At the gate a cancellation, which changes
+# files as a booking does, and a collection, which makes a deal as `new` does, are run in some of these ways.
+WAYS = {"book, nothing known": (0, 1, 2), "collect": (0, 1, 2), "new": (0, 1, 2), "output": (0, 1, 2)}
+WAYS_AT_THE_GATE = {**WAYS, "cancel": (0,), "cancel, nothing known": (1,), "collect": (0, 1)}
+# Commands and ways that get every error at the gate: one file, several files, a new deal.
+EVERY_ERROR = (("book", 0), ("book, nothing known", 1), ("collect", 1))
+
+
 def jobs(options):
+    ways = WAYS if options.large else WAYS_AT_THE_GATE
     for scene in scenes(random.Random(options.seed)):
-        for plain in (0, 1, 2) if scene.name in ("new", "output", "book, nothing known") else (0, 1):
+        for plain in ways.get(scene.name, (0, 1)):
             yield "disturb", scene.name, plain, options
     for plain in (0, 1):
         yield "race", "races", plain, options

@@ -1,9 +1,10 @@
-"""An independent model of the rules (documents 01 and 02, FRC-0058, FIPS 180-4), written from the papers alone.
+"""An independent model of the rules (documents 01 and 02, FRC-0058, FIPS 180-4), written from the papers.
 
 SHA-256 is Python's hashlib. Nothing here is shared with the library under test. The node hash and the checksum can be
 replaced by weak ones (see `weak`), so that code 17 can be seen to occur.
 """
 import hashlib
+from itertools import combinations
 
 ZERO32, ZERO64 = bytes(32), bytes(64)
 
@@ -322,6 +323,47 @@ class Model:
         out[p : p + 64] = self.entry(self.tree(whole)[-1][0], o, s)
         return 0, o, p, bytes(out)
 
+    # ---- cancel and collect
+    def cancel(self, deal, place, tree=None):
+        """Code, the deal afterwards. A tree buffer is judged by its length alone; see `cancel_with_tree`."""
+        d = len(deal)
+        if not self.lent_allowed(d):
+            return 2, deal
+        if stray(deal):
+            return 11, deal
+        if not tree_allowed(d, tree):
+            return 12, deal
+        _, n, start = index_numbers(d)
+        if place % 64 or not start <= place < d:
+            return 6, deal
+        if self.standing(deal, (place - start) // 64) is None:
+            return 16, deal
+        return 0, deal[:place] + ZERO64 + deal[place + 64:]
+
+    def collect(self, deal, second, tree=None):
+        """Code, the second deal afterwards. A tree buffer is judged by its length alone; see `collect_with_tree`."""
+        d = len(deal)
+        if not self.lent_allowed(d):
+            return 2, second
+        if len(second) != d:
+            return 12, second
+        if stray(deal):
+            return 11, second
+        if not tree_allowed(d, tree):
+            return 12, second
+        _, n, start = index_numbers(d)
+        rows = [row for row in (self.standing(deal, i) for i in range(n)) if row]
+        overlap = lambda r, s: r[1] < s[1] + area(s[2]) and s[1] < r[1] + area(r[2])
+        if any(overlap(r, s) for r, s in combinations(rows, 2)):
+            return 20, second
+        new, offset, place = bytearray(d), 0, start
+        for c, o, s in sorted(rows, key=lambda row: (-area(row[2]), row[1])):
+            a = area(s)
+            new[offset : offset + a] = deal[o : o + a]
+            new[place : place + 64] = self.entry(c, offset, s)
+            offset, place = offset + a, place + 64
+        return 0, bytes(new)
+
     # ---- the tree beside the deal
     def fill(self, deal, tree):
         """Code, the tree buffer afterwards."""
@@ -365,6 +407,16 @@ class Model:
         """Code, offset, place, the deal afterwards, the tree buffer afterwards."""
         code, o, p, after = self.book(deal, segment, tree)
         return code, o, p, after, self.renewed(after, tree, ((o, area(len(segment))), (p, 64))) if code == 0 else tree
+
+    def cancel_with_tree(self, deal, tree, place):
+        """Code, the deal afterwards, the tree buffer afterwards."""
+        code, after = self.cancel(deal, place, tree)
+        return code, after, self.renewed(after, tree, ((place, 64),)) if code == 0 else tree
+
+    def collect_with_tree(self, deal, second, tree):
+        """Code, the second deal afterwards, its tree buffer afterwards."""
+        code, after = self.collect(deal, second, tree)
+        return code, after, self.fill(after, tree)[1] if code == 0 else tree
 
     # ---- records
     @staticmethod

@@ -2,8 +2,8 @@
 import random
 import sys
 
-from model import (BLANK, DAMAGED, MAX_RAW, VALID, Model, Weak, area, index_numbers, node_in, node_place, pad, segment_length, sha256, stray,
-                   unpad, ZERO32, ZERO64)
+from model import (BLANK, DAMAGED, MAX_RAW, VALID, Model, Weak, area, filled, index_numbers, node_in, node_place, pad,
+                   segment_length, sha256, stray, unpad, ZERO32, ZERO64)
 
 
 def expect(what, got, want):
@@ -261,6 +261,222 @@ def renewed_trees():
             expect(f"the nodes that change with {size} bytes", changed, above)
 
 
+def put(data, at, part):
+    return data[:at] + part + data[at + len(part):]
+
+
+def booked(m, d, *segments):
+    """A deal of d zeros with these segments booked."""
+    deal = bytes(d)
+    for s in segments:
+        code, _, _, deal = m.book(deal, s)
+        expect("a booking", code, 0)
+    return deal
+
+
+def cancellations():
+    """64 zero bytes are written, and no other; slot and bytes are free then. An entry that stands is cancelled, kept or
+    not."""
+    m, rng = Model(), random.Random(12)
+    a, b, c = (segment(rng, 128) for _ in range(3))
+    deal = booked(m, 512, a, b)
+    after = a + b + bytes(64) + m.entry(m.commitment(b)[1], 128, 128) + bytes(128)
+    expect("A cancelled", m.cancel(deal, 256), (0, after))
+    expect("A cancelled twice", m.cancel(after, 256), (16, after))
+    expect("A booked again", m.book(after, a), (0, 0, 256, deal))
+    expect("another one in its place", m.book(after, c)[:3], (0, 0, 256))
+    expect("a shorter one over its bytes", m.book(after, c[:100])[3][:128], c[:100] + bytes(28))
+    false = put(deal, 256, m.entry(node_of(rng), 0, 128))
+    expect("an entry that is not kept", (m.build(false, 256)[0], m.cancel(false, 256)), (16, (0, after)))
+    damaged, valid = put(deal[256:320], 40, b"\1"), m.entry(node_of(rng), 64, 128)
+    for what, slot in (("blank", bytes(64)), ("damaged", damaged), ("valid", valid)):
+        spoilt = put(deal, 256, slot)
+        expect(f"a slot that is {what}", m.cancel(spoilt, 256), (16, spoilt))
+
+
+def cancelled_overlaps():
+    """The bytes of a cancelled entry are free wherever no other standing entry covers them."""
+    m, rng = Model(), random.Random(13)
+    deal = booked(m, 1024, segment(rng, 256))
+    deal = put(deal, 896, m.entry(node_of(rng), 0, 100))
+    inner, outer = m.cancel(deal, 896)[1], m.cancel(deal, 768)[1]
+    s = segment(rng, 128)
+    expect("both stand", m.book(deal, s)[:3], (0, 256, 832))
+    expect("the outer one stands", m.book(inner, s)[:3], (0, 256, 832))
+    expect("the inner one stands", m.book(outer, s)[:3], (0, 128, 768))
+    expect("none stands", m.book(m.cancel(outer, 896)[1], s)[:3], (0, 0, 768))
+
+
+def cancelling_order():
+    """2, 11, 12 with a tree, 6, 16."""
+    m, rng = Model(), random.Random(14)
+    deal = booked(m, 512, segment(rng, 128))
+    strayed, tree = put(deal, 223, b"\x80"), m.fill(deal, bytes(480))[1]
+    places = (0, 192, 255, 257, 300, 319, 512, 576, 256 + (1 << 32), (1 << 64) - 64, (1 << 64) - 1)
+    no_deals = strayed[:511], deal[:256], bytes(768), b"", bytes(1 << 25)
+    for p in (256, 320, *places):
+        for data, code in ((strayed, 11), *((data, 2) for data in no_deals)):
+            expect(f"cancelling at {p}", m.cancel(data, p), (code, data))
+            expect(f"cancelling at {p} with a tree", m.cancel_with_tree(data, tree[:-1], p), (code, data, tree[:-1]))
+        for other in (b"", tree[:1], tree[:-1], tree + b"\0"):
+            expect(f"a tree of {len(other)} bytes", m.cancel_with_tree(deal, other, p), (12, deal, other))
+    for p, code in (*((p, 6) for p in places), (320, 16), (448, 16)):
+        expect(f"place {p}", m.cancel(deal, p), (code, deal))
+        expect(f"place {p} with a tree", m.cancel_with_tree(deal, tree, p), (code, deal, tree))
+
+
+def cancelling_trees():
+    """The one node of each height above the 64 bytes is worked out anew, whatever the tree holds; so the deal's own
+    tree stays its own."""
+    m, rng = Model(), random.Random(15)
+    deal = booked(m, 1024, *(segment(rng, 128) for _ in range(4)))
+    for p in (768, 832, 896, 960):
+        own, other = m.fill(deal, bytes(992))[1], rng.randbytes(992)
+        code, after, tree = m.cancel_with_tree(deal, own, p)
+        expect("the deal's own tree", (code, after, tree), (*m.cancel(deal, p), m.fill(after, own)[1]))
+        renewed, node = other, m.h.node(bytes(64))
+        for h in range(1, 6):
+            i = p // (32 << h)
+            renewed = put(renewed, node_place(1024, h, i), node)
+            pair = node_place(1024, h, i & ~1)
+            node = m.h.node(renewed[pair : pair + 64])
+        expect("another tree", m.cancel_with_tree(deal, other, p), (0, after, renewed))
+
+
+def collections():
+    """Four bookings in 1,024 bytes, the first one cancelled: the larger area first, then the others by old offset;
+    entries in that order from the first slot, all else zero, whatever the second deal held."""
+    m, rng = Model(), random.Random(16)
+    a, b, c, e = (segment(rng, size) for size in (128, 256, 128, 128))
+    e = e[:100]
+    deal = booked(m, 1024, a, b, c, e)
+    expect("where they are", deal[:768], a + c + b + filled(e) + bytes(128))
+    deal = m.cancel(deal, 768)[1]
+    entry = lambda s, o: m.entry(m.commitment(filled(s))[1], o, len(s))
+    new = b + c + filled(e) + bytes(256) + entry(b, 0) + entry(c, 256) + entry(e, 384) + bytes(64)
+    tree = m.fill(new, bytes(992))[1]
+    for second in (bytes(1024), b"\xff" * 1024, deal):
+        expect("the new deal", m.collect(deal, second), (0, new))
+        expect("the new deal and its tree", m.collect_with_tree(deal, second, rng.randbytes(992)), (0, new, tree))
+    expect("a new deal collected", m.collect(new, bytes(1024)), (0, new))
+    expect("all are kept", [m.inspect(new, p)[1] for p in (768, 832, 896, 960)], [2, 2, 2, 0])
+    expect("A booked again", m.book(new, a)[:3], (0, 512, 960))
+    expect("old bytes that no entry names", m.collect(put(segment(rng, 1024), 768, bytes(256)), deal), (0, bytes(1024)))
+
+
+def collected_entries():
+    """What others have made: entries in any slots, not kept, with other bytes than zeros after the size, and slots with
+    no standing entry. The commitment is copied, the size stays, all bytes of the area move; what does not stand is left
+    behind."""
+    m, rng = Model(), random.Random(17)
+    data, left, right = segment(rng, 768), node_of(rng), node_of(rng)
+    damaged = put(m.entry(left, 256, 128), 48, bytes(16))
+    slots = m.entry(right, 640, 1), damaged, m.entry(left, 384, 100), m.entry(left, 0, 130)
+    new = data[:256] + data[384:512] + data[640:768] + bytes(256)
+    new += m.entry(left, 0, 130) + m.entry(left, 256, 100) + m.entry(right, 384, 1) + bytes(64)
+    expect("entries that are not kept", m.collect(data + b"".join(slots), bytes(1024)), (0, new))
+    for o, s in ((64, 128), (256, 0), (0, 513), ((1 << 64) - 128, 128)):
+        other = data + slots[0] + m.entry(left, o, s) + slots[2] + slots[3]
+        expect("a valid entry that does not stand", m.collect(other, bytes(1024)), (0, new))
+
+
+def overlaps():
+    """20 where two standing areas overlap, and only there: by area, not by size or offset, whether kept or not."""
+    m, rng = Model(), random.Random(18)
+    second, tree = rng.randbytes(2048), rng.randbytes(2016)
+    slots = lambda rows: b"".join(m.entry(node_of(rng), o, s) for o, s in rows)
+    rows = lambda *rows: bytes(1792) + slots(rows) + bytes(256 - 64 * len(rows))
+    for first, other in (((0, 128), (0, 128)), ((0, 256), (128, 128)), ((128, 1), (0, 129)), ((0, 257), (384, 128)),
+                         ((512, 512), (896, 1))):
+        for pair in ((first, other), (other, first)):
+            expect(f"{pair}", m.collect(rows(*pair), second), (20, second))
+            expect(f"{pair}", m.collect_with_tree(rows((1536, 128), *pair), second, tree), (20, second, tree))
+    for pair in (((0, 128), (128, 128)), ((0, 100), (256, 256)), ((512, 257), (256, 256)), ((1664, 128), (1536, 128))):
+        expect(f"{pair}", m.collect(rows(*pair), second)[0], 0)
+    deal = rows((0, 128), (0, 256))
+    expect("one of them cancelled", m.collect(m.cancel(deal, 1792)[1], second)[0], 0)
+    expect("one of them damaged", m.collect(put(deal, 1800, b"\1\2"), second)[0], 0)
+
+
+def collecting_order():
+    """2, 12 for the second deal, 11, 12 for the tree, 20. Stray bits in a second deal or a tree are none of a lent
+    deal."""
+    m, rng = Model(), random.Random(19)
+    deal = booked(m, 512, segment(rng, 128))
+    clash = put(deal, 448, m.entry(node_of(rng), 0, 256))
+    strayed, tree = put(clash, 31, b"\x40"), b"\xff" * 480
+    for n in (0, 1, 256, 480, 511, 513, 544, 1024):
+        other, short = b"\xff" * n, tree[:-1]
+        for data, code in ((deal, 12), (clash, 12), (strayed, 12), (strayed[:511], 2), (deal[:256], 2), (b"", 2)):
+            expect(f"a second deal of {n} bytes", m.collect(data, other), (code, other))
+            expect("the same with a short tree", m.collect_with_tree(data, other, short), (code, other, short))
+    large = bytes(1 << 25)
+    expect("a deal that is too large", m.collect(large, large), (2, large))
+    second = b"\xff" * 512
+    expect("stray bits", m.collect(strayed, second), (11, second))
+    for n in (0, 1, 479, 481, 512):
+        for data, code in ((deal, 12), (clash, 12), (strayed, 11)):
+            expect(f"a tree of {n} bytes", m.collect_with_tree(data, second, bytes(n)), (code, second, bytes(n)))
+    expect("two that overlap", m.collect_with_tree(clash, second, tree), (20, second, tree))
+    expect("a deal", m.collect_with_tree(deal, second, tree)[0], 0)
+
+
+def half_a_deal():
+    """A segment with an area of half the deal fits at 0 alone: once anything stands below it gets 14, and collecting
+    does not help."""
+    m, rng = Model(), random.Random(20)
+    half, small = segment(rng, 512), segment(rng, 128)
+    deal = booked(m, 1024, half, small)
+    deal = m.cancel(deal, 768)[1]
+    expect("the half again", m.book(deal, half)[:3], (0, 0, 768))
+    deal = m.collect(deal, bytes(1024))[1]
+    expect("a smaller one moved to 0", deal[:128], small)
+    expect("the half afterwards", m.book(deal, half)[:3], (14, 0, 0))
+    deal = m.cancel(deal, 768)[1]
+    expect("the half once none stands", m.book(deal, half)[:3], (0, 0, 768))
+
+
+def old_records():
+    """A record belongs to the commitment of the deal it was built from."""
+    m, rng = Model(), random.Random(21)
+    deal = booked(m, 1024, segment(rng, 128), segment(rng, 256))
+    old, records = m.commitment(deal)[1], [m.build(deal, p)[1] for p in (768, 832)]
+    for after in (m.cancel(deal, 768)[1], m.collect(deal, bytes(1024))[1]):
+        new = m.commitment(after)[1]
+        for r in records:
+            expect("an old record", (m.check(old, 1024, r), m.check(new, 1024, r) in (9, 10)), (0, True))
+    expect("new records", [m.check(new, 1024, m.build(after, p)[1]) for p in (768, 832)], [0, 0])
+
+
+def whole_runs():
+    """Bookings, cancellations and collections from zeros: each segment that was booked and not cancelled since is kept,
+    with its size and bytes; nothing else stands; areas do not overlap, so that 20 is never met; the tree kept over all
+    of it is the deal's own."""
+    for seed in range(40):
+        rng = random.Random(f"whole/{seed}")
+        m, d = Model() if seed % 2 else Model(Weak(4)), rng.choice((512, 1024, 2048))
+        deal, wanted = bytes(d), []
+        tree = m.fill(deal, bytes(d - 32))[1]
+        for _ in range(30):
+            kind = rng.randrange(5)
+            if kind < 3:
+                s = segment(rng, 512)[: rng.choice((1, 100, 128, 130, 256, 300))]
+                code, _, _, deal, tree = m.book_with_tree(deal, tree, s)
+                wanted += [s] if code == 0 else []
+            elif kind == 3:
+                i = rng.randrange(4)
+                row = m.standing(deal, i)
+                code, deal, tree = m.cancel_with_tree(deal, tree, d - 256 + 64 * i)
+                expect("a cancellation", code, 0 if row else 16)
+                wanted = [s for s in wanted if code or s != deal[row[1] : row[1] + row[2]]]
+            else:
+                code, deal, tree = m.collect_with_tree(deal, rng.randbytes(d), rng.randbytes(d - 32))
+                expect("a collection", code, 0)
+            rows = [m.kept(deal, i) for i in range(4) if m.standing(deal, i)]
+            expect("what is kept", sorted(deal[o : o + s] for _, o, s in rows), sorted(wanted))
+            expect("the tree", (0, tree), m.fill(deal, tree))
+
+
 published_values()
 streams()
 paddings()
@@ -273,4 +489,15 @@ true_trees()
 stale_trees()
 other_trees()
 renewed_trees()
+cancellations()
+cancelled_overlaps()
+cancelling_order()
+cancelling_trees()
+collections()
+collected_entries()
+overlaps()
+collecting_order()
+half_a_deal()
+old_records()
+whole_runs()
 print(f"model_test: the papers' values hold in the model; with a weak node hash {collisions()} collisions were shown")

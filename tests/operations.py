@@ -11,15 +11,16 @@ from model import Model, index_numbers, le, pad, sha256, unpad
 # The operations by number, as crates/vectors and rust/examples/replay/operation.rs have them. CHECK_INPUT is of the program check_record,
 # and COMPARE of the code that settling shares (two paths from one position): no routines of their own.
 (SHA256, COMMITMENT, NUMBERS, MAKE, READ, FIND, BOOK, BUILD, CHECK, SETTLE, SETTLE_DEAL, FIELDS, CHECK_INPUT, INSPECT, COMPARE, STREAM, PAD,
- UNPAD, TALLY, FILL, BOOK_TREE, BUILD_TREE, SETTLE_TREE) = range(1, 24)
-ROW = 28
+ UNPAD, TALLY, FILL, BOOK_TREE, BUILD_TREE, SETTLE_TREE, CANCEL, CANCEL_TREE, COLLECT, COLLECT_TREE, ROW) = range(1, 29)
 
 NAMES = {SHA256: "sha256", COMMITMENT: "commitment", NUMBERS: "index_numbers", MAKE: "make_entry", READ: "read_entry", FIND: "find",
          BOOK: "book", BUILD: "build", CHECK: "check", SETTLE: "settle_records", SETTLE_DEAL: "settle_with_deal", FIELDS: "read_field",
-         TALLY: "tally", FILL: "tree_fill", BOOK_TREE: "book_with_tree", BUILD_TREE: "build_with_tree", SETTLE_TREE: "settle_with_tree", ROW: "tree_row"}
+         TALLY: "tally", FILL: "tree_fill", BOOK_TREE: "book_with_tree", BUILD_TREE: "build_with_tree",
+         SETTLE_TREE: "settle_with_tree", CANCEL: "cancel", CANCEL_TREE: "cancel_with_tree", COLLECT: "collect",
+         COLLECT_TREE: "collect_with_tree", ROW: "tree_row"}
 
 # The forms that take a tree, in c; their other arguments are those of the plain forms.
-PLAIN_FORM = {BOOK_TREE: BOOK, BUILD_TREE: BUILD, SETTLE_TREE: SETTLE_DEAL}
+PLAIN_FORM = {BOOK_TREE: BOOK, BUILD_TREE: BUILD, SETTLE_TREE: SETTLE_DEAL, CANCEL_TREE: CANCEL, COLLECT_TREE: COLLECT}
 
 MODEL = Model()
 
@@ -78,6 +79,30 @@ def row_written(case):
     """a is the row below, b the row above before; the row above afterwards."""
     code, above = MODEL.row(case.a, case.b)
     return code, digest(above)
+
+
+def cancelled(case):
+    """x is the place; the deal afterwards."""
+    code, deal = MODEL.cancel(case.a, case.x)
+    return code, digest(deal)
+
+
+def cancelled_with_tree(case):
+    """The deal and the tree afterwards."""
+    code, deal, tree = MODEL.cancel_with_tree(case.a, case.c, case.x)
+    return code, digest(deal), digest(tree)
+
+
+def collected(case):
+    """b is the second deal before; the second deal afterwards."""
+    code, second = MODEL.collect(case.a, case.b)
+    return code, digest(second)
+
+
+def collected_with_tree(case):
+    """The second deal and its tree afterwards."""
+    code, second, tree = MODEL.collect_with_tree(case.a, case.b, case.c)
+    return code, digest(second), digest(tree)
 
 
 def tree_of(case):
@@ -167,6 +192,10 @@ ANSWERS = {
     BOOK_TREE: booked_with_tree,
     BUILD_TREE: built,
     SETTLE_TREE: lambda case: MODEL.settle_deal(case.a, case.b, case.c),
+    CANCEL: cancelled,
+    CANCEL_TREE: cancelled_with_tree,
+    COLLECT: collected,
+    COLLECT_TREE: collected_with_tree,
     ROW: row_written,
 }
 

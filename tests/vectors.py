@@ -7,6 +7,7 @@ import random
 import sys
 from pathlib import Path
 
+import change_cases
 import tree_cases
 from cases import any_number, case, node, paddings, run, streams
 from model import area, filled, index_numbers, le
@@ -222,8 +223,13 @@ def all_cases():
     yield from tree_cases.runs(random.Random(7), 4, (512, 1024))
     yield from tree_cases.changed_deals(random.Random(4), 12)
     yield from tree_cases.rows(random.Random(28))
+    yield from random.Random(8).sample(list(change_cases.orders(random.Random(20))), 60)
+    yield from change_cases.overlaps(random.Random(257))
+    yield from change_cases.one_rule(random.Random(2048))
+    yield from change_cases.runs(random.Random(16), 3, (512, 1024), 12)
+    yield from change_cases.foreign_deals(random.Random(256), 8, (512, 1024))
     yield COMMITMENT, run(rng, 8192), b"", 0, 0
-    for _ in range(60):
+    for _ in range(50):
         for op in NAMES:
             yield case(rng, op, (512, 512, 1024))
 
@@ -239,8 +245,8 @@ def main():
         else:
             path.write_bytes(data)
     codes = sorted({int(line.split()[0]) for line in texts["stdout"].decode().splitlines()})
-    if codes != [*range(20), 24]:
-        sys.exit(f"vectors: the codes {codes} are not 0 to 19 and 24")
+    if codes != [*range(21), 24]:
+        sys.exit(f"vectors: the codes {codes} are not 0 to 20 and 24")
     print(f"vectors: {len(calls)} calls, codes {codes}")
 
 

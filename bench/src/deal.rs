@@ -11,6 +11,8 @@ const HASHING: &str = "one pass: commitment of the deal";
 const BUILD: &str = "build: the record of the last of 64 entries";
 const BUILD_HALF: &str = "build: the record of a segment of half the deal";
 const SETTLE: &str = "settle: that record with the deal";
+const COLLECT: &str = "collect: 64 segments of 64 KiB into a second deal";
+const COLLECT_WORK: &str = "a tally, and a copy of the deal's bytes";
 const FIND_SIZE: &str = "worst find: 128 entries over one half (16)";
 const FIND_SIZES: &str = "worst find: 128 sizes over one half (16)";
 const FIND_AREAS: &str = "worst find: 128 areas, the largest first (16)";
@@ -29,12 +31,15 @@ pub fn print() -> Vec<Aim> {
         (name, Work::new(find))
     }));
     works.extend([booking(&deal, true), booking(&deal, false)]);
+    works.extend(collecting(&deal));
     let passes = Passes::print(works, ["reading passes", "hashing passes"]);
     let hashing = |works: &[&str]| passes.slowest(works, HASHING);
+    let collecting = passes.slowest(&[COLLECT], COLLECT_WORK);
     vec![
         Aim::at_most("build, passes of hashing over the deal", 1.15, hashing(&[BUILD, BUILD_HALF])),
         Aim::at_most("settle with the deal, passes of hashing", 1.15, hashing(&[SETTLE])),
         Aim::at_most("worst find, passes of hashing", 8.0, hashing(&[FIND_SIZE, FIND_SIZES, FIND_AREAS])),
+        Aim::at_most("collect, time over a tally and a copy of the deal's bytes", 1.5, collecting),
     ]
 }
 
@@ -158,4 +163,16 @@ fn booking<'a>(deal: &[u8], fresh: bool) -> (&'static str, Work<'a>) {
         other => panic!("booking: {other:?}"),
     };
     (name, Work::new(book))
+}
+
+/// Collecting into a second deal; and what it cannot do without: the pass for stray bits, the checksums of all slots,
+/// and each byte of the second deal written.
+fn collecting(deal: &[u8]) -> Works<'_> {
+    let (mut second, mut copy) = (vec![0; DEAL], vec![0; DEAL]);
+    let collect = move || assert_eq!(vizhuthamen::collect(black_box(deal), &mut second, None), Ok(()));
+    let work = move || {
+        black_box(vizhuthamen::tally(black_box(deal)).unwrap());
+        black_box(&mut copy).copy_from_slice(deal);
+    };
+    vec![(COLLECT, Work::new(collect)), (COLLECT_WORK, Work::new(work))]
 }

@@ -68,6 +68,8 @@ functions! {
     tally: (In, usize, Number, Number, Number);
     find: (In, usize, In, usize, Number, Number, Number);
     book: (Out, usize, In, usize, Number, Number);
+    cancel: (Out, usize, u64);
+    collect: (In, usize, Out, usize);
     build: (In, usize, u64, Out, usize, Number);
     check: (In, usize, u64, In, usize);
     settle_records: (In, usize, u64, In, usize, In, usize, Out, usize, Out, usize);
@@ -75,6 +77,8 @@ functions! {
     tree_fill: (In, usize, Out, usize);
     tree_row: (In, usize, Out, usize);
     book_with_tree: (Out, usize, Out, usize, In, usize, Number, Number);
+    cancel_with_tree: (Out, usize, Out, usize, u64);
+    collect_with_tree: (In, usize, Out, usize, Out, usize);
     build_with_tree: (In, usize, In, usize, u64, Out, usize, Number);
     settle_with_tree: (In, usize, In, usize, In, usize, Out, usize, Out, usize);
     read_field: (In, usize, u64, *mut u32, Number, Number, Number);

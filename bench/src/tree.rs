@@ -16,16 +16,21 @@ const RECORDS: &str = "fill the tree, and build all 128 records";
 const RECORDS_WORK: &str = "two commitments, and 128 passes for stray bits";
 const BOOK: &str = "book with the tree: a 65th segment, of 4 MiB";
 const BOOK_WORK: &str = "a tally, two commitments of 4 MiB, and 21 node hashes";
+const CANCEL: &str = "cancel with the tree: the last of 128 entries";
+const CANCEL_WORK: &str = "one pass for stray bits, and 20 node hashes";
 
 /// Segments of a full deal, and the bytes of the one that is booked.
 const FULL: u8 = 128;
 const BOOKED: usize = 1 << 22;
 /// Nodes of the deal's tree above the booked segment, and above its entry: heights 18 and 19, and 1 to 19.
 const NODES_ABOVE: usize = 2 + 19;
+/// The checksum of an entry, and the nodes above it.
+const ENTRY_HASHES: usize = 1 + 19;
 /// No entry place.
 const NO_PLACE: u64 = 300;
 
 /// A deal with its tree, and the place of its last entry.
+#[derive(Clone)]
 struct InHand {
     deal: Vec<u8>,
     tree: Vec<u8>,
@@ -65,6 +70,7 @@ pub fn print() -> Vec<Aim> {
     let mut works = passes(&full);
     works.extend(records(&full));
     works.extend(bookings(half));
+    works.extend(cancellations(&full));
     let passes = Passes::print(works, ["stray-bit passes", "commitments"]);
     let over = |work: &str, other: &str| passes.slowest(&[work], other);
     vec![
@@ -74,6 +80,11 @@ pub fn print() -> Vec<Aim> {
             "book 4 MiB with the tree, time over a tally, hashing the segment twice and the nodes above",
             1.1,
             over(BOOK, BOOK_WORK),
+        ),
+        Aim::at_most(
+            "cancel with the tree, time over a stray-bit pass, the entry's checksum and the nodes above it",
+            1.1,
+            over(CANCEL, CANCEL_WORK),
         ),
         Aim::at_most(
             "fill a tree and build 128 records, time over two commitments and 128 stray-bit passes",
@@ -135,4 +146,22 @@ fn bookings<'a>(InHand { mut deal, mut tree, .. }: InHand) -> Works<'a> {
         (0..NODES_ABOVE).for_each(|_| commitment(&hashed[..64]));
     };
     vec![(BOOK, Work::new(book)), (BOOK_WORK, Work::new(work))]
+}
+
+/// Cancelling an entry that is put in again; and the work that is named for it. Either has a deal of its own, so that neither
+/// finds more of it in the processor's cache.
+fn cancellations<'a>(full: &InHand) -> Works<'a> {
+    let (InHand { mut deal, mut tree, last }, lent) = (full.clone(), full.clone());
+    let entry = deal[last as usize..][..64].to_vec();
+    let cancel = move || {
+        deal[last as usize..][..64].copy_from_slice(&entry);
+        assert_eq!(vizhuthamen::cancel(black_box(&mut deal), Some(&mut tree), last), Ok(()));
+    };
+    let work = move || {
+        lent.stray_pass();
+        (0..ENTRY_HASHES).for_each(|_| {
+            black_box(vizhuthamen::commitment(black_box(&lent.deal[..64])).expect("a run"));
+        });
+    };
+    vec![(CANCEL, Work::new(cancel)), (CANCEL_WORK, Work::new(work))]
 }

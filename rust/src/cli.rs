@@ -46,13 +46,9 @@ fn run_words(words: Vec<OsString>) -> Result<u8, Failure> {
     }
 }
 
-/// Writes an answer, as text or as one JSON object, and gives the exit status. Where standard output is for bytes, a refusal goes to
-/// standard error.
+/// Writes an answer, as text or as one JSON object, and then its notes, and gives the exit status. Where standard output is for bytes,
+/// a refusal goes to standard error.
 fn report(answer: Answer, json: bool, raw: bool) -> Result<u8, Failure> {
-    let status = answer.status();
-    for note in &answer.notes {
-        output::message(note);
-    }
     let written = match (&answer.bytes, json) {
         (Some(bytes), false) => output::write(bytes),
         (None, false) if raw => {
@@ -66,6 +62,10 @@ fn report(answer: Answer, json: bool, raw: bool) -> Result<u8, Failure> {
         Err(failure) if answer.wrote => {
             Err(Failure { message: format!("{}; what was asked is done", failure.message), ..failure })
         }
-        written => written.map(|()| status),
+        Err(failure) => Err(failure),
+        Ok(()) => {
+            answer.notes.iter().for_each(|note| output::message(note));
+            Ok(answer.status())
+        }
     }
 }

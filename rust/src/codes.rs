@@ -37,14 +37,15 @@ refusals! {
     9 SEGMENT_PATH "the segment path does not lead to the deal commitment"
     10 ENTRY_PATH "the entry path does not lead to the deal commitment"
     11 STRAY_BITS "a node of a run, deal, stream or segment has stray bits"
-    12 OUTPUT "an output is too short, or an output or a tree is not of its one length"
+    12 OUTPUT "an output is too short, or an output, second deal or tree is not of its one length"
     13 NO_SLOT "no slot is free"
     14 NO_PLACE "no free place"
     15 ALREADY_KEPT "the segment is kept already"
-    16 NOT_KEPT "no kept entry at that place, or with that commitment"
+    16 NOT_KEPT "no kept entry at that place, or with that commitment; to cancel, no standing entry"
     17 COLLISION "two different 64-byte strings with one node hash are shown"
     18 OTHER_PLACE "the two records name different entry places"
     19 PATH_BITS "a node of a path has stray bits"
+    20 OVERLAP "two standing entries overlap"
     24 SEGMENT_LENGTH "the segment has another length than the raw length gives"
 }
 
@@ -102,7 +103,7 @@ mod tests {
             assert_eq!(refusal.meaning(), *text);
             assert!(REFUSALS[..i].iter().all(|other| other.0.code() < refusal.code() && other.2 != *text), "{refusal}");
         }
-        for code in [20, 23, 25, u32::MAX] {
+        for code in [21, 23, 25, u32::MAX] {
             assert_eq!(meaning(code), "unknown code");
         }
     }

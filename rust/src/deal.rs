@@ -1,4 +1,4 @@
-//! A deal in memory: its slots, finding a segment, booking one.
+//! A deal in memory: its slots, finding a segment, booking and cancelling one, collecting all.
 use crate::codes::{accepted, Refusal};
 use crate::entry::{written, Entry};
 use crate::ffi;
@@ -129,6 +129,71 @@ pub fn book(deal: &mut [u8], tree: Option<&mut [u8]>, segment: &[u8]) -> Result<
     }
 }
 
+/// Cancels the entry that stands at a place, kept or not: its 64 bytes are zeros afterwards, and no other byte changes.
+/// Its slot is then free for booking, and so are its segment's bytes wherever no other standing entry covers them.
+/// Refusals: 2, 11, 6, 16 where no entry stands; with a tree 12 after 11.
+///
+/// With a tree (see [`tree_fill`](crate::tree_fill)), every node above the 64 bytes is worked out anew; no other byte
+/// of the tree changes.
+///
+/// ```
+/// use vizhuthamen::{book, cancel, Booking, Refusal};
+///
+/// let mut deal = [0; 512];
+/// let Booking::Booked(position) = book(&mut deal, None, &[1; 128])? else { unreachable!("nothing is kept yet") };
+/// cancel(&mut deal, None, position.place)?;
+/// assert_eq!(deal[..128], [1; 128]); // the segment's bytes stay
+/// assert_eq!(cancel(&mut deal, None, position.place), Err(Refusal::NOT_KEPT));
+/// assert_eq!(book(&mut deal, None, &[2; 128]), Ok(Booking::Booked(position)));
+/// # Ok::<(), Refusal>(())
+/// ```
+pub fn cancel(deal: &mut [u8], tree: Option<&mut [u8]>, place: u64) -> Result<(), Refusal> {
+    let (d, n) = (deal.as_mut_ptr(), deal.len());
+    // SAFETY: the slices are live and apart, since both are borrowed mutably.
+    let code = unsafe {
+        match tree {
+            None => ffi::vz_cancel(d, n, place),
+            Some(tree) => ffi::vz_cancel_with_tree(d, n, tree.as_mut_ptr(), tree.len(), place),
+        }
+    };
+    accepted(code)
+}
+
+/// Collects a deal into a second one of the same length, whatever that holds. The segments of the standing entries, all
+/// bytes of each area, are packed from 0 by falling area, equal ones by old offset; the entries, with commitment and
+/// size as they were, stand from the first slot on in that order; all else is zero. The deal itself stays; records that
+/// were built from it belong to its commitment, not to the second deal's. Refusals: 2, 12 for a second deal of any
+/// other length, 11, 20; with a tree 12 after 11.
+///
+/// The tree is one for the second deal, and is left filled for it (see [`tree_fill`](crate::tree_fill)), whatever it
+/// held.
+///
+/// ```
+/// use vizhuthamen::{book, cancel, collect, inspect, Slot};
+///
+/// let mut deal = [0; 1024];
+/// for byte in 1..=3 {
+///     book(&mut deal, None, &[byte; 128])?;
+/// }
+/// cancel(&mut deal, None, 832)?; // the second of them
+/// let mut second = [7; 1024];
+/// collect(&deal, &mut second, None)?;
+/// assert_eq!(second[..256], [[1; 128], [3; 128]].concat());
+/// assert!(matches!(inspect(&second, 832)?, Slot::Kept(entry) if entry.offset == 128));
+/// # Ok::<(), vizhuthamen::Refusal>(())
+/// ```
+pub fn collect(deal: &[u8], second: &mut [u8], tree: Option<&mut [u8]>) -> Result<(), Refusal> {
+    let (d, n, s, m) = (deal.as_ptr(), deal.len(), second.as_mut_ptr(), second.len());
+    // SAFETY: the slices are live and apart, since two are borrowed mutably.
+    let code = unsafe {
+        match tree {
+            None => ffi::vz_collect(d, n, s, m),
+            Some(tree) => ffi::vz_collect_with_tree(d, n, s, m, tree.as_mut_ptr(), tree.len()),
+        }
+    };
+    accepted(code)
+}
+
 #[cfg(test)]
 mod tests {
     use super::*;
@@ -202,6 +267,142 @@ mod tests {
         assert_eq!(book(&mut deal, None, &[0xff; 128]), Err(Refusal::STRAY_BITS));
         deal[31] = 0x40;
         assert_eq!(book(&mut deal, None, &[0; 128]), Err(Refusal::STRAY_BITS));
+    }
+
+    /// A deal of 1,024 bytes: areas of 128, 256 and 128 at 0, 256 and 128, in the first three slots.
+    fn three_segments() -> [u8; 1024] {
+        let mut deal = [0; 1024];
+        assert_eq!(book(&mut deal, None, &segment(1, 128)), booked(0, 768));
+        assert_eq!(book(&mut deal, None, &segment(2, 256)), booked(256, 832));
+        assert_eq!(book(&mut deal, None, &segment(3, 100)), booked(128, 896));
+        deal
+    }
+
+    #[test]
+    fn a_cancelled_entry_leaves_its_bytes() {
+        let mut deal = three_segments();
+        let before = deal;
+        assert_eq!(cancel(&mut deal, None, 832), Ok(()));
+        assert_eq!(deal[832..896], [0; 64]);
+        assert_eq!((&deal[..832], &deal[896..]), (&before[..832], &before[896..]));
+        assert_eq!(inspect(&deal, 832), Ok(Slot::Free));
+        assert_eq!(cancel(&mut deal, None, 832), Err(Refusal::NOT_KEPT));
+        assert_eq!(book(&mut deal, None, &segment(2, 256)), booked(256, 832));
+        assert_eq!(deal, before);
+    }
+
+    #[test]
+    fn zeros_follow_a_segment_over_cancelled_bytes() {
+        let mut deal = three_segments();
+        cancel(&mut deal, None, 832).unwrap();
+        assert_eq!(book(&mut deal, None, &segment(4, 130)), booked(256, 832));
+        assert_eq!(deal[256..386], segment(4, 130));
+        assert_eq!(deal[386..512], [0; 126]);
+    }
+
+    #[test]
+    fn an_entry_that_stands_is_cancelled_kept_or_not() {
+        let mut deal = three_segments();
+        deal[300] ^= 1;
+        assert!(matches!(inspect(&deal, 832), Ok(Slot::Standing(_))));
+        assert_eq!(cancel(&mut deal, None, 832), Ok(()));
+        deal[768] ^= 1; // the first entry is damaged
+        deal[960..].copy_from_slice(&make_entry(&[7; 32], 1, 1).unwrap()); // valid, and stands not
+        let before = deal;
+        for place in [768, 832, 960] {
+            assert_eq!(cancel(&mut deal, None, place), Err(Refusal::NOT_KEPT), "{place}");
+        }
+        assert_eq!(deal, before);
+    }
+
+    #[test]
+    fn refused_cancellations_change_nothing() {
+        let mut deal = three_segments();
+        let before = deal;
+        for place in [0, 704, 767, 769, 800, 1024, 768 + (1 << 32), u64::MAX - 63] {
+            assert_eq!(cancel(&mut deal, None, place), Err(Refusal::PLACE), "{place}");
+        }
+        assert_eq!(cancel(&mut deal[..1023], None, 768), Err(Refusal::SIZE));
+        assert_eq!(cancel(&mut [], None, 0), Err(Refusal::SIZE));
+        assert_eq!(deal, before);
+        deal[31] = 0x40;
+        for place in [768, 960, 0] {
+            assert_eq!(cancel(&mut deal, None, place), Err(Refusal::STRAY_BITS), "{place}");
+        }
+        assert_eq!(deal[768..], before[768..]);
+    }
+
+    #[test]
+    fn a_collected_deal_has_no_gaps() {
+        let mut deal = three_segments();
+        cancel(&mut deal, None, 768).unwrap();
+        let before = deal;
+        let mut second = [0xff; 1024];
+        assert_eq!(collect(&deal, &mut second, None), Ok(()));
+        assert_eq!(deal, before);
+        assert_eq!(second[..256], segment(2, 256));
+        assert_eq!(second[256..356], segment(3, 100));
+        assert_eq!(second[356..768], [0; 412]);
+        let entry = |bytes: &[u8], offset, size| Entry { commitment: commitment(bytes).unwrap(), offset, size };
+        assert_eq!(inspect(&second, 768), Ok(Slot::Kept(entry(&segment(2, 256), 0, 256))));
+        assert_eq!(inspect(&second, 832), Ok(Slot::Kept(entry(&second[256..384], 256, 100))));
+        assert_eq!(second[896..], [0; 128]);
+        let mut third = [0; 1024];
+        assert_eq!(collect(&second, &mut third, None), Ok(()));
+        assert_eq!(third, second);
+    }
+
+    #[test]
+    fn entries_that_are_not_kept_move_as_they_are() {
+        let mut deal = three_segments();
+        deal[228..256].fill(9); // other bytes than zeros after the size
+        deal[300] ^= 1;
+        deal[960..].copy_from_slice(&make_entry(&[7; 32], 640, 1).unwrap());
+        deal[800] ^= 1; // the first entry is damaged
+        let mut second = [0; 1024];
+        assert_eq!(collect(&deal, &mut second, None), Ok(()));
+        assert_eq!(second[..512], [&deal[256..512], &deal[128..256], &deal[640..768]].concat());
+        for (place, old, offset) in [(768, 832, 0), (832, 896, 256), (896, 960, 384)] {
+            let (Ok(Slot::Standing(entry)), Ok(Slot::Standing(moved))) = (inspect(&deal, old), inspect(&second, place))
+            else {
+                panic!("{place}: the entry stands, and is not kept");
+            };
+            assert_eq!(moved, Entry { offset, ..entry });
+        }
+        assert_eq!(second[960..], [0; 64]);
+    }
+
+    #[test]
+    fn refused_collections_change_nothing() {
+        let mut deal = three_segments();
+        deal[960..].copy_from_slice(&make_entry(&[7; 32], 128, 1).unwrap()); // as the third, so that two overlap
+        let expected = |deal: &[u8], length: usize, refusal: Refusal| {
+            let mut second = vec![0xff; length];
+            assert_eq!(collect(deal, &mut second, None), Err(refusal), "{length}");
+            assert!(second.iter().all(|byte| *byte == 0xff));
+        };
+        expected(&deal, 1024, Refusal::OVERLAP);
+        deal[31] = 0x40;
+        expected(&deal, 1024, Refusal::STRAY_BITS);
+        for length in [0, 1, 512, 1023, 1025, 2048] {
+            expected(&deal, length, Refusal::OUTPUT);
+            expected(&deal[..1000], length, Refusal::SIZE);
+        }
+        expected(&deal[..1000], 1000, Refusal::SIZE);
+        expected(&[], 0, Refusal::SIZE);
+    }
+
+    /// An area of half the deal fits at 0 alone, and collecting packs from there.
+    #[test]
+    fn half_a_deal_is_not_booked_beside_others() {
+        let mut deal = [0; 1024];
+        assert_eq!(book(&mut deal, None, &segment(1, 512)), booked(0, 768));
+        assert_eq!(book(&mut deal, None, &segment(2, 128)), booked(512, 832));
+        cancel(&mut deal, None, 768).unwrap();
+        let mut second = [0; 1024];
+        collect(&deal, &mut second, None).unwrap();
+        assert_eq!(book(&mut second, None, &segment(1, 512)), Err(Refusal::NO_PLACE));
+        assert_eq!(book(&mut deal, None, &segment(1, 512)), booked(0, 768));
     }
 
     #[test]

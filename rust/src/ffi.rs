@@ -91,6 +91,12 @@ extern "C" {
         place: *mut u64,
     ) -> u32;
 
+    /// Cancels the entry that stands at a place of a deal: its 64 bytes are zeros with 0. Codes: 2, 11, 6, 16.
+    pub fn vz_cancel(deal: *mut u8, deal_len: usize, place: u64) -> u32;
+
+    /// Collects a deal into a second one of the same length. Codes: 2, 12, 11, 20.
+    pub fn vz_collect(deal: *const u8, deal_len: usize, second: *mut u8, second_len: usize) -> u32;
+
     /// Builds the record of the entry at a place into the first bytes of `record`. Codes: 2, 11, 6, 16, 12.
     pub fn vz_build(
         deal: *const u8,
@@ -154,6 +160,19 @@ extern "C" {
         segment_len: usize,
         offset: *mut u64,
         place: *mut u64,
+    ) -> u32;
+
+    /// [`vz_cancel`] with the deal's tree in hand, which is brought up to date. Codes: 2, 11, 12, 6, 16.
+    pub fn vz_cancel_with_tree(deal: *mut u8, deal_len: usize, tree: *mut u8, tree_len: usize, place: u64) -> u32;
+
+    /// [`vz_collect`] with a tree for the second deal, which is filled. Codes: 2, 12 (second deal), 11, 12 (tree), 20.
+    pub fn vz_collect_with_tree(
+        deal: *const u8,
+        deal_len: usize,
+        second: *mut u8,
+        second_len: usize,
+        tree: *mut u8,
+        tree_len: usize,
     ) -> u32;
 
     /// [`vz_build`] with the deal's tree in hand. Codes: 2, 11, 12 (tree), 6, 16, 12 (record).

@@ -6,8 +6,9 @@
 //! a [`Refusal`], which carries the code and its meaning in words. The answers with a code that is not 0 and yet carry values (15
 //! of a booking, 17 of a settling) are cases of [`Booking`] and [`Settled`].
 //!
-//! Whoever builds many records of one deal keeps its tree beside it ([`filled_tree`]), and lends it to [`book`], [`build`] and
-//! [`settle_with_deal`], which then hash little of the deal.
+//! Whoever builds many records of one deal keeps its tree beside it ([`filled_tree`]), and lends it to [`book`],
+//! [`cancel`], [`build`] and [`settle_with_deal`], which then hash little of the deal. [`collect`] fills one for the
+//! second deal.
 //!
 //! ```
 //! let mut deal = vec![0; 512];
@@ -37,7 +38,7 @@ mod streaming;
 mod tree;
 
 pub use codes::{meaning, Refusal};
-pub use deal::{book, find, inspect, tally, Booking, Found, Position, Slot, Tally, MAX_DEAL};
+pub use deal::{book, cancel, collect, find, inspect, tally, Booking, Found, Position, Slot, Tally, MAX_DEAL};
 pub use entry::{index_numbers, make_entry, read_entry, Entry, IndexNumbers, ReadEntry};
 pub use fr32::{pad, pad_into, segment_length, unpad, unpad_into, MAX_RAW};
 pub use hash::{commitment, commitment_with_threads, sha256};

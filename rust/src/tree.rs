@@ -12,11 +12,13 @@ pub const fn tree_length(size: usize) -> usize {
 /// that node `i` of height `h`, from 1 on, stands at `D - D / 2^(h - 1) + 32 i` for a deal of `D` bytes, and the deal's
 /// commitment in the last 32 bytes. Refusals: 2, 11, 12. From 2^20 bytes on all processors work on it.
 ///
-/// [`book`](crate::book), [`build`](crate::build) and [`settle_with_deal`](crate::settle_with_deal) take such a tree, and then
-/// every inner node as it stands there. With a tree that was filled for the deal, where since then both were changed by this
-/// function and by `book` with the tree in hand alone, they answer as they do without one. With any other tree they answer too,
-/// but a record that is built may be refused by the check, a kept segment may be booked again, and the two strings that a
-/// settling shows may have two node hashes.
+/// [`book`](crate::book), [`cancel`](crate::cancel), [`build`](crate::build) and
+/// [`settle_with_deal`](crate::settle_with_deal) take such a tree, and then every inner node as it stands there. With a
+/// tree that was filled for the deal, where since then both were changed by this function and by `book` and `cancel`
+/// with the tree in hand alone, they answer as they do without one. With any other tree they answer too, but a record
+/// that is built may be refused by the check, a kept segment may be booked again, and the two strings that a settling
+/// shows may have two node hashes. [`collect`](crate::collect) fills a tree for the second deal, as this function
+/// would.
 pub fn tree_fill(deal: &[u8], tree: &mut [u8]) -> Result<(), Refusal> {
     tree_fill_with_threads(deal, tree, parts::threads(deal.len()))
 }
@@ -92,7 +94,7 @@ pub fn filled_tree(deal: &[u8]) -> Result<Vec<u8>, Refusal> {
 #[cfg(test)]
 mod tests {
     use super::*;
-    use crate::deal::{book, Booking, Position};
+    use crate::deal::{book, cancel, collect, Booking, Position};
     use crate::hash::commitment;
     use crate::record::{build, settle_with_deal, Settled};
     use crate::testing::{noise, segment};
@@ -231,6 +233,50 @@ mod tests {
     }
 
     #[test]
+    fn a_tree_kept_over_cancellations_is_that_of_the_deal() {
+        let mut deal = vec![0; 2048];
+        for (seed, size) in [(1, 128), (2, 300), (3, 1), (4, 512)] {
+            book(&mut deal, None, &segment(seed, size)).unwrap();
+        }
+        let mut plain = deal.clone();
+        let mut tree = filled_tree(&deal).unwrap();
+        for place in [1856, 1856, 1792, 1984, 1920, 1800] {
+            assert_eq!(cancel(&mut deal, Some(&mut tree), place), cancel(&mut plain, None, place));
+            assert_eq!(deal, plain);
+            assert_eq!(tree, nodes(&deal));
+        }
+    }
+
+    #[test]
+    fn cancelling_writes_one_node_of_each_height() {
+        let mut deal = [0; 1024];
+        book(&mut deal, None, &segment(1, 128)).unwrap();
+        book(&mut deal, None, &segment(2, 128)).unwrap();
+        let before = segment(9, tree_length(1024)); // any other bytes
+        let mut tree = before.clone();
+        assert_eq!(cancel(&mut deal, Some(&mut tree), 832), Ok(()));
+        let changed: Vec<usize> =
+            (0..992).step_by(32).filter(|at| tree[*at..at + 32] != before[*at..at + 32]).collect();
+        assert_eq!(changed, [32 * 13, 512 + 32 * 6, 768 + 32 * 3, 896 + 32, 960]);
+        assert_eq!(tree[960..], commitment(&tree[896..960]).unwrap().0);
+    }
+
+    #[test]
+    fn a_collected_deal_has_its_tree() {
+        let mut deal = vec![0; 2048];
+        for (seed, size) in [(1, 128), (2, 300), (3, 1)] {
+            book(&mut deal, None, &segment(seed, size)).unwrap();
+        }
+        cancel(&mut deal, None, 1792).unwrap();
+        let (mut plain, mut second, mut tree) = (vec![7; 2048], vec![0xff; 2048], vec![0xff; tree_length(2048)]);
+        assert_eq!(collect(&deal, &mut plain, None), Ok(()));
+        assert_eq!(collect(&deal, &mut second, Some(&mut tree)), Ok(()));
+        assert_eq!(second, plain);
+        assert_eq!(tree, nodes(&second));
+        assert_eq!(build(&second, Some(&tree), 1856), build(&second, None, 1856));
+    }
+
+    #[test]
     fn a_stale_tree_is_believed() {
         let mut deal = [0; 1024];
         let mut tree = filled_tree(&deal).unwrap();
@@ -265,6 +311,10 @@ mod tests {
             assert_eq!(book(&mut deal, Some(&mut tree[..length]), &segment(1, 128)), Err(Refusal::OUTPUT));
             assert_eq!(build(&deal, Some(&tree[..length]), 300), Err(Refusal::OUTPUT));
             assert_eq!(settle_with_deal(&deal, Some(&tree[..length]), &[]), Err(Refusal::OUTPUT));
+            assert_eq!(cancel(&mut deal, Some(&mut tree[..length]), 300), Err(Refusal::OUTPUT));
+            let mut second = [7; 512];
+            assert_eq!(collect(&deal, &mut second, Some(&mut tree[..length])), Err(Refusal::OUTPUT));
+            assert_eq!(second, [7; 512]);
         }
         assert_eq!((deal, tree), (before, [0; 512]));
     }

@@ -1,7 +1,7 @@
 /*
  * Every function of include/vizhuthamen.h once, from C: two segments in an all-zero deal of 512 bytes (document 01,
- * "Run and compared"), the first one's record built, checked and settled; then the same with the deal's tree in hand.
- * Prints each code, and fails where an answer is another one.
+ * "Run and compared"), the first one's record built, checked and settled; then the same with the deal's tree in hand;
+ * then the first one cancelled, and the deal collected. Prints each code, and fails where an answer is another one.
  *
  *   rt staticlib vizhuthamen
  *   gcc -Iinclude tests/c/smoke.c target/staticlib/libvizhuthamen.a -o target/smoke
@@ -189,6 +189,46 @@ static void with_tree(void) {
          vz_settle_with_tree(booked, 512, tree, 480, built, 234, left, 64, right, 64), VZ_SEGMENT_PATH);
 }
 
+/* The first segment is cancelled and the deal collected: the second one moves to 0, and its entry to the first slot. */
+static void changing(void) {
+  static uint8_t second[512], moved[64];
+  memset(second, 7, 512);
+  answer("cancel", vz_cancel(deal, 512, 256), VZ_OK);
+  answer("cancel again", vz_cancel(deal, 512, 256), VZ_NOT_KEPT);
+  answer("cancel no place", vz_cancel(deal, 512, 300), VZ_PLACE);
+  answer("cancel, the segment's bytes stay", memcmp(deal, first_segment, 128) == 0, 1);
+  answer("collect into 511 bytes", vz_collect(deal, 512, second, 511), VZ_OUTPUT);
+  answer("collect, the second deal stays with 12", second[0] + second[511], 14);
+  answer("collect", vz_collect(deal, 512, second, 512), VZ_OK);
+  answer("collect, bytes", memcmp(second, second_segment, 128) == 0, 1);
+  answer("collect, zeros after them", second[128] + second[255], 0);
+  answer("collect, commitment of the second segment", vz_commitment(second_segment, 128, commitment, 32), VZ_OK);
+  answer("collect, entry", vz_make_entry(commitment, 32, 0, 128, moved, 64), VZ_OK);
+  answer("collect, first slot", memcmp(second + 256, moved, 64) == 0, 1);
+  answer("collect, next slot", second[320] + second[383], 0);
+  memcpy(second + 448, moved, 64);
+  answer("collect two that overlap", vz_collect(second, 512, deal, 512), VZ_OVERLAP);
+  answer("collect two that overlap, the second deal stays", memcmp(deal, first_segment, 128) == 0, 1);
+}
+
+/* The same with trees: each is that of its deal afterwards. */
+static void changing_with_tree(void) {
+  static uint8_t booked[512], tree[480], second[512], second_tree[480], filled[480];
+  answer("tree fill", vz_tree_fill(booked, 512, tree, 480), VZ_OK);
+  vz_book_with_tree(booked, 512, tree, 480, first_segment, 128, &offset, &place);
+  vz_book_with_tree(booked, 512, tree, 480, second_segment, 128, &offset, &place);
+  answer("cancel with a tree of 479", vz_cancel_with_tree(booked, 512, tree, 479, 300), VZ_OUTPUT);
+  answer("cancel with tree", vz_cancel_with_tree(booked, 512, tree, 480, 256), VZ_OK);
+  answer("cancel with tree, deal", memcmp(booked, deal, 512) == 0, 1);
+  answer("tree fill", vz_tree_fill(booked, 512, filled, 480), VZ_OK);
+  answer("cancel with tree, tree", memcmp(tree, filled, 480) == 0, 1);
+  answer("collect with a tree of 512", vz_collect_with_tree(booked, 512, second, 512, deal, 512), VZ_OUTPUT);
+  answer("collect with tree", vz_collect_with_tree(booked, 512, second, 512, second_tree, 480), VZ_OK);
+  answer("collect with tree, bytes", memcmp(second, second_segment, 128) == 0, 1);
+  answer("tree fill", vz_tree_fill(second, 512, filled, 480), VZ_OK);
+  answer("collect with tree, tree", memcmp(second_tree, filled, 480) == 0, 1);
+}
+
 int main(void) {
   memset(first_segment, 1, 128);
   memset(second_segment, 2, 128);
@@ -202,5 +242,7 @@ int main(void) {
   records();
   with_tree();
   settling();
+  changing();
+  changing_with_tree();
   return failures != 0;
 }

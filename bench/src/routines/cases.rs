@@ -197,6 +197,7 @@ fn over_deal<'a>(kept: &'a Kept, input: &'static str, repeats: usize) -> Vec<Cas
     ];
     cases.extend(records_of_deal(kept, input, repeats));
     cases.extend(over_tree(kept, input, repeats));
+    cases.extend(changes(kept, input, repeats));
     cases
 }
 
@@ -280,5 +281,42 @@ fn booking_with_tree<'a>(library: &'a Library, kept: &'a Kept) -> Work<'a> {
         // SAFETY: the slices are live and apart.
         let code = unsafe { (library.book_with_tree)(lent, d, t, n, s, segment.len(), &mut offset, &mut place) };
         assert_eq!(code, 0);
+    })
+}
+
+/// Cancelling, and collecting into a second deal.
+fn changes<'a>(kept: &'a Kept, input: &'static str, repeats: usize) -> Vec<Case<'a>> {
+    let (d, n, place) = (kept.deal.as_ptr(), kept.deal.len(), kept.place);
+    // SAFETY: here and below, the slices are live and apart.
+    vec![
+        change("vz_cancel", input, 20 * repeats, kept, move |library, deal, _| unsafe {
+            (library.cancel)(deal.as_mut_ptr(), deal.len(), place)
+        }),
+        change("vz_cancel_with_tree", input, 20 * repeats, kept, move |library, deal, tree| unsafe {
+            (library.cancel_with_tree)(deal.as_mut_ptr(), deal.len(), tree.as_mut_ptr(), tree.len(), place)
+        }),
+        change("vz_collect", input, 20 * repeats, kept, move |library, second, _| unsafe {
+            (library.collect)(d, n, second.as_mut_ptr(), second.len())
+        }),
+        change("vz_collect_with_tree", input, repeats, kept, move |library, second, tree| unsafe {
+            (library.collect_with_tree)(d, n, second.as_mut_ptr(), second.len(), tree.as_mut_ptr(), tree.len())
+        }),
+    ]
+}
+
+/// A case that writes to a copy of the deal, into which the entry is put again before each call, and of the tree.
+fn change<'a>(
+    function: &'static str,
+    input: &'static str,
+    repeats: usize,
+    kept: &'a Kept,
+    call: impl Fn(&Library, &mut [u8], &mut [u8]) -> u32 + Copy + 'a,
+) -> Case<'a> {
+    case(function, input, repeats, move |library| {
+        let (mut deal, mut tree) = (kept.deal.clone(), kept.tree.clone());
+        Work::new(move || {
+            deal[kept.place as usize..][..64].copy_from_slice(&kept.entry);
+            assert_eq!(call(library, black_box(&mut deal), &mut tree), 0, "{function}{input}");
+        })
     })
 }

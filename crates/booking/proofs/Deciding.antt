@@ -20,7 +20,7 @@ use Rattle.room.specs.Decide.{SlotBelow, decide, answerTo}
 use Rattle.room.specs.DecideLaws.{decides-below, decide-cong, answer-cong}
 use Rattle.room.specs.declared.Decision.{Decision}
 use Rattle.room.specs.declared.Ranges.{Ranges}
-use Rattle.booking.specs.Ranges.{rangesOf}
+use Rattle.ranges.specs.Ranges.{rangesOf}
 use Rattle.booking.specs.Write.{areaBytes, segmentCommitment}
 use Rattle.booking.specs.Booking.{keepsSegment, lowestKeeping, bookAnswer}
 use Rattle.booking.specs.BookableLaws.{Bookable, bookable-deal, bookable-segment, area-some}

@@ -27,8 +27,8 @@ use Rattle.index.specs.KeptRowsLaws.{row-some, standing-size, standing-place}
 use Rattle.index.specs.Slots.{slotAt, standing, nodeOver, kept, keptAt}
 use Rattle.index.specs.SlotsLaws.{stands, keeps}
 use Rattle.room.specs.Room.{Range, range}
-use Rattle.booking.specs.Ranges.{rangesOf}
-use Rattle.booking.specs.RangesLaws.{range-stands}
+use Rattle.ranges.specs.Ranges.{rangesOf}
+use Rattle.ranges.specs.RangesLaws.{range-stands}
 use Rattle.booking.specs.Write.{areaBytes, segmentCommitment}
 use Rattle.booking.specs.Booking.{keepsSegment}
 use Rattle.booking.specs.KeepLaws.{keeps-stands}

@@ -1,4 +1,3 @@
-pub mod GatherTurn
 pub mod KeepingSlot
 pub mod Deciding
 pub mod Outcome

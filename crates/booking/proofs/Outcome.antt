@@ -3,21 +3,21 @@ use mathlib.Core.Path.{_≡_, refl, sym, ap, ap₂, _∙_}
 use mathlib.Core.Bool.{Bool, true, false, _&&_}
 use mathlib.Core.Logic.{_≢_}
 use mathlib.Core.List.{List}
-use Prim.Native.Nat.{ℕ, suc, _+_, _-_, _≤_}
+use Prim.Native.Nat.{ℕ, suc, _+_, _≤_}
 use native.Mathlib.Omega.{arith}
 use lib.ListN.{length}
-use lib.Dec.{eqb}
 use Rattle.rules.specs.Choice.{choose}
 use Rattle.stray.specs.StrayBits.{noStrayBits}
 use Rattle.sizes.specs.Sizes.{lentSizeAllowed, segmentSizeAllowed, area}
 use Rattle.sizes.specs.SizesLaws.{index-start-le}
 use Rattle.lent.specs.LentDeal.{LentDeal, lentWith, treeDeal, dealSize}
 use Rattle.lent.specs.Usable.{Usable}
+use Rattle.lent.specs.UsableLaws.{usable-same}
 use Rattle.index.specs.KeptRowsLaws.{slot-within}
 use Rattle.room.specs.Decide.{answerTo}
 use Rattle.room.specs.declared.Booked.{Booked}
 use Rattle.room.specs.declared.Decision.the-variants.{Refuse, Place}
-use Rattle.booking.specs.Ranges.{rangesOf}
+use Rattle.ranges.specs.Ranges.{rangesOf}
 use Rattle.booking.specs.Write.{areaBytes, segmentCommitment, writtenAt}
 use Rattle.booking.specs.WriteLaws.{Fits, written-at}
 use Rattle.booking.specs.Booking.{decision, bookAnswer, bookedDeal}
@@ -26,15 +26,6 @@ use Rattle.booking.specs.BookableLaws.{Bookable, bookable-deal, bookable
 use Rattle.booking.specs.BookingLaws.{answer-is, deal-is, code-0, refused-same}
 use Rattle.booking.specs.BookedLaws.{booked-fits, booked-is, booked-length}
 use Rattle.booking.specs.BookedTreeLaws.{refused-tree, tree-is}
-
--- deals of the same length with the same tree
-usable-same : (hasTree : Bool) (deal other tree : List ℕ) → length other ≡ length deal
-    → Usable (lentWith hasTree deal tree) → Usable (lentWith hasTree other tree)
-usable-same hasTree deal other tree e u =
-    record {
-      size-allowed = ap lentSizeAllowed e ∙ u .size-allowed;
-      tree-sized = ap (λ (d : ℕ). choose hasTree (eqb (length tree) (d - 32)) true) e ∙ u .tree-sized;
-    }
 
 -- code 0: a place was found, and the segment and its entry fit there
 module _ (deal : LentDeal) (segment : List ℕ) (answer : Booked) (e : answer ≡ bookAnswer deal segment) where
@@ -107,7 +98,7 @@ module _ (hasTree : Bool) (deal tree segment : List ℕ) where
       new-length = ap length deal-is-written ∙ booked-length lent segment
 
       pub new-usable : Bookable lent segment → Usable (lentWith hasTree new tree)
-      new-usable b = usable-same hasTree deal new tree new-length (bookable-usable b)
+      new-usable b = usable-same hasTree deal tree new tree new-length refl (bookable-usable b)
 
       pub new-within :
           (answer .offset + area (length segment) ≤ length new) × (answer .place + 64 ≤ length new)

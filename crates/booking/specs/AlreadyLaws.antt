@@ -16,7 +16,7 @@ use Rattle.index.specs.Slots.{slotAt}
 use Rattle.room.specs.Room.{Range}
 use Rattle.room.specs.declared.Booked.{Booked}
 use Rattle.room.specs.declared.Decision.the-variants.{Already, Place}
-use Rattle.booking.specs.RangesLaws.{range-stands}
+use Rattle.ranges.specs.RangesLaws.{range-stands}
 use Rattle.booking.specs.Write.{writtenDeal}
 use Rattle.booking.specs.WriteLaws.{Fits, written-length, slot-same, offset-written, stands-elsewhere}
 use Rattle.booking.specs.KeepLaws.{keeps-stands, keeps-written, keeps-same, keeps-only, bookable-stays}

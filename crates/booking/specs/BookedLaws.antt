@@ -13,8 +13,8 @@ use Rattle.index.specs.Slots.{slotAt}
 use Rattle.room.specs.Room.{overlaps}
 use Rattle.room.specs.DecideLaws.{Places}
 use Rattle.room.specs.declared.Decision.the-variants.{Place}
-use Rattle.booking.specs.Ranges.{rangesOf}
-use Rattle.booking.specs.RangesLaws.{range-stands, empty-free}
+use Rattle.ranges.specs.Ranges.{rangesOf}
+use Rattle.ranges.specs.RangesLaws.{range-stands, empty-free}
 use Rattle.booking.specs.Write.{writtenDeal}
 use Rattle.booking.specs.WriteLaws.{Fits, written-length, written-bytes}
 use Rattle.booking.specs.Booking.{decision, bookAnswer, bookedDeal}

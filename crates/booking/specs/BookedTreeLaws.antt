@@ -20,7 +20,7 @@ use Rattle.index.specs.KeptRowsLaws.{slot-within}
 use Rattle.room.specs.Decide.{answerTo}
 use Rattle.room.specs.declared.Decision.{Decision}
 use Rattle.room.specs.declared.Decision.the-variants.{Refuse, Already, Place}
-use Rattle.booking.specs.Ranges.{rangesOf}
+use Rattle.ranges.specs.Ranges.{rangesOf}
 use Rattle.booking.specs.Write.{writtenDeal}
 use Rattle.booking.specs.WriteLaws.{Fits, written-length}
 use Rattle.booking.specs.Booking.{decision, bookAnswer, bookedDeal}

@@ -19,7 +19,7 @@ use Rattle.room.specs.Decide.{decide, answerTo}
 use Rattle.room.specs.declared.Booked.{Booked}
 use Rattle.room.specs.declared.Decision.{Decision}
 use Rattle.room.specs.declared.Decision.the-variants.{Refuse, Already, Place}
-use Rattle.booking.specs.Ranges.{rangesOf}
+use Rattle.ranges.specs.Ranges.{rangesOf}
 use Rattle.booking.specs.Write.{areaBytes, writtenDeal}
 
 -- the rules that are looked at first

@@ -26,7 +26,7 @@ use Rattle.room.specs.DecideLaws.{
 use Rattle.room.specs.declared.Booked.{Booked}
 use Rattle.room.specs.declared.Decision.{Decision}
 use Rattle.room.specs.declared.Decision.the-variants.{Refuse, Already, Place}
-use Rattle.booking.specs.Ranges.{rangesOf}
+use Rattle.ranges.specs.Ranges.{rangesOf}
 use Rattle.booking.specs.Booking.{
   bookRules,
   keepsSegment,

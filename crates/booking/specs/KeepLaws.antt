@@ -1,46 +1,100 @@
--- Which slots keep a segment after one is written: the new slot keeps it and no other, and every other slot keeps what
--- it kept.
-use mathlib.Core.Path.{_≡_, refl, sym, ap, ap₂, _∙_}
-use mathlib.Core.Bool.{Bool, true, _&&_}
+-- What a slot that keeps a segment holds; and which slots keep a segment after one is written: the new slot keeps it
+-- and no other, and every other slot keeps what it kept.
+use mathlib.Core.Path.{_≡_, refl, sym, ap, ap₂, _∙_, subst}
+use mathlib.Core.Bool.{true, _&&_}
 use mathlib.Core.Logic.{_≢_}
-use Prim.Native.Nat.{ℕ, _<_}
+use Prim.Native.Nat.{ℕ, _/_, _%_, _<_}
+use native.Mathlib.Omega.{arith}
 use mathlib.Core.List.{List}
 use lib.ListN.{length}
 use lib.Dec.{eqb}
 use borrow.Author.Tests.{eqb-true, eq-eqb}
-use Rattle.rules.specs.RefusalLaws.{and-left, and-right, and-same}
+use Rattle.rules.specs.RefusalLaws.{and-left, and-right}
 use Rattle.octets.specs.Equality.{sameBytes}
 use Rattle.octets.specs.EqualityLaws.{same-true, same-of}
 use Rattle.octets.specs.FillLaws.{filled-only}
 use Rattle.octets.specs.Splice.{part}
-use Rattle.merkle.specs.Tree.{nodeAt}
+use Rattle.stray.specs.StrayBits.{noStrayBits}
+use Rattle.stray.specs.StrayBitsLaws.{part-clear}
 use Rattle.sizes.specs.Sizes.{lentSizeAllowed, segmentSizeAllowed, area, entryCount}
+use Rattle.sizes.specs.SizesLaws.{DealSize, lent-size, index-start-le}
 use Rattle.entries.specs.Entry.{offsetIn, sizeIn}
-use Rattle.lent.specs.LentDeal.{LentDeal, lentDeal, dealSize}
-use Rattle.index.specs.Slots.{slotAt, standing, kept, keptAt}
-use Rattle.index.specs.KeptLaws.{kept-stands}
+use Rattle.lent.specs.LentDeal.{LentDeal, lentDeal, dealSize, dealRefusal}
+use Rattle.lent.specs.LentDealLaws.{refusal-none}
+use Rattle.index.specs.Slots.{slotAt, standing, keptAt, rowAt, rowOffset, rowArea}
+use Rattle.index.specs.SlotsLaws.{stands}
+use Rattle.index.specs.KeptLaws.{row-stands, kept-stands}
+use Rattle.index.specs.KeptRows.{areaOf}
+use Rattle.index.specs.KeptRowsLaws.{standing-place}
+use Rattle.index.specs.declared.Row.{Row}
+use Rattle.room.specs.OverlapLaws.{multiple}
+use Rattle.ranges.specs.RangesLaws.{range-nodes}
 use Rattle.booking.specs.Write.{areaBytes, writtenDeal}
 use Rattle.booking.specs.Booking.{keepsSegment}
-use Rattle.booking.specs.BookableLaws.{Bookable}
+use Rattle.booking.specs.KeepRows.{rowKeeps}
+use Rattle.booking.specs.KeepRowsLaws.{keeps-row}
+use Rattle.booking.specs.BookableLaws.{Bookable, bookable-deal}
 use Rattle.booking.specs.WriteLaws.{
   Fits,
   written-length,
   written-clear,
   segment-written,
-  slot-same,
+  row-same,
   offset-written,
   size-written,
   area-same,
   kept-written,
-  kept-same,
 }
 
--- a slot that keeps a segment holds a standing entry
-pub keeps-stands : (deal : LentDeal) (segment : List ℕ) (i : ℕ) → keepsSegment deal segment i ≡ true
-    → standing (dealSize deal) (slotAt (deal .bytes) i) ≡ true
-unfolding keepsSegment
-keeps-stands deal segment i e =
-    kept-stands (deal .nodes) (dealSize deal) (slotAt (deal .bytes) i) (and-left (keptAt deal i) _ e)
+-- what a slot that keeps a segment holds: a kept entry of its size, with its area at the offset
+module _ (deal : LentDeal) (segment : List ℕ) (i : ℕ) (e : keepsSegment deal segment i ≡ true) where
+  abbrev entry : List ℕ
+  entry = slotAt (deal .bytes) i
+
+  pub keeps-parts :
+      (keptAt deal i ≡ true)
+      × (sizeIn (slotAt (deal .bytes) i) ≡ length segment)
+      × (part (deal .bytes) (offsetIn (slotAt (deal .bytes) i)) (area (length segment)) ≡ areaBytes segment)
+  unfolding keepsSegment
+  keeps-parts =
+      let size = eqb (sizeIn entry) (length segment) in
+      let stored = part (deal .bytes) (offsetIn entry) (area (length segment)) in
+      let bytes = sameBytes stored (areaBytes segment) in
+      let both = and-right (keptAt deal i) (size && bytes) e in (
+        and-left (keptAt deal i) (size && bytes) e,
+        eqb-true (sizeIn entry) (length segment) (and-left size bytes both),
+        same-true stored (areaBytes segment) (and-right size bytes both),
+      )
+
+  pub keeps-stands : standing (dealSize deal) (slotAt (deal .bytes) i) ≡ true
+  keeps-stands = kept-stands (deal .nodes) (dealSize deal) entry (keeps-parts .0)
+
+-- a segment that a slot keeps can be booked in any deal that is not refused itself, as far as the rules go that come
+-- before the slots
+pub keeps-bookable : (deal : LentDeal) (segment : List ℕ) (i : ℕ) → dealRefusal deal ≡ 0
+    → keepsSegment deal segment i ≡ true → Bookable deal segment
+keeps-bookable deal segment i z e =
+    let d = dealSize deal in
+    let entry = slotAt (deal .bytes) i in
+    let rules = refusal-none deal z in
+    let sized = lent-size d (rules .0) .deal in
+    let p = keeps-parts deal segment i e in
+    let t = keeps-stands deal segment i e in
+    let nodes : (offsetIn entry % 32 ≡ 0) × (area (sizeIn entry) % 32 ≡ 0) =
+    subst (λ (r : Row). (rowOffset r % 32 ≡ 0) × (rowArea r % 32 ≡ 0)) (row-stands d entry t)
+    (range-nodes d entry sized) in
+    let at = multiple (offsetIn entry) 32 (nodes .0) in
+    let size = multiple (area (sizeIn entry)) 32 (nodes .1) in
+    record {
+      deal-allowed = rules .0;
+      segment-allowed = ap (segmentSizeAllowed d) (sym (p .1)) ∙ stands d entry t .size-allowed;
+      deal-clear = rules .1;
+      segment-clear =
+          ap noStrayBits (sym (p .2) ∙ ap₂ (part (deal .bytes)) at (ap area (sym (p .1)) ∙ size))
+          ∙ part-clear (deal .bytes) (offsetIn entry / 32) (area (sizeIn entry) / 32)
+          (omega (arith, standing-place d entry sized t .ends, index-start-le d)) (rules .1);
+      tree-sized = rules .2;
+    }
 
 module _ {deal segment : List ℕ} {i o : ℕ} (facts : Fits deal segment i o) where
   abbrev after : List ℕ
@@ -59,41 +113,20 @@ module _ {deal segment : List ℕ} {i o : ℕ} (facts : Fits deal segment i o) w
 
   pub keeps-same : (other : List ℕ) (j : ℕ) → j < entryCount (length deal) → j ≢ i
       → keepsSegment (lentDeal after) other j ≡ keepsSegment (lentDeal deal) other j
-  unfolding keepsSegment
   keeps-same other j h ne =
-      let was : List ℕ = slotAt deal j in
-      let n : ℕ = length other in
-      ap₂ (λ (k : Bool) (s : List ℕ). k &&
-      (eqb (sizeIn s) n && sameBytes (part after (offsetIn s) (area n)) (areaBytes other))) (kept-same facts j h ne)
-      (slot-same facts j h ne)
-      ∙ and-same (kept (nodeAt deal) (length deal) was)
-      (eqb (sizeIn was) n && sameBytes (part after (offsetIn was) (area n)) (areaBytes other))
-      (eqb (sizeIn was) n && sameBytes (part deal (offsetIn was) (area n)) (areaBytes other))
-      (λ k.
-      and-same (eqb (sizeIn was) n) (sameBytes (part after (offsetIn was) (area n)) (areaBytes other))
-      (sameBytes (part deal (offsetIn was) (area n)) (areaBytes other))
-      (λ t.
-      let z : sizeIn was ≡ n = eqb-true (sizeIn was) n t in
-      let a : part after (offsetIn was) (area (sizeIn was)) ≡ part deal (offsetIn was) (area (sizeIn was)) =
-      area-same facts j h (kept-stands (nodeAt deal) (length deal) was k) in
-      ap (λ (l : List ℕ). sameBytes l (areaBytes other)) (rw z at a)))
+      let sized : DealSize (length deal) = bookable-deal (facts .bookable) .deal in
+      keeps-row after other j (subst DealSize (sym (written-length facts)) sized)
+      ∙ ap (λ (r : Row). rowKeeps other r (areaOf after r)) (row-same facts j h ne)
+      ∙ ap (rowKeeps other (rowAt deal j)) (area-same facts j h)
+      ∙ sym (keeps-row deal other j sized)
 
   -- and keeps no other
   pub keeps-only : (other : List ℕ) → keepsSegment (lentDeal after) other i ≡ true → segment ≡ other
-  unfolding keepsSegment
   keeps-only other t =
-      let new : List ℕ = slotAt after i in
-      let k : Bool = kept (nodeAt after) (length after) new in
-      let size : Bool = eqb (sizeIn new) (length other) in
-      let bytes : Bool = sameBytes (part after (offsetIn new) (area (length other))) (areaBytes other) in
-      let both : (size && bytes) ≡ true = and-right k (size && bytes) t in
-      let n : length segment ≡ length other = sym (size-written facts)
-      ∙ eqb-true (sizeIn new) (length other) (and-left size bytes both) in
-      let b : part after (offsetIn new) (area (length other))
-      ≡ areaBytes other =
-      same-true (part after (offsetIn new) (area (length other))) (areaBytes other) (and-right size bytes both) in
+      let p = keeps-parts (lentDeal after) other i t in
+      let n : length segment ≡ length other = sym (size-written facts) ∙ p .1 in
       filled-only (area (length segment)) (area (length other)) segment other n
-      (sym (segment-written facts) ∙ ap₂ (λ (at m : ℕ). part after at (area m)) (sym (offset-written facts)) n ∙ b)
+      (sym (segment-written facts) ∙ ap₂ (λ (at m : ℕ). part after at (area m)) (sym (offset-written facts)) n ∙ p .2)
 
   -- what else could be booked can be so afterwards, as far as sizes and stray bits go
   pub bookable-stays : (other : List ℕ) → Bookable (lentDeal deal) other → Bookable (lentDeal after) other

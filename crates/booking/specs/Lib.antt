@@ -1,12 +1,11 @@
-pub mod Ranges
 pub mod Write
 pub mod Booking
-pub mod Run
+pub mod KeepRows
 pub mod BookedTree
-pub mod RangesLaws
 pub mod BookableLaws
 pub mod BookingLaws
 pub mod WriteLaws
+pub mod KeepRowsLaws
 pub mod KeepLaws
 pub mod BookedLaws
 pub mod AlreadyLaws

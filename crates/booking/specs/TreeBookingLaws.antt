@@ -30,7 +30,7 @@ use Rattle.index.specs.FilledKeptLaws.{filled-kept}
 use Rattle.room.specs.Decide.{decide, answerTo}
 use Rattle.room.specs.declared.Decision.{Decision}
 use Rattle.room.specs.declared.Decision.the-variants.{Refuse, Already, Place}
-use Rattle.booking.specs.Ranges.{rangesOf}
+use Rattle.ranges.specs.Ranges.{rangesOf}
 use Rattle.booking.specs.Write.{areaBytes, newEntry, writtenDeal}
 use Rattle.booking.specs.WriteLaws.{Fits, entry-64, written-length, written-at}
 use Rattle.booking.specs.Booking.{keepsSegment, lowestKeeping, decision, dealAfter, bookAnswer, bookedDeal}

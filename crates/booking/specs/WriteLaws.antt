@@ -26,7 +26,9 @@ use Rattle.lent.specs.LentDeal.{lentDeal}
 use Rattle.index.specs.Slots.{slotAt, standing, kept, keptAt, holds, rowOf, rowAt, rowOffset, rowArea}
 use Rattle.index.specs.SlotsLaws.{made-kept, made-row}
 use Rattle.index.specs.KeptLaws.{row-stands, row-free, segment-node}
-use Rattle.index.specs.KeptRowsLaws.{standing-place}
+use Rattle.index.specs.KeptRows.{areaOf}
+use Rattle.index.specs.KeptRowsLaws.{row-ends}
+use Rattle.index.specs.declared.Row.{Row}
 use Rattle.index.specs.Written.{withSlot, withArea}
 use Rattle.index.specs.SlotWrittenLaws as S
 use Rattle.index.specs.AreaWrittenLaws as A
@@ -213,14 +215,6 @@ module _ {deal segment : List ℕ} {i o : ℕ} (facts : Fits deal segment i o) w
   stands-elsewhere j s same =
       true≢false (sym s ∙ ap (λ (x : ℕ). standing (length deal) (slotAt deal x)) same ∙ facts .slot-free)
 
-  -- a standing entry's area is as it was
-  pub area-same : (j : ℕ) → j < entryCount (length deal) → standing (length deal) (slotAt deal j) ≡ true
-      → part after (offsetIn (slotAt deal j)) (area (sizeIn (slotAt deal j)))
-      ≡ part deal (offsetIn (slotAt deal j)) (area (sizeIn (slotAt deal j)))
-  area-same j h s =
-      part-same (offsetIn (slotAt deal j)) (area (sizeIn (slotAt deal j)))
-      (standing-place (length deal) (slotAt deal j) sized s .ends) (facts .apart j h s)
-
   -- the new entry is kept; of every other slot it is the same whether it keeps its entry
   pub kept-written : keptAt (lentDeal after) i ≡ true
   kept-written =
@@ -244,6 +238,14 @@ module _ {deal segment : List ℕ} {i o : ℕ} (facts : Fits deal segment i o) w
           (overlap-false o (area (length segment)) (offsetIn (slotAt deal j)) (area (sizeIn (slotAt deal j))) .0
           (facts .apart j h s)))
       by-test false s = rw (row-free (length deal) (slotAt deal j) s) (inl (omega arith))
+
+  -- the bytes of every other slot's area are as they were
+  pub area-same : (j : ℕ) → j < entryCount (length deal) → areaOf after (rowAt deal j) ≡ areaOf deal (rowAt deal j)
+  area-same j h =
+      let row : Row = rowAt deal j in
+      part-same (rowOffset row) (rowArea row) (row-ends (length deal) (slotAt deal j) sized)
+      (overlap-false o (area (length segment)) (rowOffset row) (rowArea row) .1
+      (⊎-elim (λ before. inl before) (λ later. inr (omega (arith, area-all))) (row-apart j h)))
 
   pub kept-same : (j : ℕ) → j < entryCount (length deal) → j ≢ i
       → keptAt (lentDeal after) j ≡ keptAt (lentDeal deal) j

@@ -1,5 +1,4 @@
 // Booking: the place for a segment, and writing it there.
-use crate::gathering::gather;
 use crate::keeping::lowest_keeping;
 use room::Booked;
 ghost use mathlib.Core.Path.{_≡_};
@@ -39,7 +38,7 @@ fn place_for(
         ≡ bookAnswer (lentWith «has_tree» (now (deal .entry)) (now (tree .entry))) (now (segment .entry)) ⌝ }
 {
     let deal_size = deal.len() as u64;
-    let ranges = gather(deal);
+    let ranges = ranges::gather(deal);
     let keeping = lowest_keeping(deal, tree, has_tree, segment, commitment, ranges);
     let decision = room::decide(
         deal_size,
@@ -73,11 +72,9 @@ fn renew_written(deal: &[u8], tree: &mut [u8], has_tree: bool, size: u64, offset
         ≡ choose «has_tree» (renewedFor (now (deal .entry)) (now (tree .entry)) offset (area size) place)
         (now (tree .entry)) ⌝ }
 {
-    if has_tree {
-        let top = sizes::deal_level(deal.len() as u64);
-        tree::renew(deal, tree, top, offset as usize, sizes::area(size) as usize);
-        tree::renew(deal, tree, top, place as usize, 64);
-    }
+    let area = sizes::area(size) as usize;
+    lent::renew_tree(deal, tree, has_tree, offset as usize, area);
+    lent::renew_tree(deal, tree, has_tree, place as usize, 64);
 }
 
 // Books a segment in a lent deal, with a tree beside it or without one.

@@ -11,7 +11,7 @@ ghost use Rattle.tree.specs.TreeNodes.{treeNodes};
 ghost use Rattle.lent.specs.LentDeal.{lentWith};
 ghost use Rattle.lent.specs.Usable.{Usable};
 ghost use Rattle.room.specs.Room.{SameBelow, rangesIn};
-ghost use Rattle.booking.specs.Ranges.{rangesOf};
+ghost use Rattle.ranges.specs.Ranges.{rangesOf};
 ghost use Rattle.booking.specs.Write.{segmentCommitment};
 ghost use Rattle.booking.specs.Booking.{keepsSegment, lowestKeeping};
 

@@ -1,6 +1,5 @@
 // Booking a segment in a deal, with a tree beside it or without one.
 mod booking; // booking.rt: the place for a segment, and writing it there
-mod gathering; // gathering.rt: which bytes the slots take up, each read once
 mod keeping; // keeping.rt: a segment that is kept already
 
 pub use booking::book;

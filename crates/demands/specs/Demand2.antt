@@ -1,6 +1,6 @@
 -- Demand 2: whatever is built from a kept entry is accepted against its deal's commitment and size; a segment already
--- kept is never booked again in that deal.
-use mathlib.Core.Path.{_≡_, refl, sym, ap, _∙_}
+-- kept is never booked again in that deal, unless its entry is cancelled (document 02, request (viii)).
+use mathlib.Core.Path.{_≡_, refl, sym, ap, _∙_, subst}
 use mathlib.Core.Bool.{Bool, true, false}
 use Prim.Native.Nat.{ℕ, zero, suc, _≤_, _<_}
 use native.Mathlib.Omega.{arith}
@@ -12,28 +12,33 @@ use Rattle.rules.specs.Choice.{choose}
 use Rattle.octets.specs.Bytes.{Bytes}
 use Rattle.octets.specs.Splice.{part, splice}
 use Rattle.octets.specs.SpliceLaws.{part-written}
-use Rattle.merkle.specs.Tree.{commitmentOf}
+use Rattle.merkle.specs.Tree.{commitmentOf, nodeAt}
 use Rattle.merkle.specs.TreeLaws.{top-node}
 use Rattle.merkle.specs.NodeSource.{IsTree}
 use Rattle.merkle.specs.NodeSourceLaws.{run-tree}
 use Rattle.rules.specs.SearchLaws.{IsLowest}
-use Rattle.sizes.specs.Sizes.{entryCount, dealLevel}
+use Rattle.sizes.specs.Sizes.{placeAllowed, entryCount, slotPlace, dealLevel}
 use Rattle.sizes.specs.SizesLaws.{lent-size}
-use Rattle.index.specs.Slots.{entryAt}
+use Rattle.index.specs.Slots.{entryAt, kept}
 use Rattle.record.specs.Check.{dealTerms, checkOf}
 use Rattle.record.specs.CheckLaws.{means-check}
 use Rattle.rules.specs.Refusals.{firstRefusal, unlessRefused}
 use Rattle.record.specs.Form.{encode}
 use Rattle.builder.specs.declared.BuildAnswer.{BuildAnswer}
-use Rattle.lent.specs.LentDeal.{LentDeal, lentDeal, dealSize}
+use Rattle.lent.specs.LentDeal.{LentDeal, lentDeal, dealSize, dealRefusal}
+use Rattle.lent.specs.LentDealLaws.{refusal-none}
 use Rattle.builder.specs.Build.{buildRules, termsOf, fieldsFor, Building, built, notBuilt, recordAt}
 use Rattle.builder.specs.Build.{answerFor, outputFor, buildAnswer, buildOutput}
+use Rattle.room.specs.declared.Booked.{Booked}
 use Rattle.booking.specs.Booking.{keepsSegment, bookAnswer, bookedDeal}
 use Rattle.booking.specs.BookableLaws.{Bookable}
 use Rattle.booking.specs.AlreadyLaws.{answer15}
-use Rattle.booking.specs.Run.{runBookings}
-use Rattle.booking.specs.NeverAgain.{never-again, kept-for-good, kept-is-15}
-use Rattle.builder.specs.BuildLaws.{build-means, commitment-length, built-parses, built-accepted}
+use Rattle.booking.specs.NeverAgain.{kept-is-15, booked-is-15}
+use Rattle.builder.specs.BuildLaws.{build-means, means-build, commitment-length, built-parses, built-accepted}
+use Rattle.demands.specs.BuildsExactly.{BuildsExactly}
+use Rattle.demands.specs.BuildsExactlyLaws.{builds-exactly}
+use Rattle.demands.specs.Calls.{Call, runCalls, NoneCancels}
+use Rattle.demands.specs.CallsLaws.{kept-after-calls, keeping-after-calls}
 
 -- for any source of nodes that is a tree over the deal
 pub built-checks : (deal : LentDeal) → IsTree (deal .nodes) (deal .bytes) (dealLevel (dealSize deal))
@@ -63,6 +68,14 @@ written (built r) out n e = go (leb (length r) (length out)) refl e
         ap built (sym (part-written out 0 r (omega arith)))
     go false q f = absurd (omega arith)
 
+-- by the nodes worked out from the deal's bytes
+accepted : (deal : List ℕ) → Bytes deal → (place : ℕ) (r : List ℕ) → recordAt (lentDeal deal) place ≡ built r
+    → checkOf (dealTerms (commitmentOf (dealLevel (length deal)) deal) (length deal)) r ≡ 0
+accepted deal b place r e =
+    let p = lent-size (length deal) (build-means (lentDeal deal) place r e .lent) .deal .is-power in
+    ap (λ (c : List ℕ). checkOf (dealTerms c (length deal)) r) (sym (top-node deal (dealLevel (length deal)) p))
+    ∙ built-checks (lentDeal deal) (run-tree deal (dealLevel (length deal)) p) b place r e
+
 -- Demand 2. Where building at an entry place of a deal answers 0, the check accepts what it wrote, against the deal's
 -- commitment and size.
 pub built-is-accepted : (deal : List ℕ) → Bytes deal → (place : ℕ) (out : List ℕ)
@@ -76,34 +89,69 @@ built-is-accepted deal b place out e =
     let r = part (outputFor x out) 0 (answerFor x out .length) in
     let y = fieldsFor (lentDeal deal) (entryAt deal place) place in
     let n = no-zero (firstRefusal (buildRules (lentDeal deal) place)) (encode y) in
-    let w : x ≡ built r = written x out n e in
-    let m = build-means (lentDeal deal) place r w in
-    let p = lent-size (length deal) (m .lent) .deal .is-power in
-    ap (λ (c : List ℕ). checkOf (dealTerms c (length deal)) r) (sym (top-node deal (dealLevel (length deal)) p))
-    ∙ built-checks (lentDeal deal) (run-tree deal (dealLevel (length deal)) p) b place r w
+    accepted deal b place r (written x out n e)
 
--- Demand 2. A segment that was booked with code 0 gets 15, with the same offset and entry place, whatever is booked in
--- between.
+-- Demand 2. From a kept entry a record is built: given enough output, building at its place answers 0 and writes
+-- exactly a record that the check accepts, against the deal's commitment and size. The deal gets neither 2 nor 11.
+pub kept-is-built : (deal : List ℕ) → Bytes deal → dealRefusal (lentDeal deal) ≡ 0 → (place : ℕ)
+    → placeAllowed (length deal) place ≡ true → kept (nodeAt deal) (length deal) (entryAt deal place) ≡ true
+    → (r : List ℕ)
+    × BuildsExactly (lentDeal deal) place r
+    × (checkOf (dealTerms (commitmentOf (dealLevel (length deal)) deal) (length deal)) r ≡ 0)
+kept-is-built deal b z place a k =
+    let rules = refusal-none (lentDeal deal) z in
+    let r = encode (fieldsFor (lentDeal deal) (entryAt deal place) place) in
+    let e = means-build (lentDeal deal) place r (rules .0) (rules .1) refl a k refl in
+    (r, builds-exactly (lentDeal deal) place r e, accepted deal b place r e)
+
+-- Demand 2. A segment that was booked with code 0 gets 15, with the same offset and entry place, whatever calls come in
+-- between, as long as none of them cancels that place.
 pub never-booked-again : (deal segment : List ℕ) → bookAnswer (lentDeal deal) segment .code ≡ 0
-    → (later : List (List ℕ))
-    → bookAnswer (lentDeal (runBookings (bookedDeal (lentDeal deal) segment) later)) segment
+    → (later : List Call) → NoneCancels (bookAnswer (lentDeal deal) segment .place) later
+    → bookAnswer (lentDeal (runCalls (bookedDeal (lentDeal deal) segment) later)) segment
     ≡ record {
       code = 15;
       offset = bookAnswer (lentDeal deal) segment .offset;
       place = bookAnswer (lentDeal deal) segment .place;
     }
-never-booked-again = never-again
+never-booked-again deal segment z later n =
+    let again = booked-is-15 deal segment z in
+    kept-after-calls (bookedDeal (lentDeal deal) segment) segment later (ap (λ (a : Booked). a .code) again)
+    (subst (λ (a : Booked). NoneCancels (a .place) later) (sym again) n)
+    ∙ again
 
--- and one that a deal keeps to begin with goes on getting 15
-pub kept-never-booked : (deal segment : List ℕ) (later : List (List ℕ)) → bookAnswer (lentDeal deal) segment .code ≡ 15
-    → bookAnswer (lentDeal (runBookings deal later)) segment ≡ bookAnswer (lentDeal deal) segment
-kept-never-booked = kept-for-good
+-- and one that got 15 to begin with goes on getting it
+pub kept-never-booked : (deal segment : List ℕ) → bookAnswer (lentDeal deal) segment .code ≡ 15
+    → (later : List Call) → NoneCancels (bookAnswer (lentDeal deal) segment .place) later
+    → bookAnswer (lentDeal (runCalls deal later)) segment ≡ bookAnswer (lentDeal deal) segment
+kept-never-booked deal segment h later n = kept-after-calls deal segment later h n
 
 -- Demand 2. Where some slot of a deal keeps the segment, booking answers 15 with the offset and the entry place of the
--- lowest such slot, now and after any later bookings.
+-- lowest such slot, now and after any later calls that do not cancel that place.
 pub kept-is-never-booked : (deal segment : List ℕ) (i : ℕ) → Bookable (lentDeal deal) segment
     → i < entryCount (length deal) → keepsSegment (lentDeal deal) segment i ≡ true
     → (j : ℕ)
     × IsLowest (keepsSegment (lentDeal deal) segment) 0 (entryCount (length deal)) j
-    × ((later : List (List ℕ)) → bookAnswer (lentDeal (runBookings deal later)) segment ≡ answer15 deal j)
-kept-is-never-booked = kept-is-15
+    × ((later : List Call) → NoneCancels (slotPlace (length deal) j) later
+    → bookAnswer (lentDeal (runCalls deal later)) segment ≡ answer15 deal j)
+kept-is-never-booked deal segment i b h k =
+    let now = kept-is-15 deal segment i b h k in (
+      now .0,
+      now .1,
+      λ later n.
+          kept-never-booked deal segment (ap (λ (a : Booked). a .code) (now .2)) later
+          (subst (λ (a : Booked). NoneCancels (a .place) later) (sym (now .2)) n)
+          ∙ now .2,
+    )
+
+-- Demand 2. A slot that keeps the segment goes on keeping it, and booking goes on answering 15, after any later calls
+-- that do not cancel its place, be it the lowest such slot or not.
+pub kept-slot-is-never-booked : (deal segment : List ℕ) (i : ℕ) → Bookable (lentDeal deal) segment
+    → i < entryCount (length deal) → keepsSegment (lentDeal deal) segment i ≡ true
+    → (later : List Call) → NoneCancels (slotPlace (length deal) i) later
+    → (keepsSegment (lentDeal (runCalls deal later)) segment i ≡ true)
+    × (bookAnswer (lentDeal (runCalls deal later)) segment .code ≡ 15)
+kept-slot-is-never-booked deal segment i b h k later n =
+    let now = runCalls deal later in
+    let s = keeping-after-calls deal segment i later (record { bookable = b; slot-in = h; keeps = k }) n in
+    (s .keeps, ap (λ (a : Booked). a .code) (kept-is-15 now segment i (s .bookable) (s .slot-in) (s .keeps) .2))

@@ -1,4 +1,6 @@
--- Demand 3: whoever made the records and whatever bytes they hold.
+-- Demand 3: whoever made the records and whatever bytes they hold. It speaks of the commitment a record is checked
+-- against: an old record belongs to the old commitment, whatever was booked, cancelled or collected since (document 02,
+-- request (viii)).
 use mathlib.Core.Path.{_≡_, ap, _∙_}
 use mathlib.Core.Bool.{true}
 use Prim.Native.Nat.{ℕ}

@@ -10,15 +10,15 @@ use Rattle.rules.specs.SearchLaws.{IsLowest}
 use Rattle.octets.specs.Bytes.{Bytes}
 use Rattle.octets.specs.Splice.{part}
 use Rattle.stray.specs.StrayBits.{noStrayBits}
-use Rattle.merkle.specs.Tree.{commitmentOf}
-use Rattle.sizes.specs.Sizes.{lentSizeAllowed, entryCount, dealLevel}
+use Rattle.merkle.specs.Tree.{commitmentOf, nodeAt}
+use Rattle.sizes.specs.Sizes.{lentSizeAllowed, placeAllowed, entryCount, slotPlace, dealLevel}
 use Rattle.tree.specs.TreeNodes.{FilledFor}
-use Rattle.lent.specs.LentDeal.{lentDeal, treeDeal}
+use Rattle.lent.specs.LentDeal.{lentDeal, treeDeal, dealRefusal}
+use Rattle.index.specs.Slots.{entryAt, kept}
 use Rattle.room.specs.declared.Booked.{Booked}
 use Rattle.booking.specs.Booking.{keepsSegment, bookAnswer}
 use Rattle.booking.specs.BookableLaws.{Bookable}
 use Rattle.booking.specs.AlreadyLaws.{answer15}
-use Rattle.booking.specs.Run.{runBookings}
 use Rattle.record.specs.Form.{parse}
 use Rattle.record.specs.Check.{dealTerms, checkOf}
 use Rattle.builder.specs.declared.BuildAnswer.{BuildAnswer}
@@ -26,13 +26,26 @@ use Rattle.builder.specs.Build.{buildAnswer, buildOutput}
 use Rattle.settle.specs.Settle.{placeIn, settleWithDeal}
 use Rattle.demands.specs.Settles.{Settles}
 use Rattle.demands.specs.BuildsExactly.{BuildsExactly}
+use Rattle.demands.specs.Calls.{bookSegment, runCalls, NoneCancels}
 use Rattle.demands.specs.Demand2.{built-is-accepted, never-booked-again, kept-never-booked, kept-is-never-booked}
+use Rattle.demands.specs.Demand2.{kept-is-built, kept-slot-is-never-booked}
 use Rattle.demands.specs.Demand3.{same-statement, record-settles-with-deal}
 use Rattle.demands.specs.TreeForms.{same-booking, same-building, same-output, same-settling}
-use Rattle.demands.specs.TreeHistory.{DealAndTree, TreeCall, bookSegment, afterCalls, segmentsOf}
-use Rattle.demands.specs.TreeHistoryLaws.{same-run-answer}
+use Rattle.demands.specs.TreeHistory.{DealAndTree, TreeCall, withTree, afterCalls, plainCalls}
+use Rattle.demands.specs.TreeHistoryLaws.{same-run, same-run-answer}
 
 module _ (deal tree : List ℕ) (f : FilledFor deal tree) where
+  -- what the plain form builds exactly is built with the tree, and the other way round
+  builds-with-tree : (place : ℕ) (r : List ℕ) → BuildsExactly (lentDeal deal) place r
+      → BuildsExactly (treeDeal deal tree) place r
+  builds-with-tree place r b out h =
+      (same-building deal tree f place out ∙ b out h .0, same-output deal tree f place out ∙ b out h .1)
+
+  builds-without-tree : (place : ℕ) (r : List ℕ) → BuildsExactly (treeDeal deal tree) place r
+      → BuildsExactly (lentDeal deal) place r
+  builds-without-tree place r b out h =
+      (sym (same-building deal tree f place out) ∙ b out h .0, sym (same-output deal tree f place out) ∙ b out h .1)
+
   -- Demand 2. Where building with the tree answers 0, the check accepts what it wrote, against the deal's commitment
   -- and size.
   pub built-with-tree-is-accepted : Bytes deal → (place : ℕ) (out : List ℕ)
@@ -44,6 +57,16 @@ module _ (deal tree : List ℕ) (f : FilledFor deal tree) where
       let same = same-building deal tree f place out in
       rw (same, same-output deal tree f place out)
       (built-is-accepted deal b place out (ap (λ (a : BuildAnswer). a .code) (sym same) ∙ e))
+
+  -- Demand 2. From a kept entry a record is built with the tree, given enough output: exactly one that the check
+  -- accepts, against the deal's commitment and size. The deal gets neither 2 nor 11.
+  pub kept-is-built-with-tree : Bytes deal → dealRefusal (lentDeal deal) ≡ 0 → (place : ℕ)
+      → placeAllowed (length deal) place ≡ true → kept (nodeAt deal) (length deal) (entryAt deal place) ≡ true
+      → (r : List ℕ)
+      × BuildsExactly (treeDeal deal tree) place r
+      × (checkOf (dealTerms (commitmentOf (dealLevel (length deal)) deal) (length deal)) r ≡ 0)
+  kept-is-built-with-tree b z place a k =
+      let p = kept-is-built deal b z place a k in (p .0, builds-with-tree place (p .0) (p .1), p .2)
 
   -- deal and tree now, and after calls with the tree in hand, whatever their codes
   abbrev now : DealAndTree
@@ -58,40 +81,58 @@ module _ (deal tree : List ℕ) (f : FilledFor deal tree) where
     bookedAfter calls = bookAnswer (treeDeal (after calls .deal) (after calls .tree)) segment
 
     -- Demand 2. A segment that was booked with code 0 with the tree in hand gets 15, with the same offset and entry
-    -- place, whatever calls with the tree in hand come in between.
+    -- place, whatever calls with the tree in hand come in between, as long as none of them cancels that place.
     pub never-booked-again-with-tree : bookAnswer (treeDeal deal tree) segment .code ≡ 0 → (later : List TreeCall)
-        → bookedAfter (bookSegment segment ∷ later)
+        → NoneCancels (bookAnswer (treeDeal deal tree) segment .place) (plainCalls later)
+        → bookedAfter (withTree (bookSegment segment) ∷ later)
         ≡ record {
           code = 15;
           offset = bookAnswer (treeDeal deal tree) segment .offset;
           place = bookAnswer (treeDeal deal tree) segment .place;
         }
-    unfolding runBookings
-    never-booked-again-with-tree z later =
+    unfolding runCalls
+    never-booked-again-with-tree z later n =
         let same = same-booking deal tree f segment in
-        same-run-answer (bookSegment segment ∷ later) now f segment
-        ∙ never-booked-again deal segment (ap (λ (a : Booked). a .code) (sym same) ∙ z) (segmentsOf later)
+        same-run-answer (withTree (bookSegment segment) ∷ later) now f segment
+        ∙ never-booked-again deal segment (ap (λ (a : Booked). a .code) (sym same) ∙ z) (plainCalls later)
+        (subst (λ (a : Booked). NoneCancels (a .place) (plainCalls later)) same n)
         ∙ ap (λ (a : Booked). record { code = 15; offset = a .offset; place = a .place }) (sym same)
 
     -- and one that got 15 to begin with goes on getting it
-    pub kept-never-booked-with-tree : (later : List TreeCall) → bookAnswer (treeDeal deal tree) segment .code ≡ 15
+    pub kept-never-booked-with-tree : bookAnswer (treeDeal deal tree) segment .code ≡ 15 → (later : List TreeCall)
+        → NoneCancels (bookAnswer (treeDeal deal tree) segment .place) (plainCalls later)
         → bookedAfter later ≡ bookAnswer (treeDeal deal tree) segment
-    kept-never-booked-with-tree later k =
+    kept-never-booked-with-tree k later n =
         let same = same-booking deal tree f segment in
         same-run-answer later now f segment
-        ∙ kept-never-booked deal segment (segmentsOf later) (ap (λ (a : Booked). a .code) (sym same) ∙ k)
+        ∙ kept-never-booked deal segment (ap (λ (a : Booked). a .code) (sym same) ∙ k) (plainCalls later)
+        (subst (λ (a : Booked). NoneCancels (a .place) (plainCalls later)) same n)
         ∙ sym same
 
     -- Demand 2. Where some slot of the deal keeps the segment, booking with the tree answers 15 with the offset and the
-    -- entry place of the lowest such slot, now and after any later calls with the tree in hand.
+    -- entry place of the lowest such slot, now and after any later calls with the tree in hand that do not cancel that
+    -- place.
     pub kept-is-never-booked-with-tree : (i : ℕ) → Bookable (lentDeal deal) segment → i < entryCount (length deal)
         → keepsSegment (lentDeal deal) segment i ≡ true
         → (j : ℕ)
         × IsLowest (keepsSegment (lentDeal deal) segment) 0 (entryCount (length deal)) j
-        × ((later : List TreeCall) → bookedAfter later ≡ answer15 deal j)
+        × ((later : List TreeCall) → NoneCancels (slotPlace (length deal) j) (plainCalls later)
+        → bookedAfter later ≡ answer15 deal j)
     kept-is-never-booked-with-tree i b h k =
         let p = kept-is-never-booked deal segment i b h k in
-        (p .0, p .1, λ later. same-run-answer later now f segment ∙ p .2 (segmentsOf later))
+        (p .0, p .1, λ later n. same-run-answer later now f segment ∙ p .2 (plainCalls later) n)
+
+    -- Demand 2. A slot that keeps the segment goes on keeping it, and booking with the tree goes on answering 15, after
+    -- any later calls with the tree in hand that do not cancel its place, be it the lowest such slot or not.
+    pub kept-slot-is-never-booked-with-tree : (i : ℕ) → Bookable (lentDeal deal) segment → i < entryCount (length deal)
+        → keepsSegment (lentDeal deal) segment i ≡ true → (later : List TreeCall)
+        → NoneCancels (slotPlace (length deal) i) (plainCalls later)
+        → (keepsSegment (lentDeal (after later .deal)) segment i ≡ true) × (bookedAfter later .code ≡ 15)
+    kept-slot-is-never-booked-with-tree i b h k later n =
+        let p = kept-slot-is-never-booked deal segment i b h k (plainCalls later) n in (
+          ap (λ (x : List ℕ). keepsSegment (lentDeal x) segment i) (same-run later now f) ∙ p .0,
+          ap (λ (a : Booked). a .code) (same-run-answer later now f segment) ∙ p .1,
+        )
 
   -- Demand 3, a record with a deal and its tree in hand; the deal gets neither 2 nor 11. A record accepted against the
   -- deal's commitment and size settles with the tree to 0 exactly when building with the tree at its entry place, given
@@ -104,10 +145,6 @@ module _ (deal tree : List ℕ) (f : FilledFor deal tree) where
       let place = placeIn (parse r) in
       let plain = BuildsExactly (lentDeal deal) place r in
       let with-tree = BuildsExactly (treeDeal deal tree) place r in
-      let answer = same-building deal tree f place in
-      let output = same-output deal tree f place in
       subst (Settles with-tree) (sym (same-settling deal tree f r))
-      (same-statement plain with-tree (settleWithDeal (lentDeal deal) r)
-      (λ b out h. (answer out ∙ b out h .0, output out ∙ b out h .1))
-      (λ b out h. (sym (answer out) ∙ b out h .0, sym (output out) ∙ b out h .1))
-      (record-settles-with-deal deal r bd br l c k))
+      (same-statement plain with-tree (settleWithDeal (lentDeal deal) r) (builds-with-tree place r)
+      (builds-without-tree place r) (record-settles-with-deal deal r bd br l c k))

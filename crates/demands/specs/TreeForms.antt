@@ -34,6 +34,12 @@ use Rattle.booking.specs.BookedTree.{bookedTree}
 use Rattle.booking.specs.BookingLaws.{refused-same}
 use Rattle.booking.specs.BookedTreeLaws.{refused-tree}
 use Rattle.booking.specs.TreeBookingLaws.{same-answer, same-deal, booked-filled}
+use Rattle.cancel.specs.Cancel.{cancelCode, cancelledDeal, cancelledTree}
+use Rattle.cancel.specs.CancelLaws as D
+use Rattle.cancel.specs.TreeCancelLaws as C
+use Rattle.collect.specs.Collect.{collectCode, secondDeal, secondTree}
+use Rattle.collect.specs.AnswerLaws.{deal-left, tree-left}
+use Rattle.collect.specs.TreeCollectLaws as T
 use Rattle.builder.specs.declared.BuildAnswer.{BuildAnswer}
 use Rattle.builder.specs.Build.{Building, built, notBuilt, recordAt, answerFor, outputFor, buildAnswer, buildOutput}
 use Rattle.builder.specs.TreeBuildLaws.{filled-answer, filled-output}
@@ -84,6 +90,18 @@ module _ (deal tree : List ℕ) (f : FilledFor deal tree) where
     pub booking-leaves-the-nodes : FilledFor (bookedDeal (treeDeal deal tree) segment) (bookedTree deal tree segment)
     booking-leaves-the-nodes = booked-filled deal tree f segment
 
+  -- Cancelling with the tree: code and deal of the plain form; the tree holds the nodes of the deal as it then is.
+  module _ (place : ℕ) where
+    pub same-cancelling : cancelCode (treeDeal deal tree) place ≡ cancelCode (lentDeal deal) place
+    same-cancelling = C.same-code deal tree f place
+
+    pub same-cancelled-deal : cancelledDeal (treeDeal deal tree) place ≡ cancelledDeal (lentDeal deal) place
+    same-cancelled-deal = C.same-deal deal tree f place
+
+    pub cancelling-leaves-the-nodes :
+        FilledFor (cancelledDeal (treeDeal deal tree) place) (cancelledTree deal tree place)
+    cancelling-leaves-the-nodes = C.cancelled-filled deal tree f place
+
   -- Building with the tree: answer and output of the plain form.
   module _ (place : ℕ) (out : List ℕ) where
     pub same-building : buildAnswer (treeDeal deal tree) place out ≡ buildAnswer (lentDeal deal) place out
@@ -96,6 +114,20 @@ module _ (deal tree : List ℕ) (f : FilledFor deal tree) where
   pub same-settling : (r : List ℕ) → settleWithDeal (treeDeal deal tree) r ≡ settleWithDeal (lentDeal deal) r
   same-settling = filled-settled deal tree f
 
+-- Collection with a tree beside the second deal, of the length that this asks, whatever it holds: code and second deal
+-- of the plain form.
+module _ (deal second tree : List ℕ) (s : SizedFor second tree) where
+  pub same-collecting : collectCode deal (treeDeal second tree) ≡ collectCode deal (lentDeal second)
+  same-collecting = T.same-code deal second tree (test-of-sized second tree (omega arith) s)
+
+  pub same-second-deal : secondDeal deal (treeDeal second tree) ≡ secondDeal deal (lentDeal second)
+  same-second-deal = T.same-deal deal second tree (test-of-sized second tree (omega arith) s)
+
+-- With code 0 the tree then holds the nodes of the second deal.
+pub collecting-leaves-the-nodes : (deal second tree : List ℕ) → collectCode deal (treeDeal second tree) ≡ 0
+    → FilledFor (secondDeal deal (treeDeal second tree)) (secondTree deal second tree)
+collecting-leaves-the-nodes = T.collected-filled
+
 -- Refusals change nothing, whatever the buffer holds: filling leaves the tree, ..
 pub refused-filling : (deal tree : List ℕ) → dealRefusal (treeDeal deal tree) ≢ 0 → filledTree deal tree ≡ tree
 refused-filling = not-filled
@@ -104,6 +136,17 @@ refused-filling = not-filled
 pub refused-booking : (deal tree segment : List ℕ) → bookAnswer (treeDeal deal tree) segment .code ≢ 0
     → (bookedDeal (treeDeal deal tree) segment ≡ deal) × (bookedTree deal tree segment ≡ tree)
 refused-booking deal tree segment h = (refused-same (treeDeal deal tree) segment h, refused-tree deal tree segment h)
+
+-- .. cancelling does so, ..
+pub refused-cancelling : (deal tree : List ℕ) (place : ℕ) → cancelCode (treeDeal deal tree) place ≢ 0
+    → (cancelledDeal (treeDeal deal tree) place ≡ deal) × (cancelledTree deal tree place ≡ tree)
+refused-cancelling deal tree place h =
+    (D.refused-same (treeDeal deal tree) place h, C.refused-tree deal tree place h)
+
+-- .. collection leaves the second deal and the tree beside it, ..
+pub refused-collecting : (deal second tree : List ℕ) → collectCode deal (treeDeal second tree) ≢ 0
+    → (secondDeal deal (treeDeal second tree) ≡ second) × (secondTree deal second tree ≡ tree)
+refused-collecting deal second tree h = (deal-left deal (treeDeal second tree) h, tree-left deal second tree h)
 
 not-written : (x : Building) (out : List ℕ) → answerFor x out .code ≢ 0 → outputFor x out ≡ out
 not-written (notBuilt code) out h = refl

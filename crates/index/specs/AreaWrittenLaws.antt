@@ -9,7 +9,7 @@ use mathlib.Core.List.{List}
 use lib.ListN.{length}
 use Rattle.octets.specs.Bytes.{Bytes}
 use Rattle.octets.specs.Splice.{part, splice}
-use Rattle.octets.specs.SpliceLaws.{length-splice, bytes-splice, part-before, part-after, part-written}
+use Rattle.octets.specs.SpliceLaws.{length-splice, bytes-splice, part-before, part-after, part-written, splice-own}
 use Rattle.stray.specs.StrayBits.{noStrayBits}
 use Rattle.stray.specs.StrayBitsLaws.{splice-clear}
 use Rattle.merkle.specs.Tree.{nodeAt}
@@ -23,6 +23,12 @@ use Rattle.index.specs.Written.{withArea}
 -- of two ranges one ends by the start of the other
 abbrev pub Apart : ℕ → ℕ → ℕ → ℕ → Type 0
 Apart at n offset m = (at + n ≤ offset) ⊎ (offset + m ≤ at)
+
+-- what stands there already changes nothing
+pub with-area-own : (deal : List ℕ) (offset : ℕ) (bytes : List ℕ) → part deal offset (length bytes) ≡ bytes
+    → withArea deal offset bytes ≡ deal
+unfolding withArea
+with-area-own deal offset bytes e = splice-own deal offset bytes e
 
 module _ (deal : List ℕ) (offset : ℕ) (bytes : List ℕ) (t : DealSize (length deal))
     (h : offset + length bytes ≤ indexStart (length deal)) where

@@ -14,6 +14,7 @@ use Rattle.rules.specs.RefusalLaws.{and-left, and-right}
 use Rattle.octets.specs.Bytes.{Bytes}
 use Rattle.octets.specs.Splice.{part, splice}
 use Rattle.octets.specs.SpliceLaws.{length-splice, bytes-splice, part-before, part-after, part-written}
+use Rattle.octets.specs.SpliceLaws.{splice-own, splice-over}
 use Rattle.stray.specs.StrayBits.{noStrayBits}
 use Rattle.stray.specs.StrayBitsLaws.{splice-clear}
 use Rattle.merkle.specs.Tree.{nodeAt}
@@ -41,6 +42,18 @@ place-slot d place t e =
     slot-number (indexStart d) (entryCount d) d place (x .start-aligned) a (entry-place d place t e .from-start)
     (ltb-true place d b) (x .start-count)
 
+-- and every slot is that of its place
+pub slot-back : (d i : ℕ) → slotOf d (slotPlace d i) ≡ i
+unfolding slotPlace
+slot-back d i = omega arith
+
+-- what a slot holds already changes nothing
+pub with-slot-own : (deal : List ℕ) (i : ℕ) (entry : List ℕ) → length entry ≡ 64 → slotAt deal i ≡ entry
+    → withSlot deal i entry ≡ deal
+unfolding withSlot
+with-slot-own deal i entry l e =
+    splice-own deal (slotPlace (length deal) i) entry (ap (part deal (slotPlace (length deal) i)) l ∙ e)
+
 module _ (deal : List ℕ) (i : ℕ) (entry : List ℕ) (t : DealSize (length deal)) (h : i < entryCount (length deal))
     (l : length entry ≡ 64) where
   fits : slotPlace (length deal) i + length entry ≤ length deal
@@ -49,6 +62,14 @@ module _ (deal : List ℕ) (i : ℕ) (entry : List ℕ) (t : DealSize (length de
   pub with-slot-length : length (withSlot deal i entry) ≡ length deal
   unfolding withSlot
   with-slot-length = length-splice deal (slotPlace (length deal) i) entry fits
+
+  -- bytes written in the same slot later stand alone
+  pub with-slot-over : (later : List ℕ) → length later ≡ 64
+      → withSlot (withSlot deal i entry) i later ≡ withSlot deal i later
+  unfolding withSlot
+  with-slot-over later k =
+      ap (λ (d : ℕ). splice (withSlot deal i entry) (slotPlace d i) later) with-slot-length
+      ∙ splice-over deal (slotPlace (length deal) i) entry later fits (k ∙ sym l)
 
   pub with-slot-bytes : Bytes deal → Bytes entry → Bytes (withSlot deal i entry)
   unfolding withSlot

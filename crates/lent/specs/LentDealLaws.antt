@@ -23,7 +23,8 @@ first-part [] ss h = absurd (h refl)
 first-part (r ∷ rs) ss h =
     first-of (r .passed) (r .code) (firstRefusal rs) (firstRefusal (rs ++ ss)) h (first-part rs ss)
 
-answer-refused : {A : Type 0} (refused : ℕ → A) (done : A) (code : ℕ) → code ≢ 0
+-- any code but 0 is answered by the refusal
+pub answer-refused : {A : Type 0} (refused : ℕ → A) (done : A) (code : ℕ) → code ≢ 0
     → unlessRefused code refused done ≡ refused code
 answer-refused refused done zero h = absurd (h refl)
 answer-refused refused done (suc code) h = refl

@@ -1,13 +1,15 @@
 -- Where the nodes of a lent deal may be looked up.
-use mathlib.Core.Path.{_≡_, sym, ap, _∙_}
+use mathlib.Core.Path.{_≡_, sym, ap, ap₂, _∙_}
 use mathlib.Core.Bool.{Bool, true, false}
-use Prim.Native.Nat.{ℕ, _+_, _*_, _^_, _≤_, _<_}
+use Prim.Native.Nat.{ℕ, _+_, _-_, _*_, _^_, _≤_, _<_}
 use native.Mathlib.Nat.{le-trans, le-of-eq}
 use native.Mathlib.Omega.{arith}
 use mathlib.Core.List.{List}
 use lib.ListN.{length}
+use lib.Dec.{eqb}
+use Rattle.rules.specs.Choice.{choose}
 use Rattle.merkle.specs.TreeLaws.{within, node-at-length}
-use Rattle.sizes.specs.Sizes.{dealLevel}
+use Rattle.sizes.specs.Sizes.{lentSizeAllowed, dealLevel}
 use Rattle.sizes.specs.SizesLaws.{LentSize, lent-size}
 use Rattle.paths.specs.Start.{PathStart, InTree}
 use Rattle.paths.specs.NodesSized.{NodesSized}
@@ -48,6 +50,15 @@ pub tree-sized : (bytes tree : List ℕ) → Usable (treeDeal bytes tree) → Si
 tree-sized bytes tree u =
     let l : 512 ≤ length bytes = usable-size u .deal .size-low in
     sized-of-test bytes tree (omega arith) (u .tree-sized)
+
+-- only the two lengths are asked
+pub usable-same : (hasTree : Bool) (bytes tree newBytes newTree : List ℕ) → length newBytes ≡ length bytes
+    → length newTree ≡ length tree → Usable (lentWith hasTree bytes tree) → Usable (lentWith hasTree newBytes newTree)
+usable-same hasTree bytes tree newBytes newTree e f u =
+    record {
+      size-allowed = ap lentSizeAllowed e ∙ u .size-allowed;
+      tree-sized = ap₂ (λ (n d : ℕ). choose hasTree (eqb n (d - 32)) true) f e ∙ u .tree-sized;
+    }
 
 -- every node has 32 bytes, with a tree as it stands or without one
 pub nodes-sized : (hasTree : Bool) (bytes tree : List ℕ) → Usable (lentWith hasTree bytes tree)

@@ -1,12 +1,14 @@
 // A lent deal, with a tree beside it or without one: the refusals that routines over it start with, its nodes, its
-// Merkle paths, and filling the tree. A tree is told by `has_tree`; where it is false, `tree` is not looked at.
+// Merkle paths, filling the tree, and bringing it up to date. A tree is told by `has_tree`; where it is false, `tree`
+// is not looked at.
 mod comparing; // comparing.rt: a path compared with the deal's own pairs of nodes
-mod filling; // filling.rt: filling the tree
+mod filling; // filling.rt: filling the tree, and bringing it up to date
 mod nodes; // nodes.rt: the nodes of the deal
 mod own_paths; // own_paths.rt: the deal's own Merkle paths
 
 pub use comparing::compare_with_own;
 pub use filling::fill_tree;
+pub use filling::renew_tree;
 pub use nodes::node_in;
 pub use own_paths::write_paths;
 ghost use mathlib.Core.Path.{_≡_};

@@ -137,6 +137,26 @@ module _ (d : List ℕ) (at : ℕ) (s : List ℕ) (h : at + length s ≤ length 
       (λ i k. splice-inside i k ∙ ap (λ (j : ℕ). getD s j 0) (sym (zero-add i)))
       ∙ part-whole s
 
+-- what stands there already
+pub splice-own : (d : List ℕ) (at : ℕ) (s : List ℕ) → part d at (length s) ≡ s → splice d at s ≡ d
+unfolding splice part
+splice-own d at s e =
+    ap (λ (x : List ℕ). take at d ++ x ++ drop (at + length s) d) (sym e)
+    ∙ ap (λ (x : List ℕ). x ++ drop (at + length s) d) (sym (take-add at (length s) d))
+    ∙ take-append-drop (at + length s) d
+
+-- two splices of as many bytes at one place are the second
+pub splice-over : (d : List ℕ) (at : ℕ) (s t : List ℕ) → at + length s ≤ length d → length t ≡ length s
+    → splice (splice d at s) at t ≡ splice d at t
+unfolding splice
+splice-over d at s t h e =
+    let l : length (take at d) ≡ at = length-take-le at d (omega arith) in
+    let m : length (take at d ++ s) ≡ at + length t = head-length d at s h ∙ ap (λ (n : ℕ). at + n) (sym e) in
+    ap₂ (λ (x y : List ℕ). x ++ t ++ y)
+    (ap (take at) (append-assoc (take at d) s (drop (at + length s) d))
+    ∙ take-at (take at d) (s ++ drop (at + length s) d) at l)
+    (drop-at (take at d ++ s) (drop (at + length s) d) (at + length t) m ∙ ap (λ (n : ℕ). drop (at + n) d) (sym e))
+
 -- two splices, the second where the first ends, are one
 pub splice-append : (d : List ℕ) (at next : ℕ) (s t : List ℕ) → at + length s ≤ length d → next ≡ at + length s
     → splice (splice d at s) next t ≡ splice d at (s ++ t)

@@ -133,6 +133,28 @@ fn book_with_tree(deal: &mut [u8], tree: &mut [u8], segment: &[u8]) {
     show::digest(tree);
 }
 
+fn cancel(deal: &mut [u8], place: u64) {
+    show::code(cancel::cancel(deal, place));
+    show::digest(deal);
+}
+
+fn cancel_with_tree(deal: &mut [u8], tree: &mut [u8], place: u64) {
+    show::code(cancel::cancel_with_tree(deal, tree, place));
+    show::digest(deal);
+    show::digest(tree);
+}
+
+fn collect(deal: &[u8], second: &mut [u8]) {
+    show::code(collect::collect(deal, second));
+    show::digest(second);
+}
+
+fn collect_with_tree(deal: &[u8], second: &mut [u8], tree: &mut [u8]) {
+    show::code(collect::collect_with_tree(deal, second, tree));
+    show::digest(second);
+    show::digest(tree);
+}
+
 fn fill_tree(deal: &[u8], tree: &mut [u8]) {
     show::code(lent::fill_tree(deal, tree));
     show::digest(tree);
@@ -253,7 +275,32 @@ fn answer_reading(operation: u64, a: &[u8], b: &[u8], c: &[u8], x: u64, y: u64) 
     }
 }
 
-// All calls: those that write too.
+// The calls that write with a tree in hand; every other only reads.
+fn answer_with_tree(operation: u64, a: &mut [u8], b: &mut [u8], c: &mut [u8], x: u64, y: u64) {
+    if operation == 20 {
+        fill_tree(a, c);
+        return;
+    }
+    if operation == 21 {
+        book_with_tree(a, c, b);
+        return;
+    }
+    if operation == 22 {
+        build_with_tree(a, c, x, b);
+        return;
+    }
+    if operation == 25 {
+        cancel_with_tree(a, c, x);
+        return;
+    }
+    if operation == 27 {
+        collect_with_tree(a, b, c);
+        return;
+    }
+    answer_reading(operation, a, b, c, x, y);
+}
+
+// All calls: those that write without a tree too.
 fn answer_any(operation: u64, a: &mut [u8], b: &mut [u8], c: &mut [u8], x: u64, y: u64) {
     if operation == 7 {
         book(a, b);
@@ -271,23 +318,19 @@ fn answer_any(operation: u64, a: &mut [u8], b: &mut [u8], c: &mut [u8], x: u64, 
         unpad(x, a, b);
         return;
     }
-    if operation == 20 {
-        fill_tree(a, c);
+    if operation == 24 {
+        cancel(a, x);
         return;
     }
-    if operation == 21 {
-        book_with_tree(a, c, b);
-        return;
-    }
-    if operation == 22 {
-        build_with_tree(a, c, x, b);
+    if operation == 26 {
+        collect(a, b);
         return;
     }
     if operation == 28 {
         fill_row(a, b);
         return;
     }
-    answer_reading(operation, a, b, c, x, y);
+    answer_with_tree(operation, a, b, c, x, y);
 }
 
 pub(crate) fn answer(operation: u64, a: &mut [u8], b: &mut [u8], c: &mut [u8], x: u64, y: u64) {

@@ -43,25 +43,29 @@ operations! {
     21 BookWithTree
     22 BuildWithTree
     23 SettleWithTree
+    24 Cancel
+    25 CancelWithTree
+    26 Collect
+    27 CollectWithTree
     28 TreeRow
 }
 
 impl Operation {
     /// Whether the first argument is lent to be written.
     pub fn writes_a(self) -> bool {
-        matches!(self, Operation::Book | Operation::BookWithTree)
+        use Operation::*;
+        matches!(self, Book | BookWithTree | Cancel | CancelWithTree)
     }
 
     /// Whether the second argument is lent to be written.
     pub fn writes_b(self) -> bool {
-        matches!(
-            self,
-            Operation::Build | Operation::BuildWithTree | Operation::Pad | Operation::Unpad | Operation::TreeRow
-        )
+        use Operation::*;
+        matches!(self, Build | BuildWithTree | Pad | Unpad | Collect | CollectWithTree | TreeRow)
     }
 
     /// Whether the third argument is lent to be written.
     pub fn writes_c(self) -> bool {
-        matches!(self, Operation::TreeFill | Operation::BookWithTree)
+        use Operation::*;
+        matches!(self, TreeFill | BookWithTree | CancelWithTree | CollectWithTree)
     }
 }

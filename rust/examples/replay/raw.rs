@@ -71,6 +71,10 @@ pub fn answer(case: &mut Case) -> Answer {
         Operation::BookWithTree => Ok(book(a, Some(c), b)?.bytes(&digest(c)?)),
         Operation::BuildWithTree => build(a, Some(c), x, b),
         Operation::SettleWithTree => settle_with_deal(a, Some(c), b),
+        Operation::Cancel => cancel(a, None, x),
+        Operation::CancelWithTree => Ok(cancel(a, Some(c), x)?.bytes(&digest(c)?)),
+        Operation::Collect => collect(a, b, None),
+        Operation::CollectWithTree => Ok(collect(a, b, Some(c))?.bytes(&digest(c)?)),
         Operation::TreeRow => tree_row(a, b),
     }
 }
@@ -166,6 +170,24 @@ fn book(deal: &mut [u8], tree: Option<&mut [u8]>, segment: &[u8]) -> Answer {
     };
     let line = Written::new(code, &[0, 15]).number(offset).number(place).done()?;
     Ok(line.bytes(&digest(deal)?))
+}
+
+fn cancel(deal: &mut [u8], tree: Option<&mut [u8]>, place: u64) -> Answer {
+    let (d, n) = (deal.as_mut_ptr(), deal.len());
+    let code = match tree {
+        None => unsafe { ffi::vz_cancel(d, n, place) },
+        Some(t) => unsafe { ffi::vz_cancel_with_tree(d, n, t.as_mut_ptr(), t.len(), place) },
+    };
+    Ok(Line::code(code).bytes(&digest(deal)?))
+}
+
+fn collect(deal: &[u8], second: &mut [u8], tree: Option<&mut [u8]>) -> Answer {
+    let (d, n, s, m) = (deal.as_ptr(), deal.len(), second.as_mut_ptr(), second.len());
+    let code = match tree {
+        None => unsafe { ffi::vz_collect(d, n, s, m) },
+        Some(t) => unsafe { ffi::vz_collect_with_tree(d, n, s, m, t.as_mut_ptr(), t.len()) },
+    };
+    Ok(Line::code(code).bytes(&digest(second)?))
 }
 
 fn build(deal: &[u8], tree: Option<&[u8]>, place: u64, output: &mut [u8]) -> Answer {

@@ -32,6 +32,10 @@ pub fn answer(case: Case) -> Answer {
         Operation::BookWithTree => Ok(book(&mut a, Some(&mut c), &b)?.bytes(&digest(&c)?)),
         Operation::BuildWithTree => build(&a, Some(&c), x, b),
         Operation::SettleWithTree => Ok(settled(vz::settle_with_deal(&a, Some(&c), &b))),
+        Operation::Cancel => cancel(&mut a, None, x),
+        Operation::CancelWithTree => Ok(cancel(&mut a, Some(&mut c), x)?.bytes(&digest(&c)?)),
+        Operation::Collect => collect(&a, &mut b, None),
+        Operation::CollectWithTree => Ok(collect(&a, &mut b, Some(&mut c))?.bytes(&digest(&c)?)),
         Operation::TreeRow => tree_row(&a, &mut b),
     }
 }
@@ -107,6 +111,16 @@ fn book(deal: &mut [u8], tree: Option<&mut [u8]>, segment: &[u8]) -> Answer {
         Err(refusal) => (Err(refusal), Position { offset: 0, place: 0 }),
     };
     Ok(code(result).add(position.offset).add(position.place).bytes(&digest(deal)?))
+}
+
+/// The deal afterwards is shown by its SHA-256.
+fn cancel(deal: &mut [u8], tree: Option<&mut [u8]>, place: u64) -> Answer {
+    Ok(code(vz::cancel(deal, tree, place)).bytes(&digest(deal)?))
+}
+
+/// The second deal afterwards is shown by its SHA-256.
+fn collect(deal: &[u8], second: &mut [u8], tree: Option<&mut [u8]>) -> Answer {
+    Ok(code(vz::collect(deal, second, tree)).bytes(&digest(second)?))
 }
 
 /// The tree afterwards is shown by its SHA-256.

@@ -32,6 +32,8 @@ pub enum Command {
     Pad { raw: Stream, output: Option<Stream> },
     Unpad { raw_length: u64, segment: Stream, output: Option<Stream> },
     Book { deal: Stream, segment: Stream, force: bool, access: Access },
+    Cancel { deal: Stream, place: u64, commitment: Option<Vec<u8>>, access: Access },
+    Collect { deal: Stream, new: Stream, force: bool, wait: bool },
     List { deal: Stream },
     Tally { deal: Stream },
     Find { deal: Stream, commitment: Vec<u8>, output: Option<Stream> },
@@ -95,10 +97,14 @@ impl Options {
         Access { wait: self.wait(), new_owner: self.has("new-owner") }
     }
 
+    fn commitment(&self) -> Result<Option<Vec<u8>>, Failure> {
+        self.value("commitment").map(bytes).transpose()
+    }
+
     fn in_hand(&self) -> Result<Option<InHand>, Failure> {
         let segment = self.value("segment").map(|file| stream(file).map(InHand::Segment));
         let raw = self.value("raw").map(|file| stream(file).map(InHand::Raw));
-        let commitment = self.value("commitment").map(|node| bytes(node).map(InHand::Commitment));
+        let commitment = self.commitment()?.map(|node| Ok(InHand::Commitment(node)));
         let mut given = [segment, raw, commitment].into_iter().flatten();
         match (given.next(), given.next()) {
             (first, None) => first.transpose(),
@@ -211,6 +217,16 @@ fn operands_of(name: &str, words: &[OsString], options: &Options) -> Result<Comm
             let (deal, segment) = (stream(deal)?, stream(segment)?);
             Command::Book { deal, segment, force: options.has("force"), access: options.access() }
         }
+        ("cancel", [deal, place]) => Command::Cancel {
+            deal: stream(deal)?,
+            place: number(place)?,
+            commitment: options.commitment()?,
+            access: options.access(),
+        },
+        ("collect", [deal, new]) => {
+            let (deal, new) = (stream(deal)?, stream(new)?);
+            Command::Collect { deal, new, force: options.has("force"), wait: options.wait() }
+        }
         ("list", [deal]) => Command::List { deal: stream(deal)? },
         ("tally", [deal]) => Command::Tally { deal: stream(deal)? },
         ("find", [deal, node]) => Command::Find { deal: stream(deal)?, commitment: bytes(node)?, output },
@@ -248,6 +264,7 @@ fn standard_inputs(command: &Command) -> usize {
         Command::Pad { raw, .. } => &[raw],
         Command::Unpad { segment, .. } => &[segment],
         Command::Book { deal, segment, .. } => &[deal, segment],
+        Command::Cancel { deal, .. } | Command::Collect { deal, .. } => &[deal],
         Command::List { deal } | Command::Tally { deal } => &[deal],
         Command::Find { deal, .. } | Command::Build { deal, .. } => &[deal],
         Command::Check { record, .. } | Command::Show { record } => &[record],
@@ -310,6 +327,12 @@ mod tests {
         assert_eq!(parsed("book d -"), Ok(Request::Run { command: book(false, access), json: false }));
         let other = book(true, Access { wait: false, new_owner: true });
         assert_eq!(parsed("book --force d --no-wait - --new-owner"), Ok(Request::Run { command: other, json: false }));
+        let cancel = |commitment| Command::Cancel { deal: file("d"), place: 256, commitment, access };
+        assert_eq!(parsed("cancel d 256"), Ok(Request::Run { command: cancel(None), json: false }));
+        let meant = Request::Run { command: cancel(Some(vec![0xab])), json: true };
+        assert_eq!(parsed("cancel --commitment AB d 256 --json"), Ok(meant));
+        let collect = Command::Collect { deal: file("d"), new: file("n"), force: true, wait: false };
+        assert_eq!(parsed("collect d n --force --no-wait"), Ok(Request::Run { command: collect, json: false }));
         let in_hand = Some(InHand::Raw(file("r")));
         let repair = Command::Repair { deal: file("d"), in_hand, place: Some(256), access };
         assert_eq!(parsed("repair d --raw=r --place 256"), Ok(Request::Run { command: repair, json: false }));
@@ -391,6 +414,14 @@ mod tests {
             "repair d --place x",
             "repair d --commitment xyz",
             "repair - --raw -",
+            "cancel d",
+            "cancel d 256 1",
+            "cancel d x",
+            "cancel d 256 --force",
+            "cancel d 256 --commitment xyz",
+            "collect d",
+            "collect d n --new-owner",
+            "collect d n --output f",
             "salvage d",
             "fsck",
             "book d s --no-wai",

@@ -1,5 +1,7 @@
 //! The commands: each reads its files, asks the library, and gives an answer.
 mod book;
+mod cancel;
+mod collect;
 mod fsck;
 mod list;
 mod repair;
@@ -11,10 +13,11 @@ use super::failure::{self, Failure};
 use super::files::{self, Content};
 use super::json::Json;
 use super::progress::Progress;
-use super::store;
+use super::store::{self, aside::Fill, Attributes};
+use super::survey;
 use super::table::{table, Column};
 use std::path::Path;
-use vizhuthamen::{hex, Field, Node, Refusal, Settled, Streaming, MAX_DEAL, MAX_RAW, MAX_STREAM};
+use vizhuthamen::{hex, Entry, Field, Node, Refusal, Settled, Streaming, MAX_DEAL, MAX_RAW, MAX_STREAM};
 
 /// Runs a command.
 pub fn run(command: Command) -> Result<Answer, Failure> {
@@ -25,6 +28,10 @@ pub fn run(command: Command) -> Result<Answer, Failure> {
         Command::Pad { raw, output } => pad(&raw, output),
         Command::Unpad { raw_length, segment, output } => unpad(raw_length, &segment, output),
         Command::Book { deal, segment, force, access } => book::book(&deal, &segment, force, access),
+        Command::Cancel { deal, place, commitment, access } => {
+            cancel::cancel(&deal, place, commitment.as_deref(), access)
+        }
+        Command::Collect { deal, new, force, wait } => collect::collect(&deal, &new, force, wait),
         Command::List { deal } => list::list(&deal),
         Command::Tally { deal } => tally(&deal),
         Command::Find { deal, commitment, output } => find(&deal, &commitment, output),
@@ -43,19 +50,39 @@ fn text(value: impl ToString) -> Json {
     Json::Text(value.to_string())
 }
 
-/// A refusal, with a note on the sizes that were met where it is about one.
+/// A refusal, with a note on what is wrong with the deal or with the place in it.
 fn refused(refusal: Refusal, deal: &Content) -> Answer {
     let answer = Answer::refused(refusal);
-    match refusal {
-        Refusal::SIZE => {
+    match (refusal, survey::numbers(&deal.bytes)) {
+        (Refusal::SIZE, _) => {
             let note = format!("{}; a deal has a power of two from 512 to {MAX_DEAL} bytes", deal.described());
             answer.with_note(note)
         }
-        Refusal::STRAY_BITS => {
+        (Refusal::STRAY_BITS, _) => {
             answer.with_note(format!("what is wrong, and where, is shown by: vizhuthamen fsck {}", deal.name))
+        }
+        (Refusal::PLACE, Ok(numbers)) => {
+            let (first, last) = (numbers.start, deal.bytes.len() - survey::ENTRY);
+            let places = format!("an entry place here is a multiple of 64 from {first} to {last}");
+            answer.with_note(format!("{places}; they are shown by: vizhuthamen list {}", deal.name))
         }
         _ => answer,
     }
+}
+
+/// The entry that stands at a place of a deal, where the library has found one.
+fn entry_at(deal: &[u8], place: u64) -> Result<Entry, Failure> {
+    let slot = survey::slot_at(deal, place).map_err(failure::data)?;
+    slot.standing().ok_or_else(|| failure::data(slot.described()))
+}
+
+/// Adds what an entry says, and the place where it is or was.
+fn with_entry(answer: Answer, entry: &Entry, place: u64) -> Answer {
+    answer
+        .with_value("offset", Json::Number(entry.offset))
+        .with_value("place", Json::Number(place))
+        .with_value("size", Json::Number(entry.size))
+        .with_value("commitment", text(entry.commitment))
 }
 
 /// The path of a deal that is locked.
@@ -74,7 +101,7 @@ fn new(deal: &Stream, size: u64) -> Result<Answer, Failure> {
             return Ok(Answer::refused(Refusal::SIZE).with_note(note));
         }
     };
-    let note = store::create(path_of(deal)?, size)?;
+    let note = store::create(path_of(deal)?, Fill::Zeros(size), Attributes::NEW)?;
     let answer = note.into_iter().fold(Answer::done("done").writing(), Answer::with_note);
     Ok(answer
         .with_value("size", Json::Number(size))

@@ -4,7 +4,7 @@ use super::failure::{self, Failure};
 use super::store::aside::{remove_dead, Aside, Fill};
 use super::store::change::{self, Part};
 use super::store::names::{shown, Home};
-use super::store::{self, Held, Keep};
+use super::store::{self, Attributes, DealFile, Held, Keep};
 use std::fs::{self, File, Metadata, OpenOptions};
 use std::io::{self, ErrorKind, Read, Write};
 use std::os::fd::AsFd;
@@ -76,6 +76,29 @@ pub fn read_deal(stream: &Stream) -> Result<Content, Failure> {
     let content = read(stream)?;
     compare(stream, content.length())?;
     Ok(content)
+}
+
+/// A deal that is read, under its lock where it is a file: then nobody changes it as long as this is there.
+pub enum Source {
+    Locked(DealFile),
+    Piped(Content),
+}
+
+impl Source {
+    /// Reads a deal, and waits for its lock unless that is not wanted.
+    pub fn open(deal: &Stream, wait: bool) -> Result<Source, Failure> {
+        match deal {
+            Stream::File(path) if path.is_file() => DealFile::open_to_read(path, wait).map(Source::Locked),
+            _ => read(deal).map(Source::Piped),
+        }
+    }
+
+    pub fn content(&self) -> &Content {
+        match self {
+            Source::Locked(file) => &file.content,
+            Source::Piped(content) => content,
+        }
+    }
 }
 
 /// Compares the length of a deal that is read with what is known of it, where it is a file. Nothing is known of a pipe or of a file
@@ -159,7 +182,8 @@ pub fn write(path: &Path, bytes: &[u8], read: &Content) -> Result<(), Failure> {
     }
 }
 
-fn same_file(file: &Metadata, read: &Content) -> bool {
+/// Whether a file is the one that was read.
+pub fn same_file(file: &Metadata, read: &Content) -> bool {
     read.metadata.as_ref().is_some_and(|other| (file.dev(), file.ino()) == (other.dev(), other.ino()))
 }
 
@@ -168,7 +192,7 @@ pub fn make(path: &Path, bytes: &[u8]) -> Result<bool, Failure> {
     let failed = |error: String| failure::io(format!("cannot write {}: {error}", shown(path)));
     let (home, held) = (Home::of(path), Held::start());
     remove_dead(&home.part(0)).map_err(failed)?;
-    let mut aside = Aside::write(&home, 0, Fill::Bytes(bytes), None, &held).map_err(failed)?;
+    let mut aside = Aside::write(&home, 0, Fill::Bytes(bytes), Attributes::NEW, &held).map_err(failed)?;
     let made = aside.make(path, &held).map_err(failed)?;
     if made {
         change::flush(&home.folder).map_err(|error| failed(format!("its folder could not be flushed: {error}")))?;
@@ -196,7 +220,7 @@ fn replace(path: &Path, bytes: &[u8]) -> Result<(), Failure> {
 #[cfg(test)]
 mod tests {
     use super::*;
-    use crate::cli::store::{Access, DealFile};
+    use crate::cli::store::Access;
     use std::os::unix::fs::PermissionsExt;
     use std::path::PathBuf;
 
@@ -359,12 +383,12 @@ mod tests {
     fn a_file_that_is_there_is_not_made_anew() {
         let folder = folder("new");
         let path = folder.join("deal");
-        assert_eq!(store::create(&path, 512).unwrap(), None);
+        assert_eq!(store::create(&path, Fill::Zeros(512), Attributes::NEW).unwrap(), None);
         assert_eq!(fs::read(&path).unwrap(), [0; 512]);
         assert_eq!(names(&folder), ["deal", "deal.vz"]);
         fs::write(&path, b"kept").unwrap();
-        assert_eq!(store::create(&path, 512).unwrap_err().status, 74);
-        assert_eq!(store::create(&path, 1024).unwrap_err().status, 65);
+        assert_eq!(store::create(&path, Fill::Zeros(512), Attributes::NEW).unwrap_err().status, 74);
+        assert_eq!(store::create(&path, Fill::Zeros(1024), Attributes::NEW).unwrap_err().status, 65);
         assert_eq!(fs::read(&path).unwrap(), b"kept");
     }
 }

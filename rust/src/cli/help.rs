@@ -24,7 +24,7 @@ pub struct Choice {
 /// The options that some commands take.
 pub const OPTIONS: [Choice; 8] = [
     Choice { name: "output", value: "FILE", summary: "write to FILE, replacing it (also -o)" },
-    Choice { name: "force", value: "", summary: "book over a slot that is not blank" },
+    Choice { name: "force", value: "", summary: "go on where a slot is damaged, or valid and not standing" },
     Choice { name: "no-wait", value: "", summary: "do not wait where another process works on the deal" },
     Choice { name: "new-owner", value: "", summary: "let the deal be the caller's where its owner cannot be kept" },
     Choice { name: "segment", value: "FILE", summary: "the segment in hand" },
@@ -34,7 +34,7 @@ pub const OPTIONS: [Choice; 8] = [
 ];
 
 /// The commands.
-pub const TOPICS: [Topic; 17] = [
+pub const TOPICS: [Topic; 19] = [
     Topic {
         name: "new",
         operands: &["DEAL", "SIZE"],
@@ -98,6 +98,42 @@ it does not: nothing is changed and the exit status is 75. The new deal is writt
 renamed over DEAL, with its owner, permissions and extended attributes. DEAL is the old or the new deal at any
 moment, never a part of either. A file with several hard links, or whose owner cannot be kept, is refused;
 --new-owner allows the latter.",
+    },
+    Topic {
+        name: "cancel",
+        operands: &["DEAL", "PLACE"],
+        options: &["commitment", "no-wait", "new-owner"],
+        summary: "cancel an entry of a deal file",
+        text: "Cancels the entry that stands at PLACE, a byte offset in the file DEAL, whether it is kept or not, and prints what
+it said: offset, entry place, size and commitment. Its 64 bytes are zeros afterwards, and no other byte changes.
+The slot is then free for booking, and so are the segment's bytes wherever no other standing entry covers them;
+they stay in DEAL until a booking takes them, and `collect` makes a deal without them. Code 16: no entry stands
+at PLACE; `list` shows the places.
+
+A free place goes to the next booking, so that a place that was noted earlier may be another segment's by now. With
+--commitment an entry that has another commitment is not cancelled: nothing is changed and the exit status is 65.
+
+DEAL has another commitment afterwards: records that were built before belong to the old one. As long as neither the
+slot nor the bytes are booked again, `repair DEAL --segment FILE --place PLACE` brings the entry back. DEAL is
+locked and replaced as with `book`.",
+    },
+    Topic {
+        name: "collect",
+        operands: &["DEAL", "NEW"],
+        options: &["force", "no-wait"],
+        summary: "write the segments of a deal without gaps to a new deal file",
+        text: "Makes the deal file NEW, of the same size as DEAL, of the segments whose entries stand in DEAL: all bytes of their
+areas, the larger ones first and equal ones by offset, packed from byte 0 on, and their entries from the first slot
+on in that order; all else is zero. For each entry the old and the new place and offset are printed, by new
+places. DEAL is not changed. Records that were built from DEAL belong to its commitment, and not to that of NEW.
+
+NEW is made as by `new`: a file that is there is never overwritten, and NEW.vz goes beside it. It is the caller's,
+and others have no permissions that they have not for DEAL. DEAL is read under its lock, which other readers
+share, until NEW is there; with --no-wait nobody is waited for, nothing is done and the exit status is 75.
+
+Code 20: two standing entries overlap. They are printed; `fsck` and `list` show which of them are kept, and `cancel`
+takes those away that are to go. A slot that is damaged, or whose entry does not stand, would be left out: where
+there is one, nothing is written and the exit status is 65, see fsck and repair. --force leaves it out.",
     },
     Topic {
         name: "list",

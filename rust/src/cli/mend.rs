@@ -109,7 +109,7 @@ impl Mending {
 
     /// Writes an entry, unless its area overlaps that of another.
     fn write_entry(&mut self, slot: &Slot, entry: Entry) -> Result<(), Refusal> {
-        if alone(&survey::slots(&self.bytes, &self.numbers)?, slot, &entry) {
+        if alone(&survey::slots(&self.bytes)?, slot, &entry) {
             let made = vizhuthamen::make_entry(entry.commitment.as_ref(), entry.offset, entry.size)?;
             self.bytes[slot.place as usize..][..ENTRY].copy_from_slice(&made);
             self.steps.push(Step::Entry { slot: slot.number, place: slot.place, entry });

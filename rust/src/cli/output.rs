@@ -18,7 +18,7 @@ pub fn write(bytes: &[u8]) -> Result<(), Failure> {
     written.map_err(|error| failure::io(format!("cannot write to standard output: {error}")))
 }
 
-/// Writes a line to standard error. Where that fails there is nowhere left to say so.
+/// Writes a line to standard error, in one piece. Where that fails there is nowhere left to say so.
 pub fn message(text: &str) {
-    let _ = writeln!(io::stderr(), "vizhuthamen: {text}");
+    let _ = io::stderr().write_all(format!("vizhuthamen: {text}\n").as_bytes());
 }

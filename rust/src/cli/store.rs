@@ -21,7 +21,7 @@ mod sidecar;
 mod signals;
 pub mod system;
 
-pub use attributes::Keep;
+pub use attributes::{Attributes, Keep};
 pub use deal::{create, troubled, Access, DealFile};
 pub use sidecar::agrees;
 pub use signals::Held;

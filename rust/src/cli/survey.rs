@@ -57,6 +57,30 @@ impl Slot {
         }
     }
 
+    /// The slot and what it holds, for messages.
+    pub fn described(&self) -> String {
+        let holds = match self.state {
+            State::Blank => "is blank",
+            State::Damaged => "is damaged",
+            State::Valid(_) => "holds an entry that does not stand",
+            State::Standing { .. } => "holds an entry that stands",
+        };
+        format!("slot {} (place {}) {holds}", self.number, self.place)
+    }
+
+    /// Whether it is not blank and no entry stands: what it held may be a customer's.
+    pub fn unsound(&self) -> bool {
+        matches!(self.state, State::Damaged | State::Valid(_))
+    }
+
+    /// The lowest slot below that has an entry whose area overlaps.
+    pub fn overlaps(&self) -> Option<u64> {
+        match self.state {
+            State::Standing { overlaps, .. } => overlaps,
+            _ => None,
+        }
+    }
+
     /// The entry, where it is kept.
     pub fn kept(&self) -> Option<Entry> {
         match self.state {
@@ -116,39 +140,43 @@ pub fn slot_bytes(deal: &[u8], place: u64) -> &[u8] {
 /// What every slot of a deal holds, and its stray bits. Refusals: 2.
 pub fn survey(deal: &[u8]) -> Result<Survey, Refusal> {
     let numbers = numbers(deal)?;
-    let mut slots = slots(deal, &numbers)?;
-    judge(deal, &mut slots);
+    let mut slots = slots(deal)?;
+    judge_kept(deal, &mut slots);
     Ok(Survey { numbers, stray: stray(deal), slots })
 }
 
-/// The slots by their own bytes, without hashing: of an entry that stands nothing else is said. Refusals: 2.
-pub fn slots(deal: &[u8], numbers: &IndexNumbers) -> Result<Vec<Slot>, Refusal> {
-    (0..numbers.entries)
-        .map(|number| {
-            let place = numbers.start + ENTRY as u64 * number;
-            let state = match vizhuthamen::read_entry(slot_bytes(deal, place))? {
-                ReadEntry::Blank => State::Blank,
-                ReadEntry::Damaged => State::Damaged,
-                ReadEntry::Valid(entry) if allowed(deal, numbers, entry.offset, entry.size) => {
-                    State::Standing { entry, kept: false, overlaps: None }
-                }
-                ReadEntry::Valid(entry) => State::Valid(entry),
-            };
-            Ok(Slot { number, place, state })
-        })
-        .collect()
+/// The slots by their own bytes, without hashing: no entry is said to be kept. Refusals: 2.
+pub fn slots(deal: &[u8]) -> Result<Vec<Slot>, Refusal> {
+    let numbers = numbers(deal)?;
+    let mut slots: Vec<Slot> = vec![];
+    for number in 0..numbers.entries {
+        let place = numbers.start + ENTRY as u64 * number;
+        let state = match vizhuthamen::read_entry(slot_bytes(deal, place))? {
+            ReadEntry::Blank => State::Blank,
+            ReadEntry::Damaged => State::Damaged,
+            ReadEntry::Valid(entry) if allowed(deal, &numbers, entry.offset, entry.size) => {
+                let over = slots.iter().find(|slot| slot.standing().is_some_and(|other| overlap(&entry, &other)));
+                State::Standing { entry, kept: false, overlaps: over.map(|slot| slot.number) }
+            }
+            ReadEntry::Valid(entry) => State::Valid(entry),
+        };
+        slots.push(Slot { number, place, state });
+    }
+    Ok(slots)
 }
 
-/// Fills in which entries are kept and which overlap.
-fn judge(deal: &[u8], slots: &mut [Slot]) {
-    let standing: Vec<(u64, Entry)> = slots.iter().filter_map(|slot| Some((slot.number, slot.standing()?))).collect();
-    let mut areas = Areas::new(deal, standing.iter().map(|(_, entry)| (entry.offset, area(entry.size))));
+/// The slot at a place, by its own bytes and without hashing. Refusals: 2, 6.
+pub fn slot_at(deal: &[u8], place: u64) -> Result<Slot, Refusal> {
+    slots(deal)?.into_iter().find(|slot| slot.place == place).ok_or(Refusal::PLACE)
+}
+
+/// Fills in which entries are kept.
+fn judge_kept(deal: &[u8], slots: &mut [Slot]) {
+    let wanted = slots.iter().filter_map(Slot::standing).map(|entry| (entry.offset, area(entry.size)));
+    let mut areas = Areas::new(deal, wanted);
     for slot in slots {
-        let number = slot.number;
-        if let State::Standing { entry, kept, overlaps } = &mut slot.state {
+        if let State::Standing { entry, kept, .. } = &mut slot.state {
             *kept = areas.commitment(entry.offset, area(entry.size)) == Some(entry.commitment);
-            let lower = standing.iter().take_while(|(other, _)| *other < number);
-            *overlaps = lower.filter(|(_, other)| overlap(entry, other)).map(|(other, _)| *other).next();
         }
     }
 }
@@ -322,11 +350,7 @@ mod tests {
         for (i, bytes) in [entry(0, 256), entry(256, 128), entry(0, 512), entry(384, 128)].iter().enumerate() {
             deal[1792 + 64 * i..][..64].copy_from_slice(bytes);
         }
-        let overlaps = |slot: &Slot| match slot.state {
-            State::Standing { overlaps, .. } => overlaps,
-            _ => None,
-        };
-        let found: Vec<_> = survey(&deal).unwrap().slots.iter().map(overlaps).collect();
+        let found: Vec<_> = survey(&deal).unwrap().slots.iter().map(Slot::overlaps).collect();
         assert_eq!(found, [None, None, Some(0), Some(2)]);
     }
 

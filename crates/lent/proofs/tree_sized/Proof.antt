@@ -1,4 +1,3 @@
-use mathlib.Core.Path.{_≡_, refl, sym}
 use native.Mathlib.Omega.{arith}
 use Rattle.sizes.specs.SizesLaws.{lent-size}
 use Rattle.lent.proofs.tree_sized.Statement.{statement}

@@ -2,11 +2,11 @@
 use super::super::answer::Answer;
 use super::super::args::Stream;
 use super::super::failure::Failure;
-use super::super::files::{self, Content};
+use super::super::files::{Content, Source};
 use super::super::json::Json;
 use super::super::progress::Progress;
+use super::super::store;
 use super::super::store::names::shown;
-use super::super::store::{self, DealFile};
 use super::super::survey::{self, area, Slot, State, Stray, Survey};
 use super::list::slot_members;
 use super::{refused, text};
@@ -39,14 +39,13 @@ pub fn disagreeing(answer: Answer, disagrees: Option<String>) -> Answer {
 
 /// Reads a deal under its lock where it is a file, and says where it has another size than is known of it.
 pub fn read(deal: &Stream, wait: bool) -> Result<(Content, Option<String>), Failure> {
-    match deal {
-        Stream::File(path) if path.is_file() => {
-            let file = DealFile::open_to_read(path, wait)?;
+    Ok(match Source::open(deal, wait)? {
+        Source::Locked(file) => {
             let disagrees = store::agrees(file.path(), file.content.length()).err().map(|failure| failure.message);
-            Ok((file.content, disagrees))
+            (file.content, disagrees)
         }
-        _ => files::read(deal).map(|content| (content, None)),
-    }
+        Source::Piped(content) => (content, None),
+    })
 }
 
 /// What is wrong: a line of text for each, and the same for JSON.
@@ -96,11 +95,7 @@ impl Wrong {
     fn add_slot(&mut self, survey: &Survey, slot: &Slot) {
         for (state, why) in states(survey, slot) {
             self.lines.push(format!("slot {} (place {}) is {state}: {why}", slot.number, slot.place));
-            let mut members = slot_members(slot, state);
-            if let State::Standing { overlaps: Some(other), .. } = slot.state {
-                members.push(("overlaps", Json::Number(other)));
-            }
-            self.slots.push(Json::Object(members));
+            self.slots.push(wrong_slot(slot, state));
         }
     }
 
@@ -123,6 +118,13 @@ impl Wrong {
         ];
         answer.with_text(lines, members)
     }
+}
+
+/// A slot that is not in order, for JSON.
+pub fn wrong_slot(slot: &Slot, state: &str) -> Json {
+    let mut members = slot_members(slot, state);
+    members.extend(slot.overlaps().map(|other| ("overlaps", Json::Number(other))));
+    Json::Object(members)
 }
 
 /// Whether the area of a slot's entry, which stands, has a byte.

@@ -1,5 +1,5 @@
 //! A file that is written aside, and then put in its place in one step.
-use super::attributes::{self, Keep};
+use super::attributes::{self, Attributes};
 use super::lock::{self, Share};
 use super::names::{shown, Home};
 use super::signals::Held;
@@ -24,13 +24,23 @@ pub enum Fill<'a> {
     Zeros(u64),
 }
 
+impl Fill<'_> {
+    /// The length of the file.
+    pub fn length(self) -> u64 {
+        match self {
+            Fill::Bytes(bytes) => bytes.len() as u64,
+            Fill::Zeros(length) => length,
+        }
+    }
+}
+
 /// A whole file, flushed to the disk and locked, that is not in its place yet. If it has a name, the name goes when this is dropped.
 pub struct Aside<'a> {
     file: File,
     name: PathBuf,
     named: bool,
     fill: Fill<'a>,
-    keep: Option<&'a Keep<'a>>,
+    attributes: Attributes<'a>,
 }
 
 impl<'a> Aside<'a> {
@@ -39,13 +49,13 @@ impl<'a> Aside<'a> {
         home: &Home,
         part: usize,
         fill: Fill<'a>,
-        keep: Option<&'a Keep<'a>>,
+        attributes: Attributes<'a>,
         held: &Held,
     ) -> Result<Aside<'a>, String> {
         let name = home.part(part);
-        let aside = match system::unnamed(&home.folder, mode(keep)) {
-            Ok(file) => Aside { file, name, named: false, fill, keep },
-            Err(_) => Aside { file: claim(&name, mode(keep), held)?, name, named: true, fill, keep },
+        let aside = match system::unnamed(&home.folder, attributes.mode()) {
+            Ok(file) => Aside { file, name, named: false, fill, attributes },
+            Err(_) => Aside { file: claim(&name, attributes.mode(), held)?, name, named: true, fill, attributes },
         };
         aside.fill(held)?;
         Ok(aside)
@@ -59,7 +69,7 @@ impl<'a> Aside<'a> {
             }
         };
         written.map_err(|error| error.to_string())?;
-        if let Some(keep) = self.keep {
+        if let Attributes::Kept(keep) = self.attributes {
             attributes::keep(&self.file, keep)?;
         }
         self.file.sync_all().and_then(|()| held.go_on()).map_err(|error| error.to_string())?;
@@ -84,7 +94,7 @@ impl<'a> Aside<'a> {
 
     /// Writes the file once more, with the name of its part from the start.
     fn write_again(&mut self, held: &Held) -> Result<(), String> {
-        self.file = claim(&self.name, mode(self.keep), held)?;
+        self.file = claim(&self.name, self.attributes.mode(), held)?;
         self.named = true;
         self.fill(held)
     }
@@ -154,14 +164,6 @@ impl<'a> Aside<'a> {
 impl Drop for Aside<'_> {
     fn drop(&mut self) {
         self.remove_name();
-    }
-}
-
-/// A file that takes over another's permissions is its owner's alone until then.
-fn mode(keep: Option<&Keep>) -> u32 {
-    match keep {
-        Some(_) => 0o600,
-        None => 0o666,
     }
 }
 

@@ -12,6 +12,33 @@ pub struct Keep<'f> {
     pub new_owner: bool,
 }
 
+/// The attributes of a file that is written.
+#[derive(Clone, Copy)]
+pub enum Attributes<'a> {
+    /// It is the caller's, with these permissions as far as his mask allows them.
+    Own(u32),
+    /// It takes over those of another file.
+    Kept(&'a Keep<'a>),
+}
+
+impl<'a> Attributes<'a> {
+    /// A new file that anybody may read and write whom the caller's mask lets.
+    pub const NEW: Attributes<'static> = Attributes::Own(0o666);
+
+    /// Those of the old file, where there is one.
+    pub fn of(keep: Option<&'a Keep<'a>>) -> Attributes<'a> {
+        keep.map_or(Attributes::NEW, Attributes::Kept)
+    }
+
+    /// The permissions with which the file is made. One that takes over another's is its owner's alone until then.
+    pub fn mode(self) -> u32 {
+        match self {
+            Attributes::Own(mode) => mode,
+            Attributes::Kept(_) => 0o600,
+        }
+    }
+}
+
 /// Gives a new file the owner, the extended attributes and the permissions of the old one. What cannot be kept is refused.
 pub fn keep(new: &File, keep: &Keep) -> Result<(), String> {
     let old = keep.old.metadata().map_err(|error| format!("its attributes cannot be read: {error}"))?;

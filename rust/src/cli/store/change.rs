@@ -1,6 +1,6 @@
 //! Files put in their places: one by a rename, several together or not at all.
 use super::aside::{self, Aside, Fill};
-use super::attributes::Keep;
+use super::attributes::{Attributes, Keep};
 use super::names::{shown, Home, MOST_PARTS};
 use super::signals::Held;
 use super::system;
@@ -38,7 +38,8 @@ pub fn put(home: &Home, parts: &[Part], still: impl Fn() -> Result<(), String>) 
     let held = Held::start();
     let mut asides = vec![];
     for (number, part) in parts.iter().enumerate() {
-        let written = Aside::write(home, number, Fill::Bytes(part.bytes), part.keep.as_ref(), &held);
+        let attributes = Attributes::of(part.keep.as_ref());
+        let written = Aside::write(home, number, Fill::Bytes(part.bytes), attributes, &held);
         asides.push(written.map_err(Trouble::Nothing)?);
     }
     for aside in &mut asides {
@@ -63,8 +64,8 @@ fn put_together(
 ) -> Result<(), Trouble> {
     let nothing = |error: io::Error| Trouble::Nothing(not_flushed(&home.folder, &error));
     let text = journal(parts);
-    let mut journal =
-        Aside::write(home, MOST_PARTS, Fill::Bytes(text.as_bytes()), None, held).map_err(Trouble::Nothing)?;
+    let mut journal = Aside::write(home, MOST_PARTS, Fill::Bytes(text.as_bytes()), Attributes::NEW, held)
+        .map_err(Trouble::Nothing)?;
     flush(&home.folder).map_err(nothing)?;
     still().map_err(Trouble::Nothing)?;
     // With the journal in place the change is made, whoever ends it; before the first rename it can still be taken back.

@@ -1,6 +1,6 @@
 //! The file of a deal: made, read and changed under its lock.
 use super::aside::{leads_to, Aside, Fill};
-use super::attributes::Keep;
+use super::attributes::{Attributes, Keep};
 use super::change::{self, Part, Trouble};
 use super::lock::{self, Share};
 use super::names::{shown, Home};
@@ -9,6 +9,7 @@ use super::signals::Held;
 use crate::cli::failure::{self, Failure};
 use crate::cli::files::{self, Content};
 use std::fs::{self, File, OpenOptions};
+use std::io::ErrorKind;
 use std::os::unix::fs::MetadataExt;
 use std::path::{Path, PathBuf};
 
@@ -126,7 +127,7 @@ impl DealFile {
             match fs::read(&target) {
                 Ok(bytes) if bytes == self.content.bytes => return Ok((target, None)),
                 Ok(_) => {}
-                Err(error) if error.kind() == std::io::ErrorKind::NotFound => {
+                Err(error) if error.kind() == ErrorKind::NotFound => {
                     let keep = Keep { old: &self.file, new_owner: true };
                     let part = Part { target: target.clone(), bytes: &self.content.bytes, keep: Some(keep) };
                     return Ok((target, Some(part)));
@@ -151,34 +152,55 @@ pub fn troubled(trouble: Trouble, name: &str) -> Failure {
     })
 }
 
-/// Makes a deal of zero bytes. A file that is there stays. Says what could not be done beside it.
-pub fn create(given: &Path, size: u64) -> Result<Option<String>, Failure> {
+/// Makes a deal file. A file that is there stays. Says what could not be done beside it.
+pub fn create(given: &Path, fill: Fill, attributes: Attributes) -> Result<Option<String>, Failure> {
     let name = shown(given);
     let cannot = |error: String| failure::io(format!("cannot make {name}: {error}"));
     let home = Home::of(given);
-    let known = sidecar::agrees(given, size)?;
+    let known = sidecar::agrees(given, fill.length())?;
+    let exists = || cannot("the file exists, and is never overwritten; give another name".to_string());
+    if is_there(given).map_err(cannot)? {
+        return Err(exists());
+    }
+    // Whoever opens the new deal next would end the change that the journal names, over the new deal.
+    if is_there(&home.journal()).map_err(cannot)? {
+        let journal = shown(home.journal());
+        return Err(cannot(format!("{journal} was left by a change of an older deal of that name; remove it first")));
+    }
     let held = Held::start();
-    let mut aside = Aside::write(&home, 0, Fill::Zeros(size), None, &held).map_err(cannot)?;
+    let mut aside = Aside::write(&home, 0, fill, attributes, &held).map_err(cannot)?;
     if !aside.make(given, &held).map_err(cannot)? {
-        return Err(failure::io(format!("cannot make {name}: the file exists")));
+        return Err(exists());
     }
     // The new deal was locked before it had its name, and is until the end.
     change::flush(&home.folder)
         .map_err(|error| troubled(Trouble::Made(format!("its folder could not be flushed: {error}")), &name))?;
-    Ok(beside_new(&home, size, known, aside.file(), &held).err().map(|why| {
+    let text = (!known).then(|| sidecar::text(fill.length()));
+    Ok(beside_new(&home, text, attributes, aside.file(), &held).err().map(|why| {
         format!("{} could not be written: {why}; a cut of {name} will not be noticed", shown(home.sidecar()))
     }))
 }
 
-/// Removes what was left beside an older deal of the same name, and puts what is known of the new one there.
-fn beside_new(home: &Home, size: u64, known: bool, deal: &File, held: &Held) -> Result<(), String> {
-    match fs::remove_file(home.journal()) {
-        Err(error) if error.kind() != std::io::ErrorKind::NotFound => return Err(error.to_string()),
-        _ => change::clear(home, deal)?,
+/// Whether something has this name.
+fn is_there(path: &Path) -> Result<bool, String> {
+    match fs::symlink_metadata(path) {
+        Ok(_) => Ok(true),
+        Err(error) if error.kind() == ErrorKind::NotFound => Ok(false),
+        Err(error) => Err(error.to_string()),
     }
-    if !known {
-        let text = sidecar::text(size);
-        Aside::write(home, 0, Fill::Bytes(text.as_bytes()), None, held)?.make(&home.sidecar(), held)?;
+}
+
+/// Removes what was left beside an older deal of the same name, and puts what is known of the new one there, where nothing is.
+fn beside_new(
+    home: &Home,
+    known: Option<String>,
+    attributes: Attributes,
+    deal: &File,
+    held: &Held,
+) -> Result<(), String> {
+    change::clear(home, deal)?;
+    if let Some(text) = known {
+        Aside::write(home, 0, Fill::Bytes(text.as_bytes()), attributes, held)?.make(&home.sidecar(), held)?;
     }
     change::flush(&home.folder).map_err(|error| error.to_string())
 }

@@ -1,19 +1,27 @@
-use mathlib.Core.Path.{_≡_, sym, ap, ap₂, _∙_, subst}
-use mathlib.Core.Bool.{Bool}
+use mathlib.Core.Path.{_≡_, refl, ap, _∙_}
+use mathlib.Core.Bool.{Bool, true, false}
 use mathlib.Core.List.{List}
-use Prim.Native.Nat.{ℕ, _+_, _*_, _^_, _≤_, _<_}
+use Prim.Native.Nat.{ℕ}
 use native.Mathlib.Omega.{arith}
 use lib.ListN.{length}
 use denote.Ref.{now}
 use borrow.Author.Needs.{needs}
-use Rattle.tree.specs.TreeNodes.{SizedFor}
+use Rattle.rules.specs.Choice.{choose}
+use Rattle.sizes.specs.Sizes.{dealLevel}
 use Rattle.tree.specs.Renewed.{renewed}
-use Rattle.tree.specs.RenewedLaws.{renewed-by}
-use Rattle.lent.specs.LentDeal.{lentWith}
-use Rattle.lent.specs.Usable.{Usable}
-use Rattle.lent.specs.UsableLaws.{usable-size, usable-power, tree-sized}
+use Rattle.lent.specs.UsableLaws.{usable-same}
+use Rattle.booking.specs.BookedTree.{renewedFor}
 use Rattle.booking.proofs.booking.renew_written.Statement.{statement}
 use Rattle.booking.proofs.booking.renew_written.Tie as tie
+
+-- one part after the other, or none
+both : (hasTree : Bool) (deal tree first second : List ℕ) (offset n place : ℕ)
+    → first ≡ choose hasTree (renewed (dealLevel (length deal)) deal tree offset n) tree
+    → second ≡ choose hasTree (renewed (dealLevel (length deal)) deal first place 64) first
+    → second ≡ choose hasTree (renewedFor deal tree offset n place) tree
+both true deal tree first second offset n place e f =
+    f ∙ ap (λ (x : List ℕ). renewed (dealLevel (length deal)) deal x place 64) e
+both false deal tree first second offset n place e f = f ∙ e
 
 -- what is lent
 abbrev deal : tie.Start → List ℕ
@@ -22,53 +30,31 @@ deal s = now (s .args .deal)
 abbrev tree : tie.Start → List ℕ
 tree s = now (s .args .tree)
 
--- with a tree
-abbrev start : tie.Then1 → tie.Start
-start c = c .before .before .before
-
-sized : (c : tie.Then1) → SizedFor (deal (start c)) (tree (start c))
-sized c =
-    let s = start c in
-    tree-sized (deal s) (tree s)
-    (subst (λ (b : Bool). Usable (lentWith b (deal s) (tree s))) (c .if1 .taken) (s .pre .0))
-
--- the level of the top node, and the two lengths
-abbrev then1 : tie.After-deal-level → tie.Then1
-then1 c = c .before
-
-power : (c : tie.After-deal-level) → length (deal (start (then1 c))) ≡ 32 * 2 ^ c .deal-level .result
-power c = usable-power (start (then1 c) .pre .0) ∙ ap (λ (n : ℕ). 32 * 2 ^ n) (sym (c .deal-level .ensures))
-
-abbrev leveled : tie.After-area → tie.After-deal-level
-leveled c = c .before .before
-
-area-in : (c : tie.After-area)
-    → let s = start (then1 (leveled c)) in
-    (0 < c .area .result) × (s .args .offset + c .area .result ≤ length (deal s))
-area-in c =
-    let p = start (then1 (leveled c)) .pre .1 in
-    let e = c .area .ensures in
-    (omega (arith, p .0), omega (arith, p .1))
-
-deal-level-requires : tie.Need-deal-level-requires
-deal-level-requires c κs = usable-size (start c .pre .0) .allowed
+abbrev start : tie.After-area → tie.Start
+start a = a .before .before .before
 
 area-requires : tie.Need-area-requires
 area-requires c κs = search needs
 
-renew-requires : tie.Need-renew-requires
-renew-requires c κs = let l = leveled c in ((power l, sized (then1 l)), area-in c)
+renew-tree-requires : tie.Need-renew-tree-requires
+renew-tree-requires c κs =
+    let a = c .before in
+    let p = start a .pre in
+    let e = a .area .ensures in
+    (p .0, (omega (arith, p .1 .0), omega (arith, p .1 .1)))
 
 -- the first of the two leaves a tree of the same length
-renew-requires-2 : tie.Need-renew-requires-2
-renew-requires-2 c κs =
+renew-tree-requires-2 : tie.Need-renew-tree-requires-2
+renew-tree-requires-2 c κs =
     let r = c .before .before .before in
-    let a = r .before in
-    let l = leveled a in
-    let s = start (then1 l) in
-    let one = renewed-by (deal s) (s .args .offset) (a .area .result) (area-in a .0) (area-in a .1)
-    (l .deal-level .result) (tree s) (power l) (sized (then1 l)) in
-    ((power l, omega (arith, ap length (r .renew .ensures), one .sized, sized (then1 l))), (omega arith, s .pre .1 .2))
+    let a = r .before .before in
+    let s = start a in
+    let p = s .pre .1 in
+    let e = a .area .ensures in (
+      usable-same (s .args .has-tree) (deal s) (tree s) (deal s) (r .renew-tree .last .1 .0) refl
+          (r .renew-tree .kept .1 .0) (s .pre .0),
+      (omega (arith, p .0, p .1), omega (arith, p .1, p .2)),
+    )
 
 same-length : tie.Need-same-length
 same-length c = search needs
@@ -77,27 +63,13 @@ returns : tie.Need-returns
 returns c =
     let q = c .before .before in
     let r = q .before .before .before .before in
-    let a = r .before in
-    let l = leveled a in
-    let s = start (then1 l) in
-    rw (then1 l .if1 .taken)
-    (q .renew2 .ensures
-    ∙ ap₂ (λ (top : ℕ) (x : List ℕ). renewed top (deal s) x (s .args .place) 64) (l .deal-level .ensures)
-    (r .renew .ensures
-    ∙ ap₂ (λ (top n : ℕ). renewed top (deal s) (tree s) (s .args .offset) n) (l .deal-level .ensures)
-    (a .area .ensures)))
-
-returns-2 : tie.Need-returns-2
-returns-2 c = search needs
+    let a = r .before .before in
+    let s = start a in
+    both (s .args .has-tree) (deal s) (tree s) (r .renew-tree .last .1 .0) (q .renew-tree2 .last .1 .0)
+    (s .args .offset) (a .area .result) (s .args .place) (r .renew-tree .ensures) (q .renew-tree2 .ensures)
+    ∙ ap (λ (n : ℕ). choose (s .args .has-tree) (renewedFor (deal s) (tree s) (s .args .offset) n (s .args .place))
+    (tree s)) (a .area .ensures)
 
 pub renew-written-spec : {M : Type 1} → statement M
 renew-written-spec =
-    tie.close
-    (tie.spec
-    deal-level-requires
-    area-requires
-    renew-requires
-    renew-requires-2
-    same-length
-    returns
-    returns-2)
+    tie.close (tie.spec area-requires renew-tree-requires renew-tree-requires-2 same-length returns)

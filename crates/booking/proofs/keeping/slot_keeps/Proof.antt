@@ -23,7 +23,7 @@ use Rattle.tree.specs.TreeNodes.{treeNodes}
 use Rattle.lent.specs.LentDeal.{LentDeal, lentWith}
 use Rattle.lent.specs.UsableLaws.{usable-size}
 use Rattle.room.specs.RoomLaws.{slots-high}
-use Rattle.booking.specs.Ranges.{rangesOf}
+use Rattle.ranges.specs.Ranges.{rangesOf}
 use Rattle.booking.specs.Write.{areaBytes}
 use Rattle.booking.proofs.KeepingSlot.{
   other-area,

@@ -1,6 +1,5 @@
-use mathlib.Core.Path.{_≡_, subst, _∙_, ap}
-use mathlib.Core.Bool.{Bool, true, false}
-use lib.ListN.{length}
+use mathlib.Core.Path.{subst}
+use mathlib.Core.Bool.{Bool, true}
 use denote.Ref.{now}
 use Rattle.paths.specs.Start.{PathStart, pathStart}
 use Rattle.lent.specs.LentDeal.{LentDeal, lentWith}

@@ -1,0 +1,3 @@
+pub mod Cancel
+pub mod CancelLaws
+pub mod TreeCancelLaws

@@ -1,0 +1,4 @@
+pub mod Gathered
+pub mod Entries
+pub mod Turns
+pub mod Outcome

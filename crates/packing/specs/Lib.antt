@@ -1,0 +1,15 @@
+pub mod Total
+pub mod Order
+pub mod Apart
+pub mod TotalLaws
+pub mod TotalSwap
+pub mod ApartLaws
+pub mod OrderLaws
+pub mod NoOverlapLaws
+pub mod SumLaws
+pub mod PackingLaws
+pub mod OrderUnique
+pub mod Packed
+pub mod MovedTotal
+pub mod PackedLaws
+pub mod PackedOffsets
