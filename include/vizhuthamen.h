@@ -77,7 +77,12 @@ uint32_t vz_stream_take(uint8_t *state, size_t state_len, const uint8_t *piece, 
 uint32_t vz_stream_end(const uint8_t *state, size_t state_len, uint8_t *node, size_t node_len, uint64_t *count);
 
 /* Fr32 padding: writes the segment of raw_len raw bytes, 1 to 8,323,072, into the first bytes of segment, and answers
- * its length, raw_len x 128 / 127 rounded up; the rest of segment stays. 2^23 bytes hold any segment. Codes: 2, 12. */
+ * its length, raw_len x 128 / 127 rounded up; the rest of segment stays. 2^23 bytes hold any segment. Codes: 2, 12.
+ *
+ * The commitment of a longer archive, of up to 2^36 bytes after padding, by parts: pad every 127 x 2^11 raw bytes, and
+ * those that are left at the end, into 2^18 zeros, and give the stream above vz_commitment of each, then that of 2^18
+ * zeros until their number is a power of two. The stream ends with the commitment of the whole segment, filled with
+ * zeros: raw-by-parts, crates/vizhuthamen/specs/RawByParts.antt. */
 uint32_t vz_fr32_pad(const uint8_t *raw, size_t raw_len, uint8_t *segment, size_t segment_len, uint64_t *length);
 
 /* The way back: writes the raw_length raw bytes of a segment into the first bytes of raw, and answers their number;

@@ -17,7 +17,7 @@ import unittest
 from pathlib import Path
 
 from cases import node
-from model import MAX_RAW, Model, area, filled, index_numbers, pad, segment_length, unpad
+from model import MAX_RAW, MAX_RAW_STREAM, Model, area, filled, index_numbers, pad, segment_length, unpad
 
 ROOT = Path(__file__).resolve().parent.parent
 BINARY = Path(os.environ.get("VIZHUTHAMEN", ROOT / "rust" / "target" / "release" / "vizhuthamen"))
@@ -472,15 +472,19 @@ class Streams(Calls):
         self.assertEqual(self.answer("stream", "file", **bound), node.hex() + "\n")
 
     def test_refusals(self):
+        hint = "and a raw archive of any size is padded and filled up to one by: vizhuthamen stream --raw"
         for size in (0, 1, 31, 33, 96, (1 << 20) + 32):
             self.put("file", bytes(size))
-            out, err = self.call("stream", "file", status=2)
-            self.assertTrue(out.startswith("code 2: "), out)
-            self.assertEqual(err, f"vizhuthamen: file has {size} bytes; a stream has a power of two from 32 to {1 << 36} bytes\n")
-        # 11 stands before 2, and nothing after the node is read.
-        self.put("file", bytes(31) + b"\x40\0")
-        self.refused(2, "commit", "file")
-        self.refused(11, "stream", "file")
+            for words, name, stdin in ((("stream", "file"), "file", b""), (("stream", "-"), "standard input", bytes(size))):
+                out, err = self.call(*words, status=2, stdin=stdin)
+                self.assertTrue(out.startswith("code 2: "), out)
+                bounds = f"a stream has a power of two from 32 to {1 << 36} bytes"
+                self.assertEqual(err, f"vizhuthamen: {name} has {size} bytes; {bounds}, {hint}\n")
+        # Of bytes that arrive 11 stands before 2, and nothing after the node is read. Of a file the size is judged first, as by `commit`.
+        stray = self.put("file", bytes(31) + b"\x40\0")
+        self.refused(11, "stream", "-", stdin=stray)
+        for command in ("commit", "stream"):
+            self.refused(2, command, "file")
         self.put("file", bytes(4095) + b"\x80")
         self.refused(11, "stream", "file")
         self.refused(11, "stream", "-", stdin=b"\xff" * 33)
@@ -490,6 +494,231 @@ class Streams(Calls):
             endless.stdout.close()
             endless.wait(timeout=60)
         self.assertEqual(ran.returncode, 11)
+
+    def test_the_size_of_a_file_is_judged_before_its_bytes(self):
+        for option, size in ((), (1 << 36) + 1), ((), (1 << 36) - 32), (("--raw",), MAX_RAW_STREAM + 1), (("--raw",), 1 << 40):
+            with open(self.path("file"), "wb") as file:
+                file.truncate(size)
+            began = time.monotonic()
+            out, err = self.call("stream", *option, "file", "--state", "state", status=2)
+            self.assertLess(time.monotonic() - began, 5)
+            self.assertTrue(out.startswith("code 2: "), out)
+            self.assertIn("cut a longer one into several" if option else "vizhuthamen stream --raw", err)
+        self.assertEqual(self.files(), ["file"])
+
+    def test_a_file_that_changes_while_it_is_read(self):
+        for option in ((), ("--raw",)):
+            with open(self.path("file"), "wb") as file:
+                file.truncate(1 << 27)
+            call = subprocess.Popen([self.program, "stream", *option, "file"], cwd=self.folder, stdout=subprocess.PIPE, stderr=subprocess.PIPE)
+            while self.place_read(call.pid) == 0:
+                self.assertIsNone(call.poll())
+                time.sleep(0.001)
+            call.send_signal(signal.SIGSTOP)
+            with open(self.path("file"), "ab") as file:
+                file.write(b"more")
+            call.send_signal(signal.SIGCONT)
+            out, err = call.communicate(timeout=60)
+            self.assertEqual((call.returncode, out), (DATA, b""))
+            self.assertIn(b"file was changed while it was read", err)
+
+    def place_read(self, pid):
+        """How far a process has read the file."""
+        for fd in Path(f"/proc/{pid}/fd").iterdir():
+            try:
+                if os.readlink(fd) == str(self.path("file")):
+                    return int(Path(f"/proc/{pid}/fdinfo/{fd.name}").read_text().split()[1])
+            except FileNotFoundError:
+                pass
+        return 0
+
+    def test_progress_in_lines_where_it_is_asked_for(self):
+        data = self.put("file", self.segment(1 << 12) * (1 << 9))
+        line = r"vizhuthamen: hashing: 2 of 2 MiB, 100 %, \d+ MiB/s, 0 s left\n\Z"
+        for option in ((), ("--raw",)):
+            out, err = self.call("stream", *option, "file", "--progress")
+            self.assertEqual(self.call("stream", *option, "file"), (out, ""))
+            self.assertRegex(err, line)
+            self.assertLess(err.count("\n"), 4)
+        self.assertRegex(self.call("stream", "-", "--progress", stdin=data)[1], r"\Avizhuthamen: hashing: \d MiB, \d+ MiB/s\n")
+
+
+class RawStreams(Calls):
+    """The commitment of a raw archive: that of its segment, padded and filled with zeros."""
+
+    def committed(self, raw):
+        """The same by `pad` in pieces, zeros written by hand, and `commit`."""
+        segment = b""
+        for i in range(0, len(raw), MAX_RAW):
+            self.put("piece", raw[i : i + MAX_RAW])
+            self.answer("pad", "piece", "-o", "padded")
+            segment += self.get("padded")
+        self.put("segment", segment)
+        self.put("area", filled(segment))
+        return self.answer("commit", "area"), len(segment)
+
+    def test_small_archives_by_the_model(self):
+        for n in (1, 2, 31, 32, 126, 127, 128, 254, 255, 508, 509, 1000, 5000):
+            raw = self.put("raw", self.rng.randbytes(n))
+            segment = pad(raw, bytes(segment_length(n)))[2]
+            expected = MODEL.tree(filled(segment))[-1][0].hex()
+            for words, stdin in ((("stream", "--raw", "raw"), b""), (("stream", "--raw=-"), raw)):
+                self.assertEqual(self.answer(*words, stdin=stdin), expected + "\n")
+            value = json.loads(self.answer("stream", "--raw", "raw", "--json"))
+            self.assertEqual(value, {"code": 0, "meaning": "done", "commitment": expected, "raw_length": n, "size": len(segment),
+                                     "area": len(filled(segment))})
+
+    def test_as_pad_and_commit(self):
+        part = 127 << 11
+        data = self.rng.randbytes(2 * MAX_RAW)
+        for n in (part - 1, part, part + 1, 2 * part, 2 * part + 1, MAX_RAW - 1, MAX_RAW, MAX_RAW + 1, 2 * MAX_RAW):
+            raw = self.put("raw", data[:n])
+            expected, size = self.committed(raw)
+            self.assertEqual(self.answer("stream", "--raw", "raw"), expected, n)
+            value = json.loads(self.answer("stream", "--raw", "-", "--json", stdin=raw))
+            self.assertEqual((value["commitment"] + "\n", value["size"]), (expected, size))
+
+    def test_the_commitment_that_booking_gives(self):
+        self.answer("new", "deal", 1 << 21)
+        for n in (1, 127, 128, 1000, 300000):
+            self.put("raw", self.rng.randbytes(n))
+            self.answer("pad", "raw", "-o", "segment")
+            lines = dict(line.split() for line in self.answer("book", "deal", "segment").splitlines())
+            value = json.loads(self.answer("stream", "--raw", "raw", "--json"))
+            self.assertEqual((lines["commitment"], int(lines["size"])), (value["commitment"], value["size"]))
+
+    def test_pieces_as_they_come_and_the_end_of_a_pipe(self):
+        raw = self.rng.randbytes(600000)
+        os.mkfifo(self.path("pipe"))
+        call = subprocess.Popen([self.program, "stream", "--raw", "pipe"], cwd=self.folder, stdout=subprocess.PIPE)
+        with open(self.path("pipe"), "wb", buffering=0) as pipe:
+            for i in range(0, len(raw), 99999):
+                pipe.write(raw[i : i + 99999])
+                time.sleep(0.005)
+        out, _ = call.communicate(timeout=60)
+        self.put("raw", raw)
+        self.assertEqual((call.returncode, out.decode()), (0, self.answer("stream", "--raw", "raw")))
+
+    def test_more_bytes_than_may_be_held(self):
+        size, height = 1 << 26, 22
+        with open(self.path("raw"), "wb") as file:
+            file.truncate(size)
+        node = bytes(32)
+        for _ in range(height):
+            node = MODEL.h.node(node + node)
+        bound = {"preexec_fn": lambda: resource.setrlimit(resource.RLIMIT_DATA, (size // 2, size // 2))}
+        value = json.loads(self.answer("stream", "--raw", "raw", "--json", **bound))
+        self.assertEqual((value["commitment"], value["area"]), (node.hex(), 32 << height))
+
+    def test_refusals(self):
+        self.put("raw", b"")
+        for words in (("stream", "--raw", "raw"), ("stream", "--raw", "-")):
+            out, err = self.call(*words, status=2)
+            self.assertTrue(out.startswith("code 2: "), out)
+            self.assertIn(f"has 0 bytes; a raw archive has from 1 to {MAX_RAW_STREAM} bytes", err)
+        self.failed(IO, "stream", "--raw", "missing")
+        self.failed(IO, "stream", "--raw", ".")
+
+
+class States(Calls):
+    """A stream that keeps its state in a file. What kills and errors leave is tested in faults_test.py."""
+
+    def killed(self, *words):
+        """A run that is killed as soon as its state is there. Gives the state."""
+        call = subprocess.Popen([self.program, *words, "--state", "state"], cwd=self.folder, stdout=subprocess.DEVNULL)
+        while not self.path("state").exists():
+            self.assertIsNone(call.poll())
+            time.sleep(0.001)
+        call.kill()
+        self.assertEqual(call.wait(), -signal.SIGKILL)
+        return self.get("state")
+
+    def file(self, name="file", size=1 << 25):
+        with open(self.path(name), "wb") as file:
+            file.truncate(size)
+
+    def test_a_state_that_is_not_needed_any_more(self):
+        self.file(size=1 << 20)
+        for words in (("stream", "file"), ("stream", "--raw", "file")):
+            self.assertEqual(self.answer(*words, "--state", "state"), self.answer(*words))
+            self.assertEqual(self.files(), ["file"])
+        self.put("file", b"\xff" * 64)
+        self.refused(11, "stream", "file", "--state", "state")  # a refusal is an answer too
+        self.assertEqual(self.files(), ["file"])
+
+    def test_a_killed_run_is_gone_on_with(self):
+        self.file()
+        for words in (("stream", "file"), ("stream", "--raw", "file")):
+            expected = self.answer(*words)
+            state = self.killed(*words)
+            error = self.failed(DATA, *words, "--state", "state")
+            self.assertIn("state is the state of a run that has not ended; go on with --resume, or remove state to begin again", error)
+            self.assertEqual(self.get("state"), state)
+            self.assertEqual(self.call(*words, "--state", "state", "--resume"), (expected, ""))
+            self.assertEqual(self.files(), ["file"])
+
+    def test_an_answer_that_cannot_be_written_leaves_the_state(self):
+        self.file(size=1 << 20)
+        with open("/dev/full", "wb") as full:
+            ran = subprocess.run([self.program, "stream", "--raw", "file", "--state", "state"], cwd=self.folder, stdout=full,
+                                 stderr=subprocess.PIPE)
+        self.assertEqual(ran.returncode, IO)
+        self.assertEqual(self.answer("stream", "--raw", "file", "--state", "state", "--resume"), self.answer("stream", "--raw", "file"))
+
+    def test_damaged_and_foreign_states(self):
+        self.file()
+        words = ("stream", "--raw", "file", "--state", "state", "--resume")
+        state = self.killed(*words[:3])
+        damaged = [state[:-1], state[:1000], b"", state + b"\n", b"vizhuthamen deal 1\nsize 512\n", b"\xff" * 3000]
+        for _ in range(60):
+            at = self.rng.randrange(len(state))
+            damaged.append(state[:at] + bytes([state[at] ^ 1 << self.rng.randrange(8)]) + state[at + 1:])
+        for data in damaged:
+            self.put("state", data)
+            error = self.failed(DATA, *words)
+            self.assertIn("state is not the state of a stream: it", error)
+            self.assertIn("; remove state and begin again without --resume", error)
+            self.assertEqual(self.get("state"), data)
+        self.put("state", state.replace(b"stream 1", b"stream 2"))
+        self.assertIn("of another version", self.failed(DATA, *words))
+        self.put("state", state)
+        self.assertIn("the state is that of a stream with --raw", self.failed(DATA, "stream", "file", *words[3:]))
+        self.path("state").unlink()
+        self.assertIn("without a state begin without --resume", self.failed(IO, *words))
+        self.put("state", b"precious")
+        self.assertIn("the file exists; give another name", self.failed(IO, *words[:-1]))
+        self.assertEqual(self.get("state"), b"precious")
+
+    def test_a_file_that_is_another_one_by_now(self):
+        self.file()
+        words = ("stream", "--raw", "file", "--state", "state", "--resume")
+        state = self.killed(*words[:3])
+        before = self.path("file").stat()
+        with open(self.path("file"), "ab") as file:
+            file.write(b"1")
+        error = self.failed(DATA, *words)
+        self.assertIn(f"file has {(1 << 25) + 1} bytes, and had {1 << 25} when the state was kept; remove state and begin again", error)
+        os.truncate(self.path("file"), 1 << 25)
+        self.assertIn("file was changed after the state was kept", self.failed(DATA, *words))
+        os.utime(self.path("file"), ns=(before.st_atime_ns, before.st_mtime_ns))
+        shutil.copy2(self.path("file"), self.path("copy"))
+        self.assertIn("copy is another file", self.failed(DATA, "stream", "--raw", "copy", *words[3:]))
+        self.path("file").rename(self.path("moved"))  # the same file under another name
+        self.answer("stream", "--raw", "moved", *words[3:])
+        self.assertEqual(self.files(), ["copy", "moved"])
+
+    def test_what_has_no_state(self):
+        data = self.segment(64)
+        self.assertIn("standard input is not a regular file", self.failed(USAGE, "stream", "-", "--state", "state", stdin=data))
+        self.failed(USAGE, "stream", "/dev/zero", "--state", "state")
+        self.put("empty", b"")
+        self.failed(USAGE, "stream", "empty", "--state", "state")
+        self.put("file", data)
+        self.failed(USAGE, "stream", "file", "--resume")
+        self.failed(USAGE, "stream", "file", "--state", "-")
+        self.failed(IO, "stream", "file", "--state", "no/such/folder")
+        self.assertIn("the file exists; give another name", self.failed(IO, "stream", "file", "--state", "file"))
+        self.assertEqual((self.get("file"), self.files()), (data, ["empty", "file"]))
 
 
 class Archives(Calls):
@@ -519,7 +748,7 @@ class Archives(Calls):
             self.put("raw", bytes(size))
             out, err = self.call("pad", "raw", status=2)
             self.assertTrue(out.startswith("code 2: "), out)
-            self.assertIn(f"raw has {size} bytes; an archive has from 1 to {MAX_RAW} bytes", err)
+            self.assertIn(f"raw has {size} bytes; an archive has from 1 to {MAX_RAW} bytes, and the commitment of a longer one", err)
         segment = self.put("segment", pad(b"\xff" * 128, bytes(130))[2])
         for n in (0, MAX_RAW + 1, (1 << 64) - 1):
             self.refused(2, "unpad", n, "segment")
@@ -711,7 +940,7 @@ class Usage(Calls):
         self.put("record", MODEL.build(deal, places[0])[1])
         self.put("empty", b"")
         words = [*COMMANDS, "deal", "record", "empty", "missing", ".", "-", "--json", "--output", "made", "--", "0", "512", "1024",
-                 "--force", "--no-wait", "--new-owner", "--segment", "--raw", "--commitment", "--place",
+                 "--force", "--no-wait", "--new-owner", "--segment", "--raw", "--commitment", "--place", "--state", "--resume", "--progress",
                  str(places[0]), "00" * 32, "ff", "", "\udcff", "--help", MODEL.commitment(deal)[1].hex()]
         for _ in range(400):
             call = [self.rng.choice(COMMANDS), *self.rng.choices(words, k=self.rng.randrange(5))]
@@ -729,6 +958,7 @@ class Usage(Calls):
             self.put("file", bytes(data))
             raw_length = str(len(data) * 127 // 128)
             for words in (("show", "file"), ("list", "file"), ("tally", "file"), ("commit", "file"), ("stream", "file"),
+                          ("stream", "--raw", "file"),
                           ("settle-deal", "file", "file"), ("pad", "file"), ("unpad", raw_length, "file"), ("fsck", "file"),
                           *((("collect", "file", "new"), ("salvage", "file", "out"), ("cancel", "file", "832"), ("repair", "file"))
                             if i % 8 == 0 else ())):
@@ -883,7 +1113,7 @@ class Failures(Calls):
             shown = all_of(parent)
             os.close(parent)
             self.assertEqual((ran.returncode, ran.stdout.decode()), (0, out))
-            self.assertIn(b"hashing: 8 MiB", shown)
+            self.assertIn(b"hashing: 8 MiB" if command == "commit" else b"hashing: 8 of 8 MiB, 100 %, ", shown)
 
 
 if __name__ == "__main__":

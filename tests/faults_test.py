@@ -9,6 +9,8 @@ writes is run once for every call of it and every way in which that call can go 
            all later ones that write fail;
   pause    the process is stopped before the call, another one books into the same deal, and the first goes on.
 
+So are streams that keep their state: whatever goes wrong, going on from the state gives the answer of an unbroken run.
+
 All of it is done with unnamed files and without them (`plain`), as on a system that has none. Then processes are killed at random
 moments, and 2 to 8 processes book into one deal at once, undisturbed, and, with some bookings cancelled again, while others of them are
 killed. Afterwards every booking that was answered with 0 and not cancelled must be in the deal where it was told to be, every deal must
@@ -30,7 +32,7 @@ from concurrent.futures import ProcessPoolExecutor
 from pathlib import Path
 
 from cases import node
-from model import Model, filled, pad, segment_length
+from model import MAX_RAW, Model, filled, pad, segment_length
 
 ROOT = Path(__file__).resolve().parent.parent
 BINARY = Path(os.environ.get("VIZHUTHAMEN", ROOT / "rust" / "target" / "release" / "vizhuthamen"))
@@ -371,6 +373,92 @@ class Faults:
             self.counts["pauses"] += 1
 
 
+class Resumes:
+    """A stream that keeps its state: whatever ends it, the answer is that of an unbroken run, and nothing is left then."""
+
+    # Every look at the clock finds ten seconds more gone, so that the state is kept after every piece.
+    CLOCK = {"FAULT_CLOCK": "10"}
+
+    def __init__(self, place, counts, words, data, plain):
+        self.place, self.counts, self.words, self.data, self.plain = place, counts, words, data, plain
+        status, self.answer, err = self.run()
+        check((status, err) == (0, b""), *words, status, err)
+        log = place.folder.parent / "log"
+        log.unlink(missing_ok=True)
+        self.start_anew()
+        self.run("--state", "state", fault={"FAULT_LOG": str(log)})
+        self.calls = log.read_text().split()
+        self.furthest = 0
+
+    def start_anew(self):
+        self.place.put({"file": self.data})
+
+    def run(self, *options, fault=None):
+        self.place.path("file").exists() or self.start_anew()
+        return self.place.run((*self.words, *options), fault={**self.CLOCK, **(fault or {})}, plain=self.plain)
+
+    def taken(self):
+        """How far the state is, which is whole if it is there; -1 where there is none."""
+        try:
+            lines = self.place.path("state").read_text().splitlines()
+        except FileNotFoundError:
+            return -1
+        words = [line.split()[0] for line in lines]
+        check(words == "vizhuthamen takes inode length modified taken state check".split(), "torn: state,", *words)
+        taken = int(lines[5].split()[1])
+        self.furthest = max(self.furthest, taken)
+        return taken
+
+    def go_on(self, fault=None):
+        """The same call again, with --resume where a state was left."""
+        return self.run("--state", "state", *(["--resume"] if self.taken() >= 0 else []), fault=fault)
+
+    def end(self, *here):
+        """Undisturbed: the answer is there, and nothing else."""
+        status, out, err = self.go_on()
+        check((status, out, err) == (0, self.answer, b""), *here, "gone on with:", status, out, err)
+        check(list(self.place.state()) == ["file"], *here, "left:", *self.place.state())
+
+    def kills(self, calls):
+        """Killed before each of these calls, then killed again while it goes on, and gone on with."""
+        for at in calls:
+            self.start_anew()
+            status, *_ = self.run("--state", "state", fault=fault(at, "kill 9"))
+            check(status == -9, *self.words, at, "not killed:", status)
+            first = self.taken()
+            status, out, err = self.go_on(fault(7 + at // 2, "kill 9"))
+            check(status == -9 or (status, out) == (0, self.answer), *self.words, at, status, err)
+            check(status == 0 or self.taken() >= first, *self.words, at, "the state went back")
+            self.counts["kills"] += 1 + (status == -9)
+            self.end(*self.words, at)
+        check(self.furthest >= len(self.data) // 2, *self.words, "no state was far:", self.furthest)
+
+    def signals(self, calls, number):
+        """Ended by a signal before each of these calls: no file is left but the state."""
+        for at in calls:
+            self.start_anew()
+            status, *_ = self.run("--state", "state", fault=fault(at, f"kill {int(number)}"))
+            check(status == -number, *self.words, at, "not ended by the signal:", status)
+            check(set(self.place.state()) <= {"file", "state"}, *self.words, at, "left:", *self.place.state())
+            self.counts["signals"] += 1
+            self.end(*self.words, at)
+
+    def errors(self, calls, numbers):
+        """Each of these calls fails: that a state cannot be kept is no reason to give up."""
+        for what, at in ((what, at) for what in [*(f"error {n}" for n in numbers), "short"] for at in calls):
+            name = self.calls[at - 1]
+            if name == "fcntl" or what == "short" and name != "write":
+                continue
+            self.start_anew()
+            status, out, err = self.run("--state", "state", fault=fault(at, what))
+            here = (*self.words, at, name, what, status, err)
+            check((status, out) == (0, self.answer) or status == IO and err.startswith(b"vizhuthamen: "), *here)
+            left = set(self.place.state()) - {"file"}
+            check(not left or name == "unlink" or status == IO and left == {"state"}, *here, *left)
+            self.counts["errors"] += 1
+            self.end(*here)
+
+
 def told(out):
     """Offset and place of a booking's answer."""
     lines = dict(line.split() for line in out.decode().splitlines())
@@ -548,7 +636,8 @@ def work(job):
         place = Place(Path(folder) / "place", options.shim)
         place.folder.mkdir()
         try:
-            return (race if kind == "race" else disturb)(place, rng, name, plain, options)
+            kinds = {"race": race, "resume": resume, "large": large, "disturb": disturb}
+            return kinds[kind](place, rng, name, plain, options)
         except Wrong as wrong:
             raise Wrong(f"{name}, plain {plain}: {wrong}") from None
 
@@ -594,6 +683,52 @@ def race(place, rng, name, plain, options):
     return counts, f"races{', no unnamed files' if plain else ''}"
 
 
+def resume(place, rng, name, plain, options):
+    """Streams that keep their state: of bytes, 1 MiB at a time, and of a raw archive, 8323072 bytes at a time."""
+    counts = Counter()
+    raw = name == "stream --raw"
+    words, size = (("stream", "--raw", "file"), 2 * MAX_RAW + 1000) if raw else (("stream", "file"), 1 << 21)
+    data = b"".join(node(rng) for _ in range(128)) * (size // 4096) + rng.randbytes(size % 4096)
+    resumes = Resumes(place, counts, words, data, plain)
+
+    def some(step):
+        """Every call, at the gate every so many-th, from a random one on."""
+        return range(1, len(resumes.calls) + 1)[rng.randrange(step) if not options.large else 0 :: 1 if options.large else step]
+
+    resumes.kills(some(9 if raw else 3 if plain else 2))
+    if options.large or not (raw or plain):
+        resumes.errors(some(3), ERRORS if options.large and not raw else (errno.EIO,))
+        resumes.signals(some(3), rng.choice(SIGNALS))
+    return counts, f"{name}{', no unnamed files' if plain else ''}: {len(resumes.calls)} calls"
+
+
+def large(place, rng, name, plain, options):
+    """A raw archive of 1 GiB of zeros, killed at random moments until it gets to its end."""
+    counts = Counter()
+    with open(place.path("file"), "wb") as file:
+        file.truncate(1 << 30)
+    root = bytes(32)
+    for _ in range(26):  # its area has 2^31 bytes
+        root = MODEL.h.node(root + root)
+    began = time.monotonic()
+    call = place.start(("stream", "--raw", "file"))
+    out, err = call.communicate(timeout=600)
+    unbroken = time.monotonic() - began
+    check((call.returncode, out.decode()) == (0, root.hex() + "\n"), name, call.returncode, err)
+    status = -9
+    while status == -9:
+        resume = ["--resume"] if place.path("state").exists() else []
+        call = place.start(("stream", "--raw", "file", "--state", "state", *resume), fault=Resumes.CLOCK)
+        time.sleep(rng.random() * unbroken / 5)
+        call.kill()
+        out, err = call.communicate(timeout=600)
+        status = call.returncode
+        counts["kills"] += status == -9
+    check((status, out.decode()) == (0, root.hex() + "\n"), name, status, err)
+    check([path.name for path in place.folder.iterdir()] == ["file"], name, "left:", *place.folder.iterdir())
+    return counts, f"{name}: {unbroken:.1f} s unbroken, {time.monotonic() - began - unbroken:.1f} s with {counts['kills']} kills"
+
+
 # With unnamed files (0), without them (1), and without a rename to a free name too (2). At the gate a cancellation, which changes
 # files as a booking does, and a collection, which makes a deal as `new` does, are run in some of these ways.
 WAYS = {"book, nothing known": (0, 1, 2), "collect": (0, 1, 2), "new": (0, 1, 2), "output": (0, 1, 2)}
@@ -607,6 +742,12 @@ def jobs(options):
     for scene in scenes(random.Random(options.seed)):
         for plain in ways.get(scene.name, (0, 1)):
             yield "disturb", scene.name, plain, options
+    for plain in (0, 1):
+        yield "resume", "stream", plain, options
+    for plain in (0, 1) if options.large else (0,):
+        yield "resume", "stream --raw", plain, options
+    if options.large:
+        yield "large", "stream --raw, 1 GiB", 0, options
     for plain in (0, 1):
         yield "race", "races", plain, options
 

@@ -65,6 +65,8 @@ def filled(segment):
 
 
 MAX_RAW = 8_323_072
+# Of 2^36 bytes after padding.
+MAX_RAW_STREAM = (1 << 36) // 128 * 127
 
 
 def bit(data, i):

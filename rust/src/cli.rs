@@ -8,7 +8,9 @@ mod help;
 mod json;
 mod mend;
 mod output;
+mod pieces;
 mod progress;
+mod state;
 mod store;
 mod survey;
 mod table;
@@ -65,6 +67,9 @@ fn report(answer: Answer, json: bool, raw: bool) -> Result<u8, Failure> {
         Err(failure) => Err(failure),
         Ok(()) => {
             answer.notes.iter().for_each(|note| output::message(note));
+            if let Some(Err(failure)) = answer.spent.as_deref().map(files::remove) {
+                output::message(&failure.message);
+            }
             Ok(answer.status())
         }
     }

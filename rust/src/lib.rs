@@ -2,7 +2,8 @@
 //!
 //! Every function here is a safe call of one function of the library, or of one of two where a tree may be in hand. From 2^20 bytes
 //! on, [`commitment`] and [`tree_fill`] are calls for parts of the run, which all processors take; laws of the library join them.
-//! [`commitment_with_threads`] and [`tree_fill_with_threads`] say how many threads may. A refusal is
+//! [`commitment_with_threads`] and [`tree_fill_with_threads`] say how many threads may. [`RawStreaming`] pads a raw archive, and
+//! commits to it, part by part in the same way. A refusal is
 //! a [`Refusal`], which carries the code and its meaning in words. The answers with a code that is not 0 and yet carry values (15
 //! of a booking, 17 of a settling) are cases of [`Booking`] and [`Settled`].
 //!
@@ -24,6 +25,7 @@
 #![deny(missing_docs)]
 #![warn(missing_debug_implementations)]
 
+mod archive;
 mod codes;
 mod deal;
 mod entry;
@@ -37,6 +39,7 @@ mod record;
 mod streaming;
 mod tree;
 
+pub use archive::{RawStreamed, RawStreaming, MAX_RAW_STREAM, RAW_PART};
 pub use codes::{meaning, Refusal};
 pub use deal::{book, cancel, collect, find, inspect, tally, Booking, Found, Position, Slot, Tally, MAX_DEAL};
 pub use entry::{index_numbers, make_entry, read_entry, Entry, IndexNumbers, ReadEntry};

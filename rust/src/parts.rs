@@ -14,13 +14,18 @@ pub fn pay_off(length: usize) -> bool {
     length.is_power_of_two() && (LENGTHS.0..=LENGTHS.1).contains(&length)
 }
 
-/// The processors that this process may use. To ask reads files, so it is asked once.
+/// To ask for them reads files, so it is asked once.
 static PROCESSORS: OnceLock<usize> = OnceLock::new();
+
+/// The processors that this process may use, one where that is not known.
+pub fn processors() -> usize {
+    *PROCESSORS.get_or_init(|| thread::available_parallelism().map_or(1, usize::from))
+}
 
 /// How many threads work on a run of that many bytes: one for each processor, one where parts do not pay off.
 pub fn threads(length: usize) -> usize {
     match pay_off(length) {
-        true => *PROCESSORS.get_or_init(|| thread::available_parallelism().map_or(1, usize::from)),
+        true => processors(),
         false => 1,
     }
 }

@@ -7,6 +7,7 @@
  *                errors N: it and every later one that writes fail with that error number; short: a write writes one byte only
  *   FAULT_LOG    a file to which the name of every call is added
  *   FAULT_PLAIN  1: the system has no unnamed files; 2: nor can it rename to a name that must not be taken
+ *   FAULT_CLOCK  every look at a clock finds so many seconds more gone
  *
  * Every function is taken to have six arguments of a register each and one result, which is so for all that are named here
  * (Linux, 64 bits). tests/faults_test.py compares the names with those that the program asks of the C library.
@@ -18,6 +19,7 @@
 #include <stdlib.h>
 #include <string.h>
 #include <sys/syscall.h>
+#include <time.h>
 
 typedef long (*function)(long, long, long, long, long, long);
 
@@ -25,13 +27,14 @@ long syscall(long number, ...);
 
 enum { O_TMPFILE_BIT = 020000000, O_APPEND_CREATE = 02101 };
 
-static int at, number, error_number, plain, ready;
+static int at, number, error_number, plain, seconds, ready;
 static int is_short, lasting, late;
 static int log_fd = -1;
 
 static void start(void) {
     ready = 1;
     plain = getenv("FAULT_PLAIN") ? atoi(getenv("FAULT_PLAIN")) : 0;
+    seconds = getenv("FAULT_CLOCK") ? atoi(getenv("FAULT_CLOCK")) : 0;
     const char *where = getenv("FAULT_AT"), *what = getenv("FAULT_DO"), *log = getenv("FAULT_LOG");
     if (log) log_fd = (int)syscall(SYS_open, log, O_APPEND_CREATE, 0600);
     if (!where || !what) return;
@@ -123,3 +126,11 @@ PASS(dup, -1)
 PASS(fcntl, -1)
 PASS(realpath, 0)
 PASS(getcwd, 0)
+
+int clock_gettime(clockid_t clock, struct timespec *time) {
+    static int looks;
+    if (!ready) start();
+    int result = (int)syscall(SYS_clock_gettime, clock, time);
+    if (!result) time->tv_sec += seconds * __atomic_add_fetch(&looks, 1, __ATOMIC_SEQ_CST);
+    return result;
+}

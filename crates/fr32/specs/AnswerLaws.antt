@@ -57,7 +57,7 @@ module _ (raw output : List ℕ) where
       let p = none-refused (padRules raw output) (omega arith, (omega arith, tt)) code in
       record { raw-length = p .0; room = leb-true (segmentLength (length raw)) (length output) (p .1 .0) }
 
-  pad-passes : PadAllowed → padCode raw output ≡ 0
+  pub pad-passes : PadAllowed → padCode raw output ≡ 0
   unfolding padCode
   pad-passes a =
       all-passed (padRules raw output) (

@@ -8,3 +8,4 @@ pub mod Answers
 pub mod AnswerLaws
 pub mod ThereAndBack
 pub mod InPieces
+pub mod FilledBlocks

@@ -91,7 +91,7 @@ module _ (run : List ℕ) (m k : ℕ) (e : length run ≡ 32 * 2 ^ (m + k)) wher
       ∙ over-row run k (2 ^ m) sized m 0 l
       ∙ top-node run (m + k) e
 
-  part-sized : (q : ℕ) → q < 2 ^ m → length (partOf run k q) ≡ 32 * 2 ^ k
+  pub part-sized : (q : ℕ) → q < 2 ^ m → length (partOf run k q) ≡ 32 * 2 ^ k
   part-sized q h = part-length run (q * (32 * 2 ^ k)) (32 * 2 ^ k) (omega (arith, inside q h))
 
   -- the run has no stray bits where no part has, and no part has any where the run has none
@@ -112,7 +112,7 @@ module _ (run : List ℕ) (m k : ℕ) (e : length run ≡ 32 * 2 ^ (m + k)) wher
       let l : i / 2 ^ k < 2 ^ m = div-lt-iff-lt-mul z .1 (omega (arith, pow-add 2 m k)) in
       node-of-part (i / 2 ^ k) (i % 2 ^ k) i l (mod-lt i z) (div-add-mod' i (2 ^ k)) (f (i / 2 ^ k) l))
 
-  parts-clear : noStrayBits run ≡ true → (q : ℕ) → q < 2 ^ m → noStrayBits (partOf run k q) ≡ true
+  pub parts-clear : noStrayBits run ≡ true → (q : ℕ) → q < 2 ^ m → noStrayBits (partOf run k q) ≡ true
   parts-clear clear q h =
       let a : q * 2 ^ k * 32 ≡ q * (32 * 2 ^ k) = omega arith in
       let b : 2 ^ k * 32 ≡ 32 * 2 ^ k = omega arith in
@@ -147,7 +147,7 @@ module _ (run : List ℕ) (n : ℕ) (fits : n ≤ 19) (e : length run ≡ 32 * 2
   tall : height (length run) - 5 ≡ n
   tall = let h : height (length run) ≡ 5 + n = ap height size ∙ height-pow (5 + n) (omega arith) in omega arith
 
-  answer-clear : noStrayBits run ≡ true → committed run ≡ record { code = 0; node = commitmentOf n run }
+  pub answer-clear : noStrayBits run ≡ true → committed run ≡ record { code = 0; node = commitmentOf n run }
   answer-clear clear =
       accepted run allowed clear ∙ ap (λ (h : ℕ). record { code = 0; node = commitmentOf h run }) tall
 

@@ -1,3 +1,5 @@
 pub mod Export
 pub mod StreamCalls
 pub mod CallsCutAnywhere
+pub mod RawArchive
+pub mod RawByParts

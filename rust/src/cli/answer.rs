@@ -1,6 +1,7 @@
 //! The answer of a command: a code, what it says, and values as text and as JSON.
 use super::failure;
 use super::json::Json;
+use std::path::{Path, PathBuf};
 use vizhuthamen::Refusal;
 
 /// An answer. Code 0 is shown by the values alone where there are any, every other code by a line of its own before them.
@@ -16,12 +17,15 @@ pub struct Answer {
     pub notes: Vec<String>,
     /// Whether a file was written.
     pub wrote: bool,
+    /// A file that nobody needs once the answer is written.
+    pub spent: Option<PathBuf>,
 }
 
 impl Answer {
     /// Code 0 with its meaning for this command.
     pub fn done(meaning: &'static str) -> Answer {
-        Answer { code: 0, meaning, text: String::new(), members: vec![], bytes: None, notes: vec![], wrote: false }
+        let (text, members, notes) = (String::new(), vec![], vec![]);
+        Answer { code: 0, meaning, text, members, bytes: None, notes, wrote: false, spent: None }
     }
 
     /// A refusal of the library.
@@ -55,6 +59,12 @@ impl Answer {
     /// A file was written.
     pub fn writing(mut self) -> Answer {
         self.wrote = true;
+        self
+    }
+
+    /// A file goes once the answer is written.
+    pub fn spending(mut self, path: &Path) -> Answer {
+        self.spent = Some(path.to_path_buf());
         self
     }
 

@@ -1,6 +1,7 @@
 //! The words of a call.
 use super::failure::{usage, Failure};
 use super::help::{self, Topic};
+use super::state::Place;
 use super::store::names::shown;
 use super::store::Access;
 use std::ffi::{OsStr, OsString};
@@ -28,7 +29,7 @@ pub enum InHand {
 pub enum Command {
     New { deal: Stream, size: u64 },
     Commit { file: Stream },
-    CommitStream { file: Stream },
+    CommitStream { file: Stream, raw: bool, state: Option<Place>, progress: bool },
     Pad { raw: Stream, output: Option<Stream> },
     Unpad { raw_length: u64, segment: Stream, output: Option<Stream> },
     Book { deal: Stream, segment: Stream, force: bool, access: Access },
@@ -99,6 +100,17 @@ impl Options {
 
     fn commitment(&self) -> Result<Option<Vec<u8>>, Failure> {
         self.value("commitment").map(bytes).transpose()
+    }
+
+    /// Where the state of a stream is kept.
+    fn state(&self) -> Result<Option<Place>, Failure> {
+        let resume = self.has("resume");
+        match self.value("state").map(stream).transpose()? {
+            Some(Stream::File(path)) => Ok(Some(Place { path, resume })),
+            Some(Stream::Standard) => Err(usage("--state must be a file")),
+            None if resume => Err(usage("--resume needs --state")),
+            None => Ok(None),
+        }
     }
 
     fn in_hand(&self) -> Result<Option<InHand>, Failure> {
@@ -192,7 +204,9 @@ fn command(topic: &Topic, operands: &[OsString], options: &Options) -> Result<Co
     if let Some((name, _)) = options.0.iter().find(|option| !topic.options.contains(&option.0)) {
         return Err(usage(format!("{} takes no --{name}", topic.name)));
     }
-    if operands.len() != topic.operands.len() {
+    // The archive that --raw names is the operand.
+    let named = usize::from(topic.name == "stream" && options.has("raw"));
+    if operands.len() + named != topic.operands.len() {
         return Err(usage(format!("wrong number of words; the call is: vizhuthamen {}", help::call(topic))));
     }
     let command = operands_of(topic.name, operands, options)?;
@@ -208,7 +222,12 @@ fn operands_of(name: &str, words: &[OsString], options: &Options) -> Result<Comm
     Ok(match (name, words) {
         ("new", [deal, size]) => Command::New { deal: stream(deal)?, size: number(size)? },
         ("commit", [file]) => Command::Commit { file: stream(file)? },
-        ("stream", [file]) => Command::CommitStream { file: stream(file)? },
+        ("stream", words) => Command::CommitStream {
+            file: stream(options.value("raw").or(words.first().map(OsString::as_os_str)).unwrap_or_default())?,
+            raw: options.has("raw"),
+            state: options.state()?,
+            progress: options.has("progress"),
+        },
         ("pad", [raw]) => Command::Pad { raw: stream(raw)?, output },
         ("unpad", [raw_length, segment]) => {
             Command::Unpad { raw_length: number(raw_length)?, segment: stream(segment)?, output }
@@ -260,7 +279,7 @@ fn operands_of(name: &str, words: &[OsString], options: &Options) -> Result<Comm
 fn standard_inputs(command: &Command) -> usize {
     let read: &[&Stream] = match command {
         Command::New { .. } => &[],
-        Command::Commit { file } | Command::CommitStream { file } => &[file],
+        Command::Commit { file } | Command::CommitStream { file, .. } => &[file],
         Command::Pad { raw, .. } => &[raw],
         Command::Unpad { segment, .. } => &[segment],
         Command::Book { deal, segment, .. } => &[deal, segment],
@@ -336,10 +355,18 @@ mod tests {
         let in_hand = Some(InHand::Raw(file("r")));
         let repair = Command::Repair { deal: file("d"), in_hand, place: Some(256), access };
         assert_eq!(parsed("repair d --raw=r --place 256"), Ok(Request::Run { command: repair, json: false }));
-        for (word, file) in [("f", file("f")), ("-", Stream::Standard)] {
-            let stream = Command::CommitStream { file };
-            assert_eq!(parsed(&format!("stream {word}")), Ok(Request::Run { command: stream, json: false }));
+        let stream = |file, raw, state, progress| {
+            let command = Command::CommitStream { file, raw, state, progress };
+            Ok(Request::Run { command, json: false })
+        };
+        let place = |resume| Some(Place { path: PathBuf::from("s"), resume });
+        for (word, name) in [("f", file("f")), ("-", Stream::Standard)] {
+            assert_eq!(parsed(&format!("stream {word}")), stream(name, false, None, false));
         }
+        assert_eq!(parsed("stream --raw f"), stream(file("f"), true, None, false));
+        assert_eq!(parsed("stream --raw=-"), stream(Stream::Standard, true, None, false));
+        assert_eq!(parsed("stream f --state s --progress"), stream(file("f"), false, place(false), true));
+        assert_eq!(parsed("stream --resume --state s --raw f"), stream(file("f"), true, place(true), false));
         let pad = Command::Pad { raw: file("r"), output: Some(Stream::Standard) };
         assert_eq!(parsed("pad r -o -"), Ok(Request::Run { command: pad, json: false }));
         let unpad = Command::Unpad { raw_length: 127, segment: file("s"), output: None };
@@ -384,6 +411,16 @@ mod tests {
             "stream",
             "stream f f",
             "stream f --output g",
+            "stream --raw f g",
+            "stream f --raw",
+            "stream --raw f --raw g",
+            "stream f --resume",
+            "stream f --state",
+            "stream f --state -",
+            "stream f --state=",
+            "stream f --progress=yes",
+            "commit f --progress",
+            "pad f --raw g",
             "new d 18446744073709551616",
             "find d xyz",
             "find d abc",

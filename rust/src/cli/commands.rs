@@ -6,6 +6,7 @@ mod fsck;
 mod list;
 mod repair;
 mod salvage;
+mod stream;
 
 use super::answer::Answer;
 use super::args::{Command, Stream};
@@ -17,14 +18,14 @@ use super::store::{self, aside::Fill, Attributes};
 use super::survey;
 use super::table::{table, Column};
 use std::path::Path;
-use vizhuthamen::{hex, Entry, Field, Node, Refusal, Settled, Streaming, MAX_DEAL, MAX_RAW, MAX_STREAM};
+use vizhuthamen::{hex, Entry, Field, Node, Refusal, Settled, MAX_DEAL, MAX_RAW};
 
 /// Runs a command.
 pub fn run(command: Command) -> Result<Answer, Failure> {
     match command {
         Command::New { deal, size } => new(&deal, size),
         Command::Commit { file } => commit(&file),
-        Command::CommitStream { file } => commit_stream(&file),
+        Command::CommitStream { file, raw, state, progress } => stream::stream(&file, raw, state.as_ref(), progress),
         Command::Pad { raw, output } => pad(&raw, output),
         Command::Unpad { raw_length, segment, output } => unpad(raw_length, &segment, output),
         Command::Book { deal, segment, force, access } => book::book(&deal, &segment, force, access),
@@ -128,40 +129,13 @@ fn committed(node: Node, size: u64) -> Answer {
     Answer::done("done").with_text(format!("{node}\n"), members)
 }
 
-fn commit_stream(file: &Stream) -> Result<Answer, Failure> {
-    let mut pieces = files::pieces(file)?;
-    let mut progress = Progress::arriving("hashing");
-    let mut stream = Streaming::new();
-    let mut taken = Ok(());
-    // A refusal sticks, so nothing after it is read.
-    while taken.is_ok() {
-        let piece = pieces.read_next()?;
-        if piece.is_empty() {
-            break;
-        }
-        taken = stream.take(piece);
-        progress.arrived(pieces.count);
-    }
-    drop(progress);
-    if taken.is_ok() {
-        files::compare(file, pieces.count)?;
-    }
-    Ok(match taken.and_then(|()| stream.end()) {
-        Ok(answer) => committed(answer.commitment, answer.count),
-        Err(Refusal::SIZE) => {
-            let note = format!("{}; a stream has a power of two from 32 to {MAX_STREAM} bytes", pieces.described());
-            Answer::refused(Refusal::SIZE).with_note(note)
-        }
-        Err(refusal) => Answer::refused(refusal),
-    })
-}
-
 fn pad(raw: &Stream, output: Option<Stream>) -> Result<Answer, Failure> {
     let raw = files::read(raw)?;
     let segment = match Progress::during("padding", raw.bytes.len(), || vizhuthamen::pad(&raw.bytes)) {
         Ok(segment) => segment,
         Err(refusal) => {
-            let note = format!("{}; an archive has from 1 to {MAX_RAW} bytes", raw.described());
+            let longer = "the commitment of a longer one is printed by: vizhuthamen stream --raw";
+            let note = format!("{}; an archive has from 1 to {MAX_RAW} bytes, and {longer}", raw.described());
             return Ok(Answer::refused(refusal).with_note(note));
         }
     };

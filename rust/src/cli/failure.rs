@@ -3,7 +3,7 @@ use std::fmt::Display;
 
 /// Exit status: the call is not one of the command line's.
 pub const USAGE: u8 = 64;
-/// Exit status: a deal is damaged, or is not what is known of it.
+/// Exit status: a deal, or the state of a stream, is damaged, or is not what is known of it.
 pub const DATA: u8 = 65;
 /// Exit status: reading or writing failed.
 pub const IO: u8 = 74;
@@ -24,7 +24,7 @@ pub fn usage(message: impl Display) -> Failure {
     Failure { status: USAGE, message: format!("{message}; see: vizhuthamen --help") }
 }
 
-/// A deal is damaged, or is not what is known of it, and the call would make that worse.
+/// A deal, or the state of a stream, is damaged or is not what is known of it, and the call would make that worse.
 pub fn data(message: impl Display) -> Failure {
     Failure { status: DATA, message: message.to_string() }
 }

@@ -4,16 +4,13 @@ use super::failure::{self, Failure};
 use super::store::aside::{remove_dead, Aside, Fill};
 use super::store::change::{self, Part};
 use super::store::names::{shown, Home};
-use super::store::{self, Attributes, DealFile, Held, Keep};
+use super::store::{self, system, Attributes, DealFile, Held, Keep};
 use std::fs::{self, File, Metadata, OpenOptions};
 use std::io::{self, ErrorKind, Read, Write};
 use std::os::fd::AsFd;
 use std::os::unix::fs::MetadataExt;
 use std::path::Path;
-use vizhuthamen::{MAX_DEAL, MAX_STREAM};
-
-/// The largest piece in which a stream is read, in bytes.
-const PIECE: usize = 1 << 20;
+use vizhuthamen::MAX_DEAL;
 
 /// What was read: the bytes (of a longer file the first 2^24 + 1), the name for messages, and which file it is.
 pub struct Content {
@@ -39,7 +36,7 @@ impl Content {
 }
 
 /// A name and a size; of a size beyond the limit only that it is.
-fn sized(name: &str, size: u64, limit: u64) -> String {
+pub fn sized(name: &str, size: u64, limit: u64) -> String {
     match size {
         _ if size > limit => format!("{name} has more than {limit} bytes"),
         _ => format!("{name} has {size} bytes"),
@@ -122,47 +119,6 @@ fn read_from(source: impl Read, name: String, metadata: Option<Metadata>) -> Res
     Ok(Content { bytes, name, metadata })
 }
 
-/// A source that is read piece by piece, and never held whole.
-pub struct Pieces {
-    source: Box<dyn Read>,
-    name: String,
-    piece: Vec<u8>,
-    /// The number of bytes read so far.
-    pub count: u64,
-}
-
-/// Opens standard input or a file for reading in pieces.
-pub fn pieces(stream: &Stream) -> Result<Pieces, Failure> {
-    let (source, name): (Box<dyn Read>, _) = match stream {
-        Stream::Standard => (Box::new(io::stdin().lock()), "standard input".to_string()),
-        Stream::File(path) => {
-            let file = File::open(path).map_err(|error| cannot("read", &shown(path), error))?;
-            (Box::new(file), shown(path))
-        }
-    };
-    Ok(Pieces { source, name, piece: vec![0; PIECE], count: 0 })
-}
-
-impl Pieces {
-    /// The next piece, of whatever length the system gives; empty at the end.
-    pub fn read_next(&mut self) -> Result<&[u8], Failure> {
-        let length = loop {
-            match self.source.read(&mut self.piece) {
-                Err(error) if error.kind() == ErrorKind::Interrupted => {}
-                Err(error) => return Err(cannot("read", &self.name, error)),
-                Ok(length) => break length,
-            }
-        };
-        self.count += length as u64;
-        Ok(&self.piece[..length])
-    }
-
-    /// The name and the number of bytes read, for messages about sizes.
-    pub fn described(&self) -> String {
-        sized(&self.name, self.count, MAX_STREAM)
-    }
-}
-
 /// Writes an output file. It must not be a file that the command has read.
 pub fn write(path: &Path, bytes: &[u8], read: &Content) -> Result<(), Failure> {
     let failed = |error| cannot("write", &shown(path), error);
@@ -200,8 +156,17 @@ pub fn make(path: &Path, bytes: &[u8]) -> Result<bool, Failure> {
     Ok(made)
 }
 
+/// Removes a file that is done with, where it is still there, and what a dead process has left beside it.
+pub fn remove(path: &Path) -> Result<(), Failure> {
+    match system::repeat(|| fs::remove_file(path)) {
+        Err(error) if error.kind() != ErrorKind::NotFound => return Err(cannot("remove", &shown(path), error)),
+        _ => {}
+    }
+    remove_dead(&Home::of(path).part(0)).map(drop).map_err(failure::io)
+}
+
 /// Puts a file with these bytes in the place of one that is there, in one step.
-fn replace(path: &Path, bytes: &[u8]) -> Result<(), Failure> {
+pub fn replace(path: &Path, bytes: &[u8]) -> Result<(), Failure> {
     let failed = |error| cannot("write", &shown(path), error);
     let real = fs::canonicalize(path).map_err(failed)?;
     let old = OpenOptions::new().write(true).open(&real).map_err(failed)?;
@@ -341,28 +306,9 @@ mod tests {
     }
 
     #[test]
-    fn a_file_in_pieces() {
-        let folder = folder("pieces");
-        let path = folder.join("file");
-        fs::write(&path, vec![7; PIECE + 5]).unwrap();
-        let mut pieces = pieces(&Stream::File(path)).unwrap();
-        let mut read = vec![];
-        loop {
-            let piece = pieces.read_next().unwrap();
-            assert!(piece.len() <= PIECE);
-            if piece.is_empty() {
-                break;
-            }
-            read.extend_from_slice(piece);
-        }
-        assert_eq!(read, vec![7; PIECE + 5]);
-        assert!(pieces.described().ends_with("file has 1048581 bytes"));
-    }
-
-    #[test]
     fn a_size_beyond_the_limit_is_not_named() {
-        assert_eq!(sized("it", 1 << 36, MAX_STREAM), "it has 68719476736 bytes");
-        assert_eq!(sized("it", (1 << 36) + 1, MAX_STREAM), "it has more than 68719476736 bytes");
+        assert_eq!(sized("it", 1 << 36, 1 << 36), "it has 68719476736 bytes");
+        assert_eq!(sized("it", (1 << 36) + 1, 1 << 36), "it has more than 68719476736 bytes");
     }
 
     #[test]

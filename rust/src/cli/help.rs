@@ -22,15 +22,18 @@ pub struct Choice {
 }
 
 /// The options that some commands take.
-pub const OPTIONS: [Choice; 8] = [
+pub const OPTIONS: [Choice; 11] = [
     Choice { name: "output", value: "FILE", summary: "write to FILE, replacing it (also -o)" },
     Choice { name: "force", value: "", summary: "go on where a slot is damaged, or valid and not standing" },
     Choice { name: "no-wait", value: "", summary: "do not wait where another process works on the deal" },
     Choice { name: "new-owner", value: "", summary: "let the deal be the caller's where its owner cannot be kept" },
     Choice { name: "segment", value: "FILE", summary: "the segment in hand" },
-    Choice { name: "raw", value: "FILE", summary: "the raw archive in hand" },
+    Choice { name: "raw", value: "FILE", summary: "a raw archive: the one in hand, or the one that is streamed" },
     Choice { name: "commitment", value: "COMMITMENT", summary: "the commitment in hand (hex)" },
     Choice { name: "place", value: "PLACE", summary: "the entry place that is repaired" },
+    Choice { name: "state", value: "FILE", summary: "keep the state in FILE until the answer is there" },
+    Choice { name: "resume", value: "", summary: "go on from the state" },
+    Choice { name: "progress", value: "", summary: "show progress also where standard error is no terminal" },
 ];
 
 /// The commands.
@@ -53,12 +56,24 @@ another size than DEAL.vz says is neither read nor changed (exit status 65). DEA
     },
     Topic {
         name: "stream",
-        operands: &["FILE"],
-        options: &[],
+        operands: &["[--raw] FILE"],
+        options: &["raw", "state", "resume", "progress"],
         summary: "print the commitment of a file of up to 2^36 bytes, read in pieces",
         text: "Prints the commitment of the bytes of FILE in hex, as `commit` does. FILE has a power of two from 32 to
-68719476736 bytes; it is read in pieces and never held whole, so FILE may be - or a pipe that is slow. Bytes
-are judged as they arrive: a node with stray bits gets code 11 at once, whatever the size will be.",
+68719476736 bytes; it is read in pieces and never held whole, so FILE may be - or a pipe that is slow. Of a regular
+file the size is judged first, before anything is read. Of a pipe bytes are judged as they arrive: a node with stray
+bits gets code 11 at once, whatever the size will be.
+
+With --raw, FILE is a raw archive of any size from 1 to 68182605824 bytes. It is padded as by `pad` and filled with
+zeros up to its area, the smallest power of two at or above both the segment's size and 128, on the way: what is
+printed is the commitment that `book` gives the padded segment. --json shows size and area too.
+
+With --state STATE, for a regular file, the state is kept in the file STATE every five seconds, and removed when the
+answer is printed. A run that was killed is gone on with by the same call with --resume. A state that is damaged, or
+of another file, or of one that was changed since, is refused (exit status 65), and so is a new run over a state.
+
+On a terminal the part that is done, the rate and the time that is left are shown on standard error; with
+--progress also elsewhere, a line every ten seconds.",
     },
     Topic {
         name: "pad",
@@ -253,8 +268,8 @@ const CONVENTIONS: &str = "Conventions:
 Exit status:
   0 with code 0; with any other code that code, 1 to 24, and the line `code N: meaning` on standard output (on
   standard error with --output -, where nothing else is written then);
-  64 wrong usage; 65 a deal is damaged or is not what is known of it; 74 reading or writing failed; 75 another
-  process works on the deal and --no-wait is given; each with a message on standard error.
+  64 wrong usage; 65 a deal, or the state of a stream, is damaged or is not what is known of it; 74 reading or
+  writing failed; 75 another process works on the deal and --no-wait is given; each with a message on standard error.
 ";
 
 /// The command of that name.
@@ -302,7 +317,9 @@ fn operands(topic: &Topic) -> String {
 
 /// The command with its operands and options, by name where they are few.
 pub fn call(topic: &Topic) -> String {
-    let chosen: Vec<&Choice> = OPTIONS.iter().filter(|choice| topic.options.contains(&choice.name)).collect();
+    let among = |choice: &&Choice| topic.operands.iter().any(|word| word.contains(&format!("--{}]", choice.name)));
+    let taken = OPTIONS.iter().filter(|choice| topic.options.contains(&choice.name));
+    let chosen: Vec<&Choice> = taken.filter(|choice| !among(choice)).collect();
     let named = |choice: &&Choice| format!(" [{}]", format!("--{} {}", choice.name, choice.value).trim_end());
     let options = match chosen.len() {
         0..=3 => chosen.iter().map(named).collect(),
