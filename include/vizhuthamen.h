@@ -1,14 +1,16 @@
 /*
  * Vizhuthamen: verifiable data aggregation (FRC-0058), proved.
  *
- * Every function answers one of the codes below, for any bytes and numbers. Lent memory is a pointer and a length; a
- * pointer may be dangling only where its length is 0, and is never NULL. Memory that is written must not overlap any
- * other argument.
+ * Every function but the last two answers one of the codes below, for any bytes and numbers. Lent memory is a pointer
+ * and a length; a pointer may be dangling only where its length is 0, and is never NULL. Memory that is written must
+ * not overlap any other argument.
  *
  * An output that has one fixed length is refused with 12, before all else, where it has another; a second deal is
  * refused with 12 right after 2, a tree right after 11. Outputs are written with code 0 (numbers also with 15 in the
  * bookings, strings with 17 in the settlings) and left as they were with every other code. A stream's state is written
  * by vz_stream_take with every code but 12.
+ *
+ * docs/FORMAT.md has the index, the entry and the record byte by byte.
  */
 #ifndef VIZHUTHAMEN_H
 #define VIZHUTHAMEN_H
@@ -20,30 +22,46 @@
 extern "C" {
 #endif
 
-enum {
-  VZ_OK = 0,                 /* done, accepted, or both records the same */
-  VZ_COMMITMENT_LENGTH = 1,  /* a lent commitment is not 32 bytes long */
-  VZ_SIZE = 2,               /* a deal, run, stream, message, raw archive or lent entry size is not allowed */
-  VZ_FORM = 3,               /* a record's tags, order, lengths or end are wrong */
-  VZ_SEGMENT_SIZE = 4,       /* segment size not allowed for this deal size */
-  VZ_OFFSET = 5,             /* offset not a multiple of the segment's area, or the area ends beyond the index start */
-  VZ_PLACE = 6,              /* entry place not a multiple of 64, or outside the index area */
-  VZ_PATH_LENGTH = 7,        /* a path has another number of nodes than it must have */
-  VZ_COMMITMENT_BITS = 8,    /* the segment commitment has stray bits */
-  VZ_SEGMENT_PATH = 9,       /* the segment path does not lead to the deal commitment */
-  VZ_ENTRY_PATH = 10,        /* the entry path does not lead to it */
-  VZ_STRAY_BITS = 11,        /* a node of a lent run, deal, stream or segment has stray bits */
-  VZ_OUTPUT = 12,            /* an output is too short, or an output, second deal or tree is not of its one length */
-  VZ_NO_SLOT = 13,           /* no slot is free */
-  VZ_NO_PLACE = 14,          /* no free place */
-  VZ_ALREADY_KEPT = 15,      /* the segment is kept already */
-  VZ_NOT_KEPT = 16,          /* no kept entry at that place, or with that commitment; to cancel, no standing entry */
-  VZ_COLLISION = 17,         /* two different 64-byte strings with one node hash are shown */
-  VZ_OTHER_PLACE = 18,       /* the two records name different entry places */
-  VZ_PATH_BITS = 19,         /* a node of a path has stray bits */
-  VZ_OVERLAP = 20,           /* two standing entries overlap */
-  VZ_SEGMENT_LENGTH = 24     /* the segment has another length than the raw length gives */
-};
+/* The version of this header, as text and as a number: 10000 x first + 100 x second + third. While the first is 0, the
+ * second rises where a program has to be changed or compiled anew. */
+#define VZ_VERSION "0.1.0"
+#define VZ_VERSION_NUMBER 100
+
+/* Lengths in bytes. */
+#define VZ_MAX_DEAL 16777216                /* the largest deal that is lent, 2^24; so too run and message */
+#define VZ_MAX_RECORD 1962                  /* the longest record that is accepted, and so the longest that is built */
+#define VZ_MAX_RAW 8323072                  /* the longest raw archive; its segment has 2^23 */
+#define VZ_MAX_STREAM UINT64_C(68719476736) /* the most that a stream takes, 2^36; so too the size of a deal */
+#define VZ_STREAM_STATE 1072                /* a stream's state */
+
+/* Every code: its number, its name, its meaning. Some numbers between them are no codes. */
+#define VZ_CODES(code)                                                                                        \
+  code(0, VZ_OK, "done, accepted, or both records the same")                                                  \
+  code(1, VZ_COMMITMENT_LENGTH, "a commitment is not 32 bytes long")                                          \
+  code(2, VZ_SIZE, "a deal, run, stream, message, raw archive or entry size is not allowed")                  \
+  code(3, VZ_FORM, "the record's tags, order, lengths or end are wrong")                                      \
+  code(4, VZ_SEGMENT_SIZE, "segment size not allowed for this deal size")                                     \
+  code(5, VZ_OFFSET, "offset not a multiple of the segment's area, or the area ends beyond the index start")  \
+  code(6, VZ_PLACE, "entry place not a multiple of 64, or outside the index area")                            \
+  code(7, VZ_PATH_LENGTH, "a path has another number of nodes than it must have")                             \
+  code(8, VZ_COMMITMENT_BITS, "the segment commitment has stray bits")                                        \
+  code(9, VZ_SEGMENT_PATH, "the segment path does not lead to the deal commitment")                           \
+  code(10, VZ_ENTRY_PATH, "the entry path does not lead to the deal commitment")                              \
+  code(11, VZ_STRAY_BITS, "a node of a run, deal, stream or segment has stray bits")                          \
+  code(12, VZ_OUTPUT, "an output is too short, or an output, second deal or tree is not of its one length")   \
+  code(13, VZ_NO_SLOT, "no slot is free")                                                                     \
+  code(14, VZ_NO_PLACE, "no free place")                                                                      \
+  code(15, VZ_ALREADY_KEPT, "the segment is kept already")                                                    \
+  code(16, VZ_NOT_KEPT, "no kept entry at that place, or with that commitment; to cancel, no standing entry") \
+  code(17, VZ_COLLISION, "two different 64-byte strings with one node hash are shown")                        \
+  code(18, VZ_OTHER_PLACE, "the two records name different entry places")                                     \
+  code(19, VZ_PATH_BITS, "a node of a path has stray bits")                                                   \
+  code(20, VZ_OVERLAP, "two standing entries overlap")                                                        \
+  code(24, VZ_SEGMENT_LENGTH, "the segment has another length than the raw length gives")
+
+#define VZ_CODE_NUMBER(number, name, meaning) name = number,
+enum { VZ_CODES(VZ_CODE_NUMBER) };
+#undef VZ_CODE_NUMBER
 
 /* The kind of an index entry. */
 enum {
@@ -58,11 +76,10 @@ uint32_t vz_sha256(const uint8_t *message, size_t message_len, uint8_t *digest, 
 /* The commitment of a run, a power of two from 32 to 2^24 bytes. node: 32 bytes. Codes: 2, 11. */
 uint32_t vz_commitment(const uint8_t *run, size_t run_len, uint8_t *node, size_t node_len);
 
-/* The length of a stream's state. The caller keeps the state, and hands it on as it came back: then the answer at the
- * end is that for all bytes, however they were cut. The integrity of a stored state is the caller's: nothing in it
+/* A stream's state has VZ_STREAM_STATE bytes. The caller keeps it, and hands it on as it came back: then the answer at
+ * the end is that for all bytes, however they were cut. The integrity of a stored state is the caller's: nothing in it
  * tells whether its bytes were changed. Any bytes of this length are answered: a code in them that is none of a
  * stream's sticks too, and counts as 2. */
-#define VZ_STREAM_STATE 1072
 
 /* The commitment of bytes that arrive in pieces: a new start. state: VZ_STREAM_STATE bytes. Codes: 12. */
 uint32_t vz_stream_new(uint8_t *state, size_t state_len);
@@ -76,7 +93,7 @@ uint32_t vz_stream_take(uint8_t *state, size_t state_len, const uint8_t *piece, 
  * pieces may be taken. node: 32 bytes. With 11 and 2, node and *count stay as they were. Codes: 12, 11, 2. */
 uint32_t vz_stream_end(const uint8_t *state, size_t state_len, uint8_t *node, size_t node_len, uint64_t *count);
 
-/* Fr32 padding: writes the segment of raw_len raw bytes, 1 to 8,323,072, into the first bytes of segment, and answers
+/* Fr32 padding: writes the segment of raw_len raw bytes, 1 to VZ_MAX_RAW, into the first bytes of segment, and answers
  * its length, raw_len x 128 / 127 rounded up; the rest of segment stays. 2^23 bytes hold any segment. Codes: 2, 12.
  *
  * The commitment of a longer archive, of up to 2^36 bytes after padding, by parts: pad every 127 x 2^11 raw bytes, and
@@ -136,7 +153,7 @@ uint32_t vz_cancel(uint8_t *deal, size_t deal_len, uint64_t place);
 uint32_t vz_collect(const uint8_t *deal, size_t deal_len, uint8_t *second, size_t second_len);
 
 /* Builds the inclusion record of the entry at a place: it fills the first length bytes of record, the rest stays.
- * 1,962 bytes hold any record. Codes: 2, 11, 6, 16, 12. */
+ * VZ_MAX_RECORD bytes hold any record. Codes: 2, 11, 6, 16, 12. */
 uint32_t vz_build(const uint8_t *deal, size_t deal_len, uint64_t place, uint8_t *record, size_t record_len,
                   uint64_t *length);
 
@@ -208,6 +225,15 @@ uint32_t vz_settle_with_tree(const uint8_t *deal, size_t deal_len, const uint8_t
  * Codes: 3 where no field lies there. */
 uint32_t vz_read_field(const uint8_t *record, size_t record_len, uint64_t place, uint32_t *tag, uint64_t *start,
                        uint64_t *length, uint64_t *next);
+
+/* The two below are no part of the proved module, but C beside it (c/about.c): they are in the libraries that make
+ * writes and installs, and not in the one of rt staticlib alone. Their texts stay as long as the program runs. */
+
+/* What a code means, in words; "unknown code" for a number that is none. */
+const char *vz_meaning(uint32_t code);
+
+/* The version of the library: VZ_VERSION of the header that it was made with. */
+const char *vz_version(void);
 
 #ifdef __cplusplus
 }

@@ -157,6 +157,8 @@ class Locks(Deals):
         self.put("segment", self.segment())
         self.held()
         for number in (signal.SIGINT, signal.SIGTERM, signal.SIGHUP):
+            # a test that runs in the background may have been told to ignore them, and calls inherit that
+            self.addCleanup(signal.signal, number, signal.signal(number, signal.SIG_DFL))
             call = self.waiting("book", "deal", "segment")
             time.sleep(0.1)
             call.send_signal(number)

@@ -1,7 +1,7 @@
-"""Writes the calls that the program `vectors` replays, and the answers that the independent model gives.
+"""Writes the calls that the program `vectors` replays, and the answers that the independent model gives; and the vectors for others.
 
-Run from the repository's root: python3 tests/vectors.py. It writes crates/vectors/stdin and crates/vectors/stdout; with --check
-it compares them with what stands there.
+Run from the repository's root: python3 tests/vectors.py. It writes crates/vectors/stdin, crates/vectors/stdout and
+vectors/vectors.json (see json_vectors.py); with --check it compares them with what stands there.
 """
 import random
 import sys
@@ -235,16 +235,19 @@ def all_cases():
 
 
 def main():
+    from json_vectors import written  # which takes records from here
+
     calls = list(all_cases())
-    texts = {"stdin": b"".join(map(encode, calls)), "stdout": "".join(map(answer, calls)).encode()}
+    texts = {"crates/vectors/stdin": b"".join(map(encode, calls)), "crates/vectors/stdout": "".join(map(answer, calls)).encode(),
+             "vectors/vectors.json": written().encode()}
     for name, data in texts.items():
-        path = ROOT / "crates" / "vectors" / name
+        path = ROOT / name
         if "--check" in sys.argv:
             if path.read_bytes() != data:
                 sys.exit(f"vectors: {path} is not what the model gives")
         else:
             path.write_bytes(data)
-    codes = sorted({int(line.split()[0]) for line in texts["stdout"].decode().splitlines()})
+    codes = sorted({int(line.split()[0]) for line in texts["crates/vectors/stdout"].decode().splitlines()})
     if codes != [*range(21), 24]:
         sys.exit(f"vectors: the codes {codes} are not 0 to 20 and 24")
     print(f"vectors: {len(calls)} calls, codes {codes}")

@@ -115,16 +115,14 @@ mod tests {
         assert_eq!(accepted(17), Err(Refusal::COLLISION));
     }
 
-    /// Names and numbers are those of the first enumeration of include/vizhuthamen.h, all of them and no others.
+    /// Numbers, names and meanings are those of VZ_CODES in include/vizhuthamen.h, all of them and no others.
     #[test]
     fn the_codes_are_those_of_the_header() {
         let header = include_str!("../../include/vizhuthamen.h");
-        let lines = header.lines().skip_while(|line| *line != "enum {").take_while(|line| *line != "};");
-        let stated: Vec<(&str, u32)> = lines
-            .filter_map(|line| line.trim().strip_prefix("VZ_")?.split_once(" = "))
-            .map(|(name, rest)| (name, rest.split([',', ' ']).next().unwrap().parse().unwrap()))
-            .collect();
-        let here = REFUSALS.iter().map(|(refusal, name, _)| (*name, refusal.code()));
-        assert_eq!(stated, std::iter::once(("OK", 0)).chain(here).collect::<Vec<_>>());
+        let rows = header.lines().filter_map(|line| line.trim_start().strip_prefix("code("));
+        let stated: Vec<&str> = rows.map(|row| row.trim_end_matches(['\\', ' ']).trim_end_matches(')')).collect();
+        let row = |code, name, meaning| format!("{code}, VZ_{name}, {meaning:?}");
+        let here = REFUSALS.iter().map(|(refusal, name, meaning)| row(refusal.code(), *name, *meaning));
+        assert_eq!(stated, std::iter::once(row(0, "OK", ACCEPTED)).chain(here).collect::<Vec<_>>());
     }
 }

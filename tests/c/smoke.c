@@ -24,7 +24,7 @@ static void answer(const char *what, uint64_t got, uint64_t expected) {
 }
 
 static uint8_t deal[512], first_segment[128], second_segment[128], third_segment[128];
-static uint8_t commitment[32], deal_commitment[32], entry[64], record[1962], left[64], right[64];
+static uint8_t commitment[32], deal_commitment[32], entry[64], record[VZ_MAX_RECORD], left[64], right[64];
 static uint64_t offset, place, size, length, start, next, entries, blank, damaged, valid;
 static uint32_t kind, state, tag;
 

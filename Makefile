@@ -1,0 +1,62 @@
+# The libraries for programs in other languages, and their installation.
+#
+#   make                                    target/lib: the static and the shared library; where the proved archive is not there yet,
+#                                           tools/levels makes it (the Rattle kit, gcc and binutils are needed)
+#   make install [PREFIX=DIR] [DESTDIR=DIR] header, libraries, pkg-config file and Python package, below PREFIX (/usr/local); what is
+#                                           written goes below DESTDIR, and names no DESTDIR in it
+#
+# INCLUDEDIR, LIBDIR and PYTHONDIR name other folders than PREFIX gives. Without python3 there is no PYTHONDIR, and no package is written.
+PREFIX = /usr/local
+INCLUDEDIR = $(PREFIX)/include
+LIBDIR = $(PREFIX)/lib
+PYTHONDIR = $(shell python3 -c 'import sysconfig as s; print(s.get_path("purelib", "posix_prefix", {"base": "$(PREFIX)"}))')
+
+header = include/vizhuthamen.h
+version := $(shell sed -n 's/^\#define VZ_VERSION "\(.*\)"/\1/p' $(header))
+plain = libvizhuthamen.so
+# While the first number is 0, programs are compiled anew where the second one rises.
+soname = $(plain).$(basename $(version))
+shared = $(plain).$(version)
+out = target/lib
+proved = target/levels/libvizhuthamen.a
+modules = $(wildcard python/vizhuthamen/*)
+
+.PHONY: all install
+.DELETE_ON_ERROR:
+
+all: $(out)/libvizhuthamen.a $(out)/$(shared)
+
+$(proved): $(shell find crates -name '*.rt')
+	tools/levels
+
+$(out)/about.o: c/about.c $(header)
+	mkdir -p $(out)
+	gcc -O2 -fPIC -Wall -Wextra -Werror -Iinclude -c $< -o $@
+
+$(out)/libvizhuthamen.a: $(proved) $(out)/about.o
+	cp $(proved) $@.new
+	ar rcsD $@.new $(out)/about.o
+	mv $@.new $@
+
+# The names that the shared library has for others: the functions of the header, and nothing else.
+$(out)/exported: $(header)
+	mkdir -p $(out)
+	{ echo '{ global:'; sed -n 's/^[a-z].*[ *]\(vz_[a-z0-9_]*\)(.*/\1;/p' $<; echo 'local: *; };'; } > $@
+
+$(out)/$(shared): $(out)/libvizhuthamen.a $(out)/exported
+	gcc -shared -Wl,--whole-archive $< -Wl,--no-whole-archive -Wl,-soname,$(soname) -Wl,--version-script,$(out)/exported \
+	    -Wl,-z,defs,-z,now,-z,relro,-z,noexecstack -o $@
+	ln -sf $(shared) $(out)/$(soname)
+	ln -sf $(soname) $(out)/$(plain)
+
+install: all
+	install -d '$(DESTDIR)$(INCLUDEDIR)' '$(DESTDIR)$(LIBDIR)/pkgconfig'
+	install -m 644 $(header) '$(DESTDIR)$(INCLUDEDIR)'
+	install -m 644 $(out)/libvizhuthamen.a '$(DESTDIR)$(LIBDIR)'
+	install -m 755 $(out)/$(shared) '$(DESTDIR)$(LIBDIR)'
+	ln -sf $(shared) '$(DESTDIR)$(LIBDIR)/$(soname)'
+	ln -sf $(soname) '$(DESTDIR)$(LIBDIR)/$(plain)'
+	sed -e 's|@PREFIX@|$(PREFIX)|' -e 's|@INCLUDEDIR@|$(INCLUDEDIR)|' -e 's|@LIBDIR@|$(LIBDIR)|' -e 's|@VERSION@|$(version)|' \
+	    c/vizhuthamen.pc.in > '$(DESTDIR)$(LIBDIR)/pkgconfig/vizhuthamen.pc'
+	[ -z '$(PYTHONDIR)' ] || { install -d '$(DESTDIR)$(PYTHONDIR)/vizhuthamen' && \
+	    install -m 644 $(modules) '$(DESTDIR)$(PYTHONDIR)/vizhuthamen'; }

@@ -1,0 +1,133 @@
+"""A deal in memory: its slots, finding a segment, booking and cancelling one, collecting all."""
+from __future__ import annotations
+
+from dataclasses import dataclass
+from typing import Final, Optional, Union
+
+from ._codes import Refusal, accepted
+from ._entry import Entry, written
+from ._library import Readable, Writable, byte_view, call, numbers
+
+MAX_DEAL: Final = 1 << 24
+"""The largest deal that is held in memory, in bytes."""
+
+
+@dataclass(frozen=True)
+class Free:
+    """No standing entry."""
+
+
+@dataclass(frozen=True)
+class Standing:
+    """A standing entry whose commitment is not that of the bytes at its offset."""
+
+    entry: Entry
+
+
+@dataclass(frozen=True)
+class Kept:
+    """A standing entry whose commitment is that of the bytes at its offset."""
+
+    entry: Entry
+
+
+Slot = Union[Free, Standing, Kept]
+
+
+@dataclass(frozen=True)
+class Tally:
+    """How many slots of an index are blank, damaged and valid; together they are the number of entries."""
+
+    blank: int
+    damaged: int
+    valid: int
+
+
+@dataclass(frozen=True)
+class Found:
+    """A segment that was found: where it and its entry start, its length, and its bytes, a part of the lent deal."""
+
+    offset: int
+    size: int
+    place: int
+    segment: memoryview
+
+
+@dataclass(frozen=True)
+class Position:
+    """Where a segment and its index entry start."""
+
+    offset: int
+    place: int
+
+
+@dataclass(frozen=True)
+class Booked:
+    """The segment, zeros to the end of its area, and its entry were written."""
+
+    position: Position
+
+
+@dataclass(frozen=True)
+class AlreadyKept:
+    """Code 15: the deal has the segment, and was not changed."""
+
+    position: Position
+
+
+Booking = Union[Booked, AlreadyKept]
+
+
+def inspect(deal: Readable, place: int) -> Slot:
+    """What stands at an entry place of a deal. Refusals: 2, 11, 6."""
+    state, entry = written("vz_inspect", deal, place)
+    return (Free(), Standing(entry), Kept(entry))[state]
+
+
+def tally(deal: Readable) -> Tally:
+    """How many slots of a deal's index are blank, damaged and valid. Refusals: 2, 11."""
+    counts = numbers(3)
+    accepted(call("vz_tally", deal, *counts))
+    return Tally(*(count.value for count in counts))
+
+
+def find(deal: Readable, commitment: Readable) -> Found:
+    """The lowest slot that holds a kept entry with this commitment. Refusals: 1, 2, 11, 16."""
+    found = numbers(3)
+    accepted(call("vz_find", deal, commitment, *found))
+    offset, size, place = (each.value for each in found)
+    return Found(offset, size, place, byte_view(deal)[offset : offset + size])
+
+
+def book(deal: Writable, segment: Readable, *, tree: Optional[Writable] = None) -> Booking:
+    """Books a segment of 1 byte to half of the deal: it, zeros to the end of its area (the smallest power of two at or above both its
+    size and 128) and its entry are written, unless the deal has it. Refusals: 2, 4, 11, 13, 14; with a tree 12 after 11. A tree is
+    brought up to date."""
+    offset, place = numbers(2)
+    if tree is None:
+        code = call("vz_book", deal, segment, offset, place)
+    else:
+        code = call("vz_book_with_tree", deal, tree, segment, offset, place)
+    position = Position(offset.value, place.value)
+    if code == Refusal.ALREADY_KEPT:
+        return AlreadyKept(position)
+    accepted(code)
+    return Booked(position)
+
+
+def cancel(deal: Writable, place: int, *, tree: Optional[Writable] = None) -> None:
+    """Cancels the entry that stands at a place, kept or not: its 64 bytes are zeros afterwards, and no other byte changes. Refusals: 2,
+    11, 6, 16; with a tree 12 after 11. A tree is brought up to date."""
+    if tree is None:
+        accepted(call("vz_cancel", deal, place))
+    else:
+        accepted(call("vz_cancel_with_tree", deal, tree, place))
+
+
+def collect(deal: Readable, second: Writable, *, tree: Optional[Writable] = None) -> None:
+    """Collects a deal into a second one of the same length, without gaps; the deal itself stays. Refusals: 2, 12, 11, 20; with a tree
+    12 after 11. The tree is one for the second deal, and is left filled."""
+    if tree is None:
+        accepted(call("vz_collect", deal, second))
+    else:
+        accepted(call("vz_collect_with_tree", deal, second, tree))

@@ -1,0 +1,165 @@
+"""Reads the examples of docs/FORMAT.md and compares them with the independent model and with the library, through the Python package.
+
+Run from anywhere, after make: python3 tests/format_test.py. Every table of the document is read; one that is not known ends the run.
+"""
+import json
+import re
+import sys
+
+from header import ROOT, defined
+from model import MAX_RAW, area, index_numbers, pad, segment_length
+from operations import MODEL
+from vectors_test import data, vz
+
+TEXT = (ROOT / "docs" / "FORMAT.md").read_text()
+CHECKS = [case for case in json.loads((ROOT / "vectors" / "vectors.json").read_text())["cases"] if case["routine"] == "check"]
+SEGMENTS = b"\x01" * 128, b"\x02" * 100  # as the document says of its example
+SIZE, PLACE = 512, 320
+
+
+def same(what, *values):
+    """Ends the run where values that must be one are not."""
+    if any(value != values[0] for value in values):
+        shown = "\n".join(f"  {value.hex() if isinstance(value, bytes) else value}" for value in values)
+        sys.exit(f"format_test: {what}: the document, then the others:\n{shown}")
+
+
+def told(cell):
+    """The bytes of a cell: parts in back quotes, each with a number of times or none."""
+    parts = re.findall(r"`([0-9a-f]+)`(?: × (\d+))?", cell)
+    return b"".join(bytes.fromhex(hexed) * int(times or 1) for hexed, times in parts)
+
+
+def tables():
+    """The tables of the document: the cells of the head, and those of each row."""
+    for block in re.findall(r"(?:^\|.*\|\n)+", TEXT, re.MULTILINE):
+        head, _, *rows = ([cell.strip() for cell in line.strip("|").split("|")] for line in block.splitlines())
+        yield head, rows
+
+
+def laid_out(rows):
+    """The bytes of a table whose rows say where they start and how many they are; the numbers in its words are in its bytes."""
+    whole = b""
+    for at, length, what, cell in rows:
+        part = told(cell)
+        same(f"place of '{what}'", int(at), len(whole))
+        same(f"length of '{what}'", int(length), len(part))
+        for number in re.findall(r": (\d+)$", what):
+            same(f"number of '{what}'", int(number), int.from_bytes(part, "little"))
+        for tag, size in re.findall(r"^tag (\d), length (\d+)$", what):
+            same(f"'{what}'", bytes([int(tag)]) + int(size).to_bytes(2, "little"), part)
+        whole += part
+    return whole
+
+
+def booked():
+    """The example's deal, by the model and by the library."""
+    deal, lent = bytes(SIZE), bytearray(SIZE)
+    for segment in SEGMENTS:
+        deal = MODEL.book(deal, segment)[3]
+        vz.book(lent, segment)
+    return deal, bytes(lent)
+
+
+def ways(record):
+    """The nodes on both ways up, with their positions: by the definition."""
+    c, o, s, p, *paths = MODEL.parse(record)
+    starts = (c, o // area(s)), (MODEL.h.node(MODEL.entry(c, o, s)), p // 64)
+    for (node, position), path in zip(starts, paths):
+        way = [(node, position)]
+        for sibling in path:
+            node = MODEL.path_root(node, position, [sibling])
+            position //= 2
+            way.append((node, position))
+        yield way
+
+
+def commitments(rows):
+    for cell, commitment in rows:
+        same(f"commitment of {cell}", told(commitment), MODEL.commitment(told(cell))[1], vz.commitment(told(cell)))
+
+
+def sizes(rows):
+    for d, slots, start in rows:
+        answer = vz.index_numbers(int(d))
+        same(f"index of {d}", (int(slots), int(start)), index_numbers(int(d))[1:], (answer.entries, answer.start))
+
+
+def deal_table(rows):
+    same("the deal", laid_out(rows), *booked())
+    root = bytes.fromhex(re.search(r"Its commitment is\s+`([0-9a-f]{64})`", TEXT)[1])
+    same("the deal's commitment", root, MODEL.commitment(booked()[0])[1], vz.commitment(booked()[1]))
+
+
+def entry_table(rows):
+    entry, deal = laid_out(rows), booked()[0]
+    _, _, c, o, s = MODEL.read_entry(entry)
+    same("the entry", entry, deal[PLACE : PLACE + 64], MODEL.entry(c, o, s), vz.make_entry(c, o, s))
+    same("the entry's fields", (c, o, s), (vz.commitment(SEGMENTS[1] + bytes(28)), 128, 100))
+
+
+def record_table(rows):
+    record, (deal, lent) = laid_out(rows), booked()
+    same("the record", record, MODEL.build(deal, PLACE)[1], vz.build(lent, PLACE))
+    same("the record's code", 0, MODEL.check(MODEL.commitment(deal)[1], SIZE, record))
+    vz.check(vz.commitment(lent), SIZE, record)
+    for _, _, what, cell in rows:
+        for at in map(int, re.findall(r"^sibling.* at (\d+)$", what)):
+            there = [level[at >> 5 + k] for k, level in enumerate(MODEL.tree(deal)) if at % (32 << k) == 0]
+            same(f"'{what}' is a node of the deal there", told(cell) in there, True)
+
+
+def field_table(rows):
+    """The record's fields: tags and lengths, for the example's D and A."""
+    record = vz.build(booked()[1], PLACE)
+    lengths = {"32 × log2(D / A)": 32 * (SIZE // area(100)).bit_length() - 32, "32 × log2(D / 64)": 32 * (SIZE // 64).bit_length() - 32}
+    stated = [(int(tag), lengths[length] if length in lengths else int(length)) for tag, _, length in rows]
+    same("fields", stated, [(field.tag, len(field.content)) for field in vz.fields(record)])
+
+
+def check_table(rows):
+    """The codes of the check in their order, which the vectors show: each fault alone, and each with the next."""
+    alone = [case["code"] for case in CHECKS if "/fault-" in case["name"] and "-and-" not in case["name"]]
+    same("order of the check", [int(row[0]) for row in rows], alone)
+
+
+def way_table(rows):
+    segment, entry = ways(vz.build(booked()[1], PLACE))
+    same("segment way", [(told(row[1]), int(row[0])) for row in rows if row[1]], segment)
+    same("entry way", [(told(row[2]), int(row[3])) for row in rows], entry)
+
+
+def raw_table(rows):
+    for cell, segment in rows:
+        raw = told(cell)
+        same(f"segment of {cell}", told(segment), pad(raw, bytes(segment_length(len(raw))))[2], vz.pad(raw))
+
+
+TABLES = {
+    ("bytes", "their commitment"): commitments,
+    ("D", "slots", "start"): sizes,
+    ("at", "bytes", "the deal", "in the example"): deal_table,
+    ("at", "bytes", "the entry", f"in the example, at {PLACE}"): entry_table,
+    ("tag", "content", "length"): field_table,
+    ("at", "bytes", "the record", f"in the example, of place {PLACE}"): record_table,
+    ("code", "the check refuses with it where"): check_table,
+    ("position", "segment path, from the commitment", "entry path, from the entry's node hash", "position"): way_table,
+    ("raw bytes", "segment"): raw_table,
+}
+
+
+def main():
+    read = {tuple(head): rows for head, rows in tables()}
+    same("the tables that are read", sorted(read), sorted(TABLES))
+    for head, rows in read.items():
+        TABLES[head](rows)
+    shortest, longest = map(int, re.search(r"has (\d+) to (\d+) bytes\.", TEXT).groups())
+    lengths = [len(data(case["inputs"]["record"])) for case in CHECKS if case["code"] == 0]
+    same("the lengths of accepted records", (shortest, longest), (min(lengths), max(lengths)))
+    same("the longest record", longest, vz.MAX_RECORD, defined("VZ_MAX_RECORD"))
+    same("the longest raw archive", int(re.search(r"1 to (\d+) bytes becomes", TEXT)[1]), MAX_RAW, vz.MAX_RAW, defined("VZ_MAX_RAW"))
+    print(f"format_test: {len(read)} tables of docs/FORMAT.md are those of the model and the library")
+
+
+if __name__ == "__main__":
+    main()

@@ -1,0 +1,173 @@
+"""Tests what the differential test and the vectors do not reach of the Python package: that it is the header's and the Rust crate's
+image, and what it does with memory and numbers that the library must not be handed.
+
+Run from anywhere, after make: python3 tests/python_test.py
+"""
+import inspect
+import os
+import pickle
+import re
+import subprocess
+import sys
+import unittest
+
+import header
+from header import ROOT
+
+sys.path.insert(0, str(ROOT / "python"))
+import vizhuthamen as vz  # noqa: E402
+from vizhuthamen import _library  # noqa: E402
+
+# What the Rust crate has besides: types that are bytes here, an iterator, how many threads may work, and a raw archive by parts, which
+# is no call of one function.
+RUST_ALONE = {"Node", "NotANode", "Fields", "commitment_with_threads", "tree_fill_with_threads", "MAX_RAW_STREAM", "RAW_PART",
+              "RawStreamed", "RawStreaming"}
+
+
+class Image(unittest.TestCase):
+    def test_functions_are_the_headers(self):
+        stated = {name: " ".join(kind for kind, _ in parameters) for name, parameters in header.routines().items()}
+        self.assertEqual(_library.FUNCTIONS, stated)
+        self.assertEqual(set(header.functions()) - set(stated), {"vz_meaning", "vz_version"})
+
+    def test_codes_are_the_headers(self):
+        here = {name: value for name, value in vars(vz.Refusal).items() if name.isupper()}
+        self.assertEqual(here | {"OK": 0}, {name: number for number, name, _ in header.codes()})
+
+    def test_meanings_are_the_headers(self):
+        stated = {number: meaning for number, _, meaning in header.codes()}
+        self.assertGreater(len(stated), 20)
+        for number in (*range(300), (1 << 32) - 1, 1 << 32, -1):
+            self.assertEqual(vz.meaning(number), stated.get(number, "unknown code"))
+
+    def test_lengths_and_version_are_the_headers(self):
+        for name in ("MAX_DEAL", "MAX_RAW", "MAX_RECORD", "MAX_STREAM", "STREAM_STATE"):
+            self.assertEqual(getattr(vz, name), header.defined(f"VZ_{name}"), name)
+        self.assertEqual(vz.version(), header.defined("VZ_VERSION"))
+        self.assertEqual(_library.NAME, "libvizhuthamen.so." + vz.version().rsplit(".", 1)[0])
+
+    def test_names_are_the_rust_crates(self):
+        uses = re.findall(r"^pub use \w+::(?:\{([^}]*)\}|(\w+));", (ROOT / "rust/src/lib.rs").read_text(), re.MULTILINE)
+        names = {name.strip() for use in uses for name in ",".join(use).split(",") if name.strip()}
+        self.assertGreater(len(names), 40)
+        self.assertEqual(names - RUST_ALONE - set(vz.__all__), set())
+        for name in vz.__all__:
+            self.assertTrue(hasattr(vz, name), name)
+
+    def test_everything_is_typed(self):
+        for name in vz.__all__:
+            for function in methods(getattr(vz, name)):
+                signature = inspect.signature(function)
+                untyped = [each.name for each in signature.parameters.values() if each.annotation is each.empty and each.name != "self"]
+                self.assertEqual(untyped, [], function)
+                self.assertIsNot(signature.return_annotation, signature.empty, function)
+
+
+def methods(value):
+    """A function; of a class that is written here, its methods."""
+    if inspect.isfunction(value):
+        return [value]
+    own = inspect.isclass(value) and not hasattr(value, "__dataclass_fields__")
+    return [each for each in vars(value).values() if inspect.isfunction(each)] if own else []
+
+
+class Memory(unittest.TestCase):
+    def setUp(self):
+        self.deal = bytearray(512)
+        vz.book(self.deal, b"\1" * 128)
+
+    def test_written_memory_overlaps_nothing(self):
+        before = bytes(self.deal)
+        view = memoryview(self.deal)
+        tree = bytearray(480)
+        for refused in (lambda: vz.collect(self.deal, self.deal), lambda: vz.collect(self.deal, view),
+                        lambda: vz.book(self.deal, view[:128]), lambda: vz.book(self.deal, view[384:]),
+                        lambda: vz.tree_fill(self.deal, view[32:]), lambda: vz.book(self.deal, b"\2", tree=view[32:]),
+                        lambda: vz.book(self.deal, memoryview(tree)[:100], tree=tree), lambda: vz.build_into(self.deal, 256, self.deal),
+                        lambda: vz.pad_into(view[:100], view[50:300]), lambda: vz.tree_row(view[:128], view[127:191])):
+            self.assertRaises(ValueError, refused)
+        self.assertEqual((bytes(self.deal), bytes(tree)), (before, bytes(480)))
+
+    def test_memory_that_is_beside_or_empty_may_be_lent(self):
+        view = memoryview(bytearray(192))
+        vz.tree_row(view[:128], view[128:])
+        self.assertEqual(view[128:], vz.commitment(bytes(64)) * 2)
+        vz.tree_row(bytearray(), bytearray())
+        self.assertEqual(vz.sha256(memoryview(b"")), vz.sha256(bytearray()))
+        twice = vz.build(self.deal, 256)
+        self.assertEqual(vz.settle_records(vz.commitment(self.deal), 512, twice, twice), vz.Same())
+
+    def test_every_kind_of_memory_is_read_alike(self):
+        whole = bytes(self.deal)
+        for lent in (whole, self.deal, memoryview(whole), memoryview(self.deal), memoryview(self.deal).cast("Q"),
+                     memoryview(whole).cast("B", (2, 256)), memoryview(b"x" + whole)[1:]):
+            self.assertEqual(vz.commitment(lent), vz.commitment(whole))
+            self.assertEqual(vz.find(lent, whole[256:288]).segment, whole[:128])
+
+    def test_memory_that_cannot_be_lent(self):
+        for refused in (lambda: vz.book(bytes(512), b"\1"), lambda: vz.book(memoryview(bytes(512)), b"\1"),
+                        lambda: vz.sha256(memoryview(self.deal)[::2]), lambda: vz.sha256("text"), lambda: vz.sha256(7)):
+            self.assertRaises(TypeError, refused)
+
+    def test_what_is_found_is_a_part_of_the_deal(self):
+        found = vz.find(self.deal, self.deal[256:288])
+        self.deal[0] = 9
+        self.assertEqual(found.segment[0], 9)
+
+    def test_lent_memory_is_free_again(self):
+        vz.commitment(self.deal)
+        self.deal.append(0)  # not allowed while a view is held
+        self.assertEqual(len(self.deal), 513)
+
+
+class Answers(unittest.TestCase):
+    def test_numbers_have_64_bits(self):
+        for refused in (-1, 1 << 64):
+            self.assertRaises(OverflowError, vz.index_numbers, refused)
+            self.assertRaises(OverflowError, vz.inspect, bytes(512), refused)
+            self.assertRaises(OverflowError, vz.unpad, refused, b"")
+        self.assertRaises(vz.Refusal, vz.index_numbers, (1 << 64) - 1)
+
+    def test_a_refusal_says_its_code(self):
+        with self.assertRaises(vz.Refusal) as caught:
+            vz.check(bytes(31), 512, b"")
+        refusal = caught.exception
+        self.assertEqual((refusal.code, refusal.meaning), (vz.Refusal.COMMITMENT_LENGTH, "a commitment is not 32 bytes long"))
+        self.assertEqual(str(refusal), "code 1: a commitment is not 32 bytes long")
+        self.assertEqual(str(pickle.loads(pickle.dumps(refusal))), str(refusal))
+
+    def test_outputs_that_are_made_here(self):
+        deal = bytearray(1024)
+        self.assertEqual(vz.book(deal, b"x"), vz.Booked(vz.Position(0, 768)))
+        self.assertEqual(vz.book(deal, b"x"), vz.AlreadyKept(vz.Position(0, 768)))
+        tree = vz.filled_tree(deal)
+        self.assertEqual(vz.build(deal, 768, tree=tree), vz.build(deal, 768))
+        self.assertEqual(tree[-32:], vz.commitment(deal))
+        for n in (1, 127, 128, 1000):
+            raw = os.urandom(n)
+            self.assertEqual(len(vz.pad(raw)), vz.segment_length(n))
+            self.assertEqual(vz.unpad(n, vz.pad(raw)), raw)
+        self.assertEqual([vz.segment_length(n) for n in (-1, 0, vz.MAX_RAW, vz.MAX_RAW + 1)], [None, None, 1 << 23, None])
+        self.assertRaises(vz.Refusal, vz.pad, b"")
+        self.assertRaises(vz.Refusal, vz.unpad, vz.MAX_RAW + 1, b"")
+        self.assertRaises(vz.Refusal, vz.filled_tree, b"")
+
+    def test_a_stream_goes_on_from_its_state(self):
+        stream = vz.Streaming()
+        stream.take(b"\1" * 50)
+        later = vz.Streaming(bytes(stream))
+        later.take(b"\1" * 78)
+        self.assertEqual(later.end(), vz.Streamed(vz.commitment(b"\1" * 128), 128))
+        with self.assertRaises(vz.Refusal) as caught:
+            vz.Streaming(bytes(1071))
+        self.assertEqual(caught.exception.code, vz.Refusal.OUTPUT)
+
+    def test_a_library_that_is_not_there(self):
+        ran = subprocess.run([sys.executable, "-c", "import vizhuthamen"], capture_output=True, text=True,
+                             env=os.environ | {"PYTHONPATH": str(ROOT / "python"), "VIZHUTHAMEN_LIB": "/nowhere"})
+        self.assertNotEqual(ran.returncode, 0)
+        self.assertIn("run make in the repository's root, or let VIZHUTHAMEN_LIB name the folder of " + _library.NAME, ran.stderr)
+
+
+if __name__ == "__main__":
+    unittest.main()
