@@ -6,8 +6,11 @@ use crate::node::Node;
 use crate::parts;
 use crate::streaming::{Streaming, STREAM_STATE};
 
-/// The raw bytes of a part: 2^11 blocks of 127, whose segment has [`parts::PART`] bytes.
+/// The raw bytes of a part: 2^11 blocks of 127.
 pub const RAW_PART: usize = 127 << 11;
+
+/// The bytes of its segment.
+const SEGMENT_PART: usize = 128 << 11;
 
 /// The largest number of raw bytes whose commitment can be worked out. Their segment has 2^36 bytes.
 pub const MAX_RAW_STREAM: u64 = 127 << 29;
@@ -67,7 +70,7 @@ impl RawStreaming {
         if raw.len() % RAW_PART != 0 || parts * RAW_PART as u64 > MAX_RAW_STREAM {
             return Err(Refusal::SIZE);
         }
-        take_parts(&mut self.nodes, raw, parts::PART)?;
+        take_parts(&mut self.nodes, raw, SEGMENT_PART)?;
         self.parts = parts;
         Ok(())
     }
@@ -82,7 +85,7 @@ impl RawStreaming {
         let size = (raw * 128).div_ceil(127);
         let area = size.next_power_of_two().max(128);
         // An archive whose area is smaller than a part is a single part, of that size.
-        let part = area.min(parts::PART as u64);
+        let part = area.min(SEGMENT_PART as u64);
         let mut nodes = self.nodes.clone();
         take_parts(&mut nodes, rest, part as usize)?;
         fill(&mut nodes, area / part - size.div_ceil(part), part as usize)?;
@@ -197,7 +200,7 @@ mod tests {
         let parts = MAX_RAW_STREAM / RAW_PART as u64;
         assert_eq!(parts, 1 << 18);
         let mut nodes = Streaming::new();
-        fill(&mut nodes, parts - 1, parts::PART).unwrap();
+        fill(&mut nodes, parts - 1, SEGMENT_PART).unwrap();
         let state = <[u8; STREAM_STATE]>::try_from(nodes.as_ref()).unwrap();
         let almost = RawStreaming::resumed(state, MAX_RAW_STREAM - RAW_PART as u64).unwrap();
         let whole = RawStreamed { commitment: zeros[31], size: 1 << 36, area: 1 << 36 };
@@ -210,7 +213,7 @@ mod tests {
         assert_eq!(full.clone().take(&[0; RAW_PART]), Err(Refusal::SIZE));
         // One byte more than 2^35 bytes after padding: half of the area is zeros that nobody hashes.
         let mut half = Streaming::new();
-        fill(&mut half, parts / 2, parts::PART).unwrap();
+        fill(&mut half, parts / 2, SEGMENT_PART).unwrap();
         let state = <[u8; STREAM_STATE]>::try_from(half.as_ref()).unwrap();
         let half = RawStreaming::resumed(state, MAX_RAW_STREAM / 2).unwrap();
         assert_eq!(half.end(&[]).map(|streamed| streamed.commitment), Ok(zeros[30]));

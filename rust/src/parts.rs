@@ -4,7 +4,7 @@ use std::sync::{Mutex, OnceLock, PoisonError};
 use std::thread::{self, Builder};
 
 /// The bytes of a part: hashing them takes much longer than starting a thread.
-pub const PART: usize = 1 << 18;
+pub const PART: usize = 1 << 16;
 
 /// The lengths of runs that go by parts: powers of two from the first to the second. All others are left to one call.
 const LENGTHS: (usize, usize) = (1 << 20, 1 << 24);
