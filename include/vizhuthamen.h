@@ -24,12 +24,12 @@ extern "C" {
 
 /* The version of this header, as text and as a number: 10000 x first + 100 x second + third. While the first is 0, the
  * second rises where a program has to be changed or compiled anew. */
-#define VZ_VERSION "0.1.0"
-#define VZ_VERSION_NUMBER 100
+#define VZ_VERSION "0.2.0"
+#define VZ_VERSION_NUMBER 200
 
 /* Lengths in bytes. */
 #define VZ_MAX_DEAL 16777216                /* the largest deal that is lent, 2^24; so too run and message */
-#define VZ_MAX_RECORD 1962                  /* the longest record that is accepted, and so the longest that is built */
+#define VZ_MAX_RECORD 1973                  /* the longest record that is accepted, and so the longest that is built */
 #define VZ_MAX_RAW 8323072                  /* the longest raw archive; its segment has 2^23 */
 #define VZ_MAX_STREAM UINT64_C(68719476736) /* the most that a stream takes, 2^36; so too the size of a deal */
 #define VZ_STREAM_STATE 1072                /* a stream's state */
@@ -57,6 +57,7 @@ extern "C" {
   code(18, VZ_OTHER_PLACE, "the two records name different entry places")                                     \
   code(19, VZ_PATH_BITS, "a node of a path has stray bits")                                                   \
   code(20, VZ_OVERLAP, "two standing entries overlap")                                                        \
+  code(21, VZ_DEAL_NUMBER, "the record's deal number differs from the caller's")                              \
   code(24, VZ_SEGMENT_LENGTH, "the segment has another length than the raw length gives")
 
 #define VZ_CODE_NUMBER(number, name, meaning) name = number,
@@ -152,26 +153,31 @@ uint32_t vz_cancel(uint8_t *deal, size_t deal_len, uint64_t place);
  * deal of any other length, 11, 20. */
 uint32_t vz_collect(const uint8_t *deal, size_t deal_len, uint8_t *second, size_t second_len);
 
-/* Builds the inclusion record of the entry at a place: it fills the first length bytes of record, the rest stays.
- * VZ_MAX_RECORD bytes hold any record. Codes: 2, 11, 6, 16, 12. */
-uint32_t vz_build(const uint8_t *deal, size_t deal_len, uint64_t place, uint8_t *record, size_t record_len,
-                  uint64_t *length);
+/* A record names its deal by the deal's number, any 64 bits. A deal's bytes do not hold it: building, checking and
+ * settling take it from the caller. */
 
-/* Checks a record against a deal's commitment and size. Codes, in this order: 1 to 8, 19, 9, 10. */
-uint32_t vz_check(const uint8_t *commitment, size_t commitment_len, uint64_t size, const uint8_t *record,
-                  size_t record_len);
+/* Builds the inclusion record of the entry at a place, for the deal of this number: it fills the first length bytes of
+ * record, the rest stays. VZ_MAX_RECORD bytes hold any record. Codes: 2, 11, 6, 16, 12. */
+uint32_t vz_build(const uint8_t *deal, size_t deal_len, uint64_t number, uint64_t place, uint8_t *record,
+                  size_t record_len, uint64_t *length);
 
-/* Settles two records for one deal commitment and size: 0, with zeros in left and right (64 bytes each), exactly where
- * both are accepted and the same bytes; 17 with two different strings there that have one node hash. Codes: the first
- * one's check, the second one's, 18, 17. */
-uint32_t vz_settle_records(const uint8_t *commitment, size_t commitment_len, uint64_t size, const uint8_t *first,
-                           size_t first_len, const uint8_t *second, size_t second_len, uint8_t *left, size_t left_len,
-                           uint8_t *right, size_t right_len);
+/* Checks a record against a deal's commitment, size and number. Codes, in this order: 1, 2, 3, 21, 4, 5, 6, 7, 8, 19,
+ * 9, 10. */
+uint32_t vz_check(const uint8_t *commitment, size_t commitment_len, uint64_t size, uint64_t number,
+                  const uint8_t *record, size_t record_len);
 
-/* Settles a record with a deal in hand: 0, with zeros, exactly where building at its place would write it; 17 with a
- * pair as above. Codes: 2, 11, those of the check against the deal's own commitment and length, 17. */
-uint32_t vz_settle_with_deal(const uint8_t *deal, size_t deal_len, const uint8_t *record, size_t record_len,
-                             uint8_t *left, size_t left_len, uint8_t *right, size_t right_len);
+/* Settles two records for one deal commitment, size and number: 0, with zeros in left and right (64 bytes each),
+ * exactly where both are accepted and the same bytes; 17 with two different strings there that have one node hash.
+ * Codes: the first one's check, the second one's, 18, 17. */
+uint32_t vz_settle_records(const uint8_t *commitment, size_t commitment_len, uint64_t size, uint64_t number,
+                           const uint8_t *first, size_t first_len, const uint8_t *second, size_t second_len,
+                           uint8_t *left, size_t left_len, uint8_t *right, size_t right_len);
+
+/* Settles a record with a deal in hand: 0, with zeros, exactly where building at its place with this number would write
+ * it; 17 with a pair as above. Codes: 2, 11, those of the check against the deal's own commitment and length and this
+ * number, 17. */
+uint32_t vz_settle_with_deal(const uint8_t *deal, size_t deal_len, uint64_t number, const uint8_t *record,
+                             size_t record_len, uint8_t *left, size_t left_len, uint8_t *right, size_t right_len);
 
 /* The tree of a deal of D bytes: a buffer that the caller keeps beside the deal, with every inner node of its tree,
  * heights from the bottom, left to right: node i of height h, from 1 on, stands at D - D / 2^(h - 1) + 32 i, and the
@@ -211,15 +217,15 @@ uint32_t vz_collect_with_tree(const uint8_t *deal, size_t deal_len, uint8_t *sec
 
 /* vz_build with the tree in hand: whether the entry is kept, and the nodes of both paths, are read there. Codes: 2, 11,
  * 12 (tree), 6, 16, 12 (record). */
-uint32_t vz_build_with_tree(const uint8_t *deal, size_t deal_len, const uint8_t *tree, size_t tree_len, uint64_t place,
-                            uint8_t *record, size_t record_len, uint64_t *length);
+uint32_t vz_build_with_tree(const uint8_t *deal, size_t deal_len, const uint8_t *tree, size_t tree_len,
+                            uint64_t number, uint64_t place, uint8_t *record, size_t record_len, uint64_t *length);
 
-/* vz_settle_with_deal with the tree in hand: the record is checked against the tree's last node and deal_len, and the
- * deal's strings are the pairs of nodes in the tree, and the entry's 64 bytes of the deal. Codes: 2, 11, 12, those of
- * the check, 17. */
+/* vz_settle_with_deal with the tree in hand: the record is checked against the tree's last node, deal_len and the
+ * number, and the deal's strings are the pairs of nodes in the tree, and the entry's 64 bytes of the deal. Codes: 2,
+ * 11, 12, those of the check, 17. */
 uint32_t vz_settle_with_tree(const uint8_t *deal, size_t deal_len, const uint8_t *tree, size_t tree_len,
-                             const uint8_t *record, size_t record_len, uint8_t *left, size_t left_len, uint8_t *right,
-                             size_t right_len);
+                             uint64_t number, const uint8_t *record, size_t record_len, uint8_t *left, size_t left_len,
+                             uint8_t *right, size_t right_len);
 
 /* The field at a place of a record: its tag, where its content starts, the content's length, the next field's place.
  * Codes: 3 where no field lies there. */

@@ -1,5 +1,6 @@
 """Calls of the library's routines, random and adversarial."""
-from model import MAX_RAW, area, filled, height, index_numbers, node_place, pad, power, segment_bit, segment_length
+from model import (MAX_RAW, area, filled, height, index_numbers, le, node_place, pad, power, segment_bit,
+                   segment_length)
 from operations import (BOOK, BUILD, CANCEL, CHECK, COLLECT, COMMITMENT, FIELDS, FILL, FIND, INSPECT, MAKE, MODEL,
                         NAMES, NUMBERS, PAD, PLAIN_FORM, READ, ROW, SETTLE, SETTLE_DEAL, SETTLE_TREE, SHA256, STREAM,
                         UNPAD, Case)
@@ -112,6 +113,24 @@ def padding_case(rng, op):
 def any_number(rng):
     return rng.choice((0, 1, 63, 64, 127, 128, 255, 256, 448, 512, 1024, 1 << 20, 1 << 36, 1 << 37, (1 << 64) - 128, (1 << 64) - 1,
                        rng.randrange(1 << 64), rng.randrange(4096)))
+
+
+def deal_number(rng):
+    """A deal's number: any 64 bits, many of them at an edge."""
+    edges = 0, 1, 1 << 63, (1 << 64) - 1, 1 << rng.randrange(64)
+    return rng.choice((*edges, rng.randrange(1 << 64), rng.randrange(1 << 64)))
+
+
+def other_number(rng, number):
+    """Another number: by one bit, by one byte, by one, with the bytes in the other order, any."""
+    others = (number ^ 1 << rng.randrange(64), number ^ rng.randrange(1, 256) << 8 * rng.randrange(8),
+              (number + rng.choice((1, -1))) % (1 << 64), int.from_bytes(le(number), "big"), deal_number(rng))
+    return rng.choice([n for n in others if n != number])
+
+
+def named_number(rng, number):
+    """The number that a caller names, or a second record: mostly this one."""
+    return number if rng.randrange(5) else other_number(rng, number)
 
 
 def segment_size(rng, d):
@@ -260,18 +279,18 @@ def tree(rng, data):
     return own
 
 
-def record_of(rng, data, tree=None):
+def record_of(rng, data, number, tree=None):
     """A record of the deal, with a tree in hand the one that it gives, or one of another shape."""
     places = standing_places(data)
     if places and rng.randrange(6):
-        code, r = MODEL.build(data, rng.choice(places), tree)
+        code, r = MODEL.build(data, number, rng.choice(places), tree)
         if code == 0:
             return r
     d = len(data) if power(len(data)) and len(data) >= 512 else 512
-    return made_up(rng, d)
+    return made_up(rng, d, number)
 
 
-def made_up(rng, d):
+def made_up(rng, d, number):
     s = segment_size(rng, d)
     a = area(s)
     nodes = lambda n: [rng.randbytes(32) for _ in range(n)]
@@ -280,13 +299,57 @@ def made_up(rng, d):
     p = place(rng, d)
     size = rng.choice((s, s, s, a, d, d // 2 + 1, 64, 0, 129, any_number(rng)))
     u, v = rng.choice(((u, v), (u, v), (u + 1, v - 1), (u, v + 1), (0, 0)))
-    return MODEL.encode(rng.choice((node(rng), rng.randbytes(32))), o, size, p, nodes(u), nodes(v))
+    return MODEL.encode(rng.choice((node(rng), rng.randbytes(32))), o, size, p, nodes(u), nodes(v), number)
+
+
+def sparse_record(rng, d, size, number):
+    """The commitment of a deal of d bytes that is zero but for one segment and its entry, and the record of it."""
+    h = MODEL.h
+    zero = [bytes(32)]
+    for _ in range(40):
+        zero.append(h.node(zero[-1] + zero[-1]))
+    _, n, start = index_numbers(d)
+    taken = area(size)
+    segment = filled(run(rng, size))
+    o = rng.randrange(start // taken) * taken
+    p = start + 64 * rng.randrange(n)
+    commitment = MODEL.tree(segment)[-1][0]
+    entry = MODEL.entry(commitment, o, size)
+    levels = [{(o + 32 * i) // 32: segment[32 * i : 32 * i + 32] for i in range(taken // 32)}]
+    levels[0][p // 32], levels[0][p // 32 + 1] = entry[:32], entry[32:]
+    top = d.bit_length() - 6
+    for k in range(top):
+        at = lambda i: levels[k].get(i, zero[k])
+        levels.append({i // 2: h.node(at(i & ~1) + at(i | 1)) for i in levels[k]})
+    path = lambda k, q: [levels[k + j].get((q >> j) ^ 1, zero[k + j]) for j in range(top - k)]
+    k = (taken // 32).bit_length() - 1
+    record = MODEL.encode(commitment, o, size, p, path(k, o // taken), path(1, p // 64), number)
+    return levels[top][0], record
+
+
+def entry_path_field(record):
+    """Where tag 6 stands in a whole record."""
+    return 71 + int.from_bytes(record[69:71], "little")
+
+
+def other_last_fields(record):
+    """A whole record without its number, as records were before request (ix); with a number that is cut, of another
+    length or tag, before another field, or there twice; with bytes after it; without its entry path."""
+    old, last, at = record[:-11], record[-11:], entry_path_field(record)
+    number = last[3:]
+    fields = [last[:n] for n in range(11)]
+    fields += [b"\7" + le(n, 2) + (number + bytes(248))[:n] for n in (0, 1, 7, 9, 16, 32, 256)]
+    fields += [b"\7\x08\1" + number, b"\7\0\x08" + number]  # 264 and 2,048 bytes announced
+    fields += [bytes([tag]) + last[1:] for tag in (0, 1, 5, 6, 8, 135)]
+    fields += [last + last, last + b"\0", last + b"\7\0\0", b"\x08\0\0" + last]
+    moved = [old[:i] + last + old[i:] for i in (0, 68, at)]
+    return [old + field for field in fields] + moved + [old[:at] + last]
 
 
 def spoil(rng, record):
     """A record damaged, cut, extended, or with its fields in another order."""
     r = bytearray(record)
-    kind = rng.randrange(9)
+    kind = rng.randrange(10)
     if kind == 0 and r:
         r[rng.randrange(len(r))] ^= 1 << rng.randrange(8)
     elif kind == 1:
@@ -295,17 +358,20 @@ def spoil(rng, record):
         r += rng.randbytes(rng.choice((1, 3, 32, 35)))
     elif kind == 3 and len(r) > 46:
         r[35:38], r[46:49] = r[46:49], r[35:38]
-    elif kind == 4 and len(r) > 74:
-        at = rng.choice((0, 35, 46, 57, 68))
+    elif kind == 4 and r:
+        at = rng.choice((0, 35, 46, 57, 68, entry_path_field(r), len(r) - 11))
         r[at + rng.randrange(3)] = rng.randrange(256)
-    elif kind == 5 and len(r) > 71:  # a number changed
-        at = rng.choice((38, 49, 60)) + rng.randrange(8)
+    elif kind == 5 and r:  # a number changed
+        at = rng.choice((38, 49, 60, len(r) - 8)) + rng.randrange(8)
         r[at] ^= 1 << rng.randrange(8)
     elif kind == 6 and len(r) > 35:  # stray bits of the commitment
         r[34] |= 192
-    elif kind == 7 and len(r) > 106:  # stray bits of a path's node
-        r[71 + 31 + 32 * rng.randrange((len(r) - 74) // 32)] |= 128
-    elif kind == 8:
+    elif kind == 7 and len(r) > 85:  # stray bits of a path's node
+        at, ends = entry_path_field(r), [*range(102, len(r), 32)]
+        r[rng.choice([e for e in ends if e < at] + [e + 3 for e in ends if at < e + 3 < len(r) - 11])] |= 128
+    elif kind == 8 and r:  # no number, or another field for it
+        r = rng.choice(other_last_fields(bytes(r)))
+    elif kind == 9:
         r = bytearray(rng.randbytes(rng.randrange(300)))
     return bytes(r)
 
@@ -385,8 +451,9 @@ def segment_for(rng, data):
 
 
 def settling_case(rng, data):
-    r, s = maybe_spoilt(rng, record_of(rng, data)), maybe_spoilt(rng, record_of(rng, data))
-    return SETTLE, r, rng.choice((s, r)), deal_size(rng, data), 0, root_of(rng, data)
+    number = deal_number(rng)
+    r, s = (maybe_spoilt(rng, record_of(rng, data, n)) for n in (number, named_number(rng, number)))
+    return SETTLE, r, rng.choice((s, r)), deal_size(rng, data), named_number(rng, number), root_of(rng, data)
 
 
 def deal_case(rng, op, data):
@@ -400,15 +467,16 @@ def deal_case(rng, op, data):
     if op == COLLECT:
         return op, data, second_deal(rng, data)
     if op == BUILD:
-        return op, data, rng.randbytes(rng.choice((0, 201, 202, 233, 234, 300, 1000, 2000))), entry_place(rng, data)
-    if op == CHECK:
-        return op, maybe_spoilt(rng, record_of(rng, data)), root_of(rng, data), deal_size(rng, data)
+        lengths = 0, 202, 212, 213, 234, 244, 245, 277, 500, 1000, 2000, 2000, 2000, 2000
+        return op, data, rng.randbytes(rng.choice(lengths)), entry_place(rng, data), deal_number(rng)
     if op == SETTLE:
         return settling_case(rng, data)
-    if op == SETTLE_DEAL:
-        return op, data, maybe_spoilt(rng, record_of(rng, data))
-    if op == FIELDS:
-        return op, maybe_spoilt(rng, record_of(rng, data))
+    if op in (CHECK, SETTLE_DEAL, FIELDS):
+        number = deal_number(rng)
+        record = maybe_spoilt(rng, record_of(rng, data, number))
+        if op == CHECK:
+            return op, record, root_of(rng, data), deal_size(rng, data), named_number(rng, number)
+        return (op, data, record, 0, named_number(rng, number)) if op == SETTLE_DEAL else (op, record)
     if op == INSPECT:
         return op, data, b"", place(rng, len(data))
     return op, data
@@ -421,7 +489,7 @@ def case(rng, op, sizes):
     if op == FILL or op in PLAIN_FORM:
         made = made._replace(op=op, c=tree(rng, made.a))
     if op == SETTLE_TREE and rng.randrange(2):
-        made = made._replace(b=maybe_spoilt(rng, record_of(rng, made.a, made.c)))
+        made = made._replace(b=maybe_spoilt(rng, record_of(rng, made.a, made.y, made.c)))
     return made
 
 

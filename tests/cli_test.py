@@ -21,9 +21,12 @@ from model import MAX_RAW, MAX_RAW_STREAM, Model, area, filled, index_numbers, p
 
 ROOT = Path(__file__).resolve().parent.parent
 BINARY = Path(os.environ.get("VIZHUTHAMEN", ROOT / "rust" / "target" / "release" / "vizhuthamen"))
-COMMANDS = ("new", "commit", "stream", "pad", "unpad", "book", "cancel", "collect", "list", "tally", "find", "build", "check", "settle",
-            "settle-deal", "show", "fsck", "repair", "salvage")
+COMMANDS = ("new", "number", "commit", "stream", "pad", "unpad", "book", "cancel", "collect", "list", "tally", "find",
+            "build", "check", "settle", "settle-deal", "show", "fsck", "repair", "salvage")
 MODEL = Model()
+NUMBER = 0xfedcba9876543210  # of the deals here, and another one
+OTHER = NUMBER + 1
+GIVEN = "--number", NUMBER
 USAGE, DATA, IO, BUSY = 64, 65, 74, 75
 
 
@@ -109,7 +112,8 @@ class MainJob(Calls):
     def test_from_a_new_deal_to_a_settled_record(self):
         a, b = self.put("a", self.segment(256)), self.put("b", self.segment(128))
         ca, cb = (MODEL.commitment(x)[1].hex() for x in (a, b))
-        self.assertEqual(self.answer("new", "deal", 1024), "size 1024\nentries 4\nstart 768\n")
+        made = self.answer("new", "deal", 1024, *GIVEN)
+        self.assertEqual(made, f"size 1024\nentries 4\nstart 768\nnumber {NUMBER}\n")
         self.assertEqual(self.get("deal"), bytes(1024))
         self.assertEqual(self.answer("book", "deal", "a"), f"offset 0\nplace 768\nsize 256\ncommitment {ca}\n")
         self.assertEqual(self.answer("book", "deal", "b"), f"offset 256\nplace 832\nsize 128\ncommitment {cb}\n")
@@ -151,17 +155,18 @@ class MainJob(Calls):
         self.assertEqual(self.get("found"), a)
 
     def settled(self, deal):
-        record = MODEL.build(deal, 768)[1]
+        record = MODEL.build(deal, NUMBER, 768)[1]
         root = MODEL.commitment(deal)[1].hex()
         self.assertEqual(self.answer("commit", "deal"), root + "\n")
         self.assertEqual(self.answer("build", "deal", 768), record.hex() + "\n")
-        self.assertEqual(self.answer("build", "deal", 768, "--output", "record"), f"length {len(record)}\n")
-        self.assertEqual(self.get("record"), record)
-        self.assertEqual(self.answer("check", root, 1024, "record"), "code 0: the record is accepted\n")
-        self.assertEqual(self.answer("settle", root, 1024, "record", "record"), "code 0: the two records are the same\n")
-        self.assertEqual(self.answer("settle-deal", "deal", "record"), "code 0: the record is the one that the deal gives\n")
+        built = self.answer("build", "deal", 768, "--output", "record")
+        self.assertEqual((built, self.get("record")), (f"length {len(record)}\nnumber {NUMBER}\n", record))
+        for words, meaning in ((("check", root, 1024, "record", *GIVEN), "the record is accepted"),
+                               (("settle", root, 1024, "record", "record", *GIVEN), "the two records are the same"),
+                               (("settle-deal", "deal", "record"), "the record is the one that the deal gives")):
+            self.assertEqual(self.answer(*words), f"code 0: {meaning}\n")
         self.answer("build", "deal", 832, "-o", "record2")
-        self.refused(18, "settle", root, 1024, "record", "record2")
+        self.refused(18, "settle", root, 1024, "record", "record2", *GIVEN)
 
     def test_the_largest_deal(self):
         self.answer("new", "deal", 1 << 24)
@@ -169,10 +174,10 @@ class MainJob(Calls):
         out = self.answer("book", "deal", "segment")
         self.assertTrue(out.startswith("offset 0\nplace 16769024\nsize 8388608\n"), out)
         self.assertEqual(self.get("deal")[: 1 << 23], segment)
-        self.answer("build", "deal", 16769024, "-o", "record")
+        self.answer("build", "deal", 16769024, "-o", "record", *GIVEN)
         root = self.answer("commit", "deal").strip()
-        self.answer("check", root, 1 << 24, "record")
-        self.answer("settle-deal", "deal", "record")
+        self.answer("check", root, 1 << 24, "record", *GIVEN)
+        self.answer("settle-deal", "deal", "record", *GIVEN)
 
     def test_the_state_of_a_standing_entry(self):
         deal = bytearray(self.booked(512, (128,))[0])
@@ -218,15 +223,15 @@ class Cancelling(Calls):
 
     def test_records_belong_to_the_old_commitment(self):
         deal, places = self.booked(1024, (256, 128))
-        self.answer("build", "deal", places[0], "-o", "record")
+        self.answer("build", "deal", places[0], "-o", "record", *GIVEN)
         old = self.answer("commit", "deal").strip()
         self.answer("cancel", "deal", places[1])
         new = self.answer("commit", "deal").strip()
-        self.answer("check", old, 1024, "record")
-        self.refused(9, "check", new, 1024, "record")
-        self.refused(9, "settle-deal", "deal", "record")
-        self.answer("build", "deal", places[0], "-o", "record")
-        self.answer("check", new, 1024, "record")
+        self.answer("check", old, 1024, "record", *GIVEN)
+        self.refused(9, "check", new, 1024, "record", *GIVEN)
+        self.refused(9, "settle-deal", "deal", "record", *GIVEN)
+        self.answer("build", "deal", places[0], "-o", "record", *GIVEN)
+        self.answer("check", new, 1024, "record", *GIVEN)
 
     def test_an_entry_that_stands_and_is_not_kept(self):
         deal, places = self.booked(512, (128,))
@@ -314,11 +319,11 @@ class Collecting(Calls):
         """A record of the old deal is the old deal's alone; at the new places the new deal has others, which are accepted."""
         old_root, new_root = (MODEL.commitment(d)[1].hex() for d in (deal, new))
         for row in self.moved(deal, new):
-            self.answer("build", "deal", row["place"], "-o", "old")
-            self.answer("build", "new", row["new_place"], "-o", "record")
-            self.answer("check", old_root, 4096, "old")
-            self.answer("check", new_root, 4096, "record")
-            self.refused(9, "check", new_root, 4096, "old")
+            self.answer("build", "deal", row["place"], "-o", "old", *GIVEN)
+            self.answer("build", "new", row["new_place"], "-o", "record", *GIVEN)
+            self.answer("check", old_root, 4096, "old", *GIVEN)
+            self.answer("check", new_root, 4096, "record", *GIVEN)
+            self.refused(9, "check", new_root, 4096, "old", *GIVEN)
             found = {"offset": row["new_offset"], "size": row["size"], "place": row["new_place"]}
             self.assertEqual(self.answer("find", "new", row["commitment"]), "".join(f"{k} {v}\n" for k, v in found.items()))
 
@@ -441,6 +446,127 @@ class Collecting(Calls):
         self.path(".new.vz-journal").unlink()
         self.answer("collect", "deal", "new")
         self.assertEqual((self.get("new"), self.files()), (MODEL.collect(deal, bytes(1024))[1], ["deal", "new", "new.vz"]))
+
+
+class Numbers(Calls):
+    def kept(self, name="deal"):
+        return self.answer("number", name)
+
+    def test_every_number(self):
+        deal, places = self.booked()
+        root = MODEL.commitment(deal)[1].hex()
+        for number in (0, 1, 1 << 63, (1 << 64) - 1, self.rng.randrange(1 << 64)):
+            record = MODEL.build(deal, number, places[0])[1]
+            out = self.answer("build", "deal", places[0], "--number", number, "-o", "record")
+            self.assertEqual((out, self.get("record")), (f"length {len(record)}\nnumber {number}\n", record))
+            self.answer("check", root, 1024, "record", "--number", number)
+            self.answer("settle", root, 1024, "record", "record", f"--number={number}")
+            self.answer("settle-deal", "deal", "record", "--number", number)
+            shown = self.answer("show", "record").splitlines()[-1]
+            self.assertEqual(shown.split(), ["7", "deal", "number", "269", "8", str(number)])
+            name = f"deal-{number}"
+            self.assertTrue(self.answer("new", name, 512, "--number", number).endswith(f"\nnumber {number}\n"))
+            self.assertEqual(self.get(name + ".vz"), f"vizhuthamen deal 1\nsize 512\nnumber {number}\n".encode())
+            self.assertEqual(self.kept(name), f"number {number}\n")
+
+    def test_a_kept_number_is_the_one_that_is_built_and_settled_with(self):
+        deal, places = self.booked()
+        record = MODEL.build(deal, NUMBER, places[0])[1]
+        self.assertEqual(self.answer("number", "deal", NUMBER), f"number {NUMBER}\n")
+        self.assertEqual((self.get("deal"), self.kept()), (deal, f"number {NUMBER}\n"))
+        for given in ((), GIVEN):
+            self.answer("build", "deal", places[0], "-o", "record", *given)
+            self.assertEqual(self.get("record"), record)
+            self.answer("settle-deal", "deal", "record", *given)
+        for words in (("build", "deal", places[0], "-o", "record"), ("settle-deal", "deal", "record")):
+            error = self.failed(DATA, *words, "--number", OTHER)
+            for part in (f"deal has the number {NUMBER}, and --number says {OTHER}", "nothing is done",
+                         f"vizhuthamen number deal {OTHER} --instead-of {NUMBER}"):
+                self.assertIn(part, error)
+        self.assertEqual(self.get("record"), record)
+        # Bookings and cancellations leave it.
+        self.put("segment", self.segment())
+        self.answer("book", "deal", "segment")
+        self.answer("cancel", "deal", places[0])
+        self.assertEqual(self.kept(), f"number {NUMBER}\n")
+
+    def test_a_number_that_is_not_known(self):
+        deal, places = self.booked()
+        self.put("record", MODEL.build(deal, NUMBER, places[0])[1])
+        for words in (("build", "deal", places[0]), ("settle-deal", "deal", "record")):
+            error = self.failed(DATA, *words)
+            self.assertIn("the number of deal is not known: give --number N, or keep it beside the deal: "
+                          "vizhuthamen number deal N\n", error)
+            error = self.failed(DATA, *("-" if w == "deal" else w for w in words), stdin=deal)
+            self.assertIn("the number of standard input is not known: give --number N\n", error)
+        error = self.failed(DATA, "number", "deal")
+        self.assertIn("no number of deal is kept; it is kept by: vizhuthamen number deal N\n", error)
+        for words in (("check", "00" * 32, 512, "record"), ("settle", "00" * 32, 512, "record", "record")):
+            self.assertIn("the deal's number is missing: give --number N", self.failed(USAGE, *words))
+        self.assertEqual(self.files(), ["deal", "record"])
+
+    def test_a_number_is_changed_where_the_old_one_is_meant(self):
+        self.booked()
+        self.answer("number", "deal", NUMBER)
+        self.answer("number", "deal", NUMBER)
+        for words in ((OTHER,), (OTHER, "--instead-of", OTHER)):
+            error = self.failed(DATA, "number", "deal", *words)
+            self.assertIn(f"deal has the number {NUMBER}; nothing is changed; if {OTHER} is right: "
+                          f"vizhuthamen number deal {OTHER} --instead-of {NUMBER}\n", error)
+        self.assertEqual(self.kept(), f"number {NUMBER}\n")
+        out, err = self.call("number", "deal", OTHER, "--instead-of", NUMBER)
+        self.assertEqual((out, self.kept()), (f"number {OTHER}\n", f"number {OTHER}\n"))
+        self.assertIn(f"records that were built with the number {NUMBER} name that number\n", err)
+        # Done already, as after a call that was killed.
+        self.assertEqual(self.call("number", "deal", OTHER, "--instead-of", NUMBER), (f"number {OTHER}\n", ""))
+        self.path("deal.vz").unlink()
+        error = self.failed(DATA, "number", "deal", NUMBER, "--instead-of", OTHER)
+        self.assertIn(f"no number of deal is kept, and --instead-of says {OTHER}; nothing is changed", error)
+        self.assertEqual(self.files(), ["deal"])
+
+    def test_a_record_of_another_deal_is_named(self):
+        """The right record for the wrong deal, and its number: in the text and for programs."""
+        deal, places = self.booked()
+        root = MODEL.commitment(deal)[1].hex()
+        self.put("mine", MODEL.build(deal, NUMBER, places[0])[1])
+        self.put("other", MODEL.build(deal, OTHER, places[0])[1])
+        hint = (f"other names deal number {OTHER}, and {NUMBER} is asked for: it is the record of another deal, or "
+                f"{NUMBER} is not this deal's number")
+        for words in (("check", root, 1024, "other", *GIVEN), ("settle", root, 1024, "other", "mine", *GIVEN),
+                      ("settle", root, 1024, "mine", "other", *GIVEN), ("settle-deal", "deal", "other", *GIVEN)):
+            meaning, told = self.refused(21, *words).splitlines()
+            self.assertEqual(told, hint)
+            value = json.loads(self.answer(*words, "--json", status=21))
+            self.assertEqual(value, {"code": 21, "meaning": meaning[len("code 21: "):], "number": NUMBER,
+                                     "record_number": OTHER, "hint": hint})
+        # 1, 2 and 3 come before it; it comes before all else.
+        spoilt = bytearray(self.get("other"))
+        spoilt[49:57] = bytes(8)
+        self.put("other", bytes(spoilt))
+        self.refused(21, "check", root, 1024, "other", *GIVEN)
+        self.refused(4, "check", root, 1024, "other", "--number", OTHER)
+        self.refused(1, "check", root[:-2], 1024, "other", *GIVEN)
+        self.refused(2, "check", root, 1000, "other", *GIVEN)
+        self.put("other", bytes(spoilt[:-1]))
+        self.refused(3, "check", root, 1024, "other", *GIVEN)
+
+    def test_a_collected_deal_has_the_number_of_the_old_one(self):
+        deal, places = self.booked()
+        self.call("collect", "deal", "unknown")
+        self.assertEqual(self.get("unknown.vz"), b"vizhuthamen deal 1\nsize 1024\n")
+        self.answer("number", "deal", NUMBER)
+        out, err = self.call("collect", "deal", "new")
+        self.assertEqual(self.kept("new"), f"number {NUMBER}\n")
+        self.assertIn(f"new has the number {NUMBER} of deal, whose place it takes; if it is another deal: "
+                      f"vizhuthamen number new N --instead-of {NUMBER}\n", err)
+        out, err = self.call("collect", "deal", "another", "--number", OTHER)
+        self.assertEqual((self.kept("another"), self.kept()), (f"number {OTHER}\n", f"number {NUMBER}\n"))
+        self.assertNotIn("whose place it takes", err)
+        self.answer("collect", "-", "piped", stdin=deal)
+        self.failed(DATA, "number", "piped")
+        self.answer("build", "new", places[0], "-o", "record")
+        self.answer("settle-deal", "new", "record")
+        self.refused(21, "settle-deal", "another", "record")
 
 
 class Streams(Calls):
@@ -765,6 +891,9 @@ class Archives(Calls):
         self.assertEqual(self.files(), ["raw", "segment", "spoilt"])
 
 
+DONE = {"code": 0, "meaning": "done"}
+
+
 class Json(Calls):
     def object(self, *words, status=0):
         out = self.answer(*words, "--json", status=status)
@@ -776,22 +905,28 @@ class Json(Calls):
 
     def test_every_command(self):
         deal, places = self.booked()
-        record = self.put("record", MODEL.build(deal, places[0])[1])
+        record = self.put("record", MODEL.build(deal, NUMBER, places[0])[1])
         root, commitment = MODEL.commitment(deal)[1].hex(), deal[places[0] : places[0] + 32].hex()
         padded = self.object("pad", "record")
         self.assertEqual(padded["length"], segment_length(len(record)))
         self.put("padded", bytes.fromhex(padded["segment"]))
         raw = self.object("unpad", len(record), "padded")
         self.assertEqual((raw["length"], raw["raw"]), (len(record), record.hex()))
-        new = self.object("new", "other", 512)
-        self.assertEqual((new["size"], new["entries"], new["start"]), (512, 4, 256))
+        self.assertEqual(self.object("new", "other", 512), {**DONE, "size": 512, "entries": 4, "start": 256})
+        new = self.object("new", "numbered", 512, *GIVEN)
+        self.assertEqual(new, {**DONE, "size": 512, "entries": 4, "start": 256, "number": NUMBER})
+        self.assertEqual(self.object("number", "deal", NUMBER), {**DONE, "number": NUMBER})
+        self.assertEqual(self.object("number", "deal"), {**DONE, "number": NUMBER})
         for command in ("commit", "stream"):
             hashed = self.object(command, "deal")
             self.assertEqual((hashed["commitment"], hashed["size"]), (root, 1024))
         self.put("segment", deal[:256])
         again = self.object("book", "deal", "segment", status=15)
         self.assertEqual((again["offset"], again["place"], again["commitment"]), (0, places[0], commitment))
-        slots = self.object("list", "deal")["slots"]
+        self.assertNotIn("number", self.object("list", "other"))
+        listed = self.object("list", "deal")
+        self.assertEqual((listed["size"], listed["number"], listed["start"]), (1024, NUMBER, 768))
+        slots = listed["slots"]
         self.assertEqual([s["state"] for s in slots], ["kept", "kept", "blank", "blank"])
         self.assertEqual(slots[0], {"slot": 0, "place": places[0], "state": "kept", "offset": 0, "size": 256, "commitment": commitment})
         tally = self.object("tally", "deal")
@@ -799,23 +934,27 @@ class Json(Calls):
         found = self.object("find", "deal", commitment)
         self.assertEqual((found["offset"], found["size"], found["place"]), (0, 256, places[0]))
         built = self.object("build", "deal", places[0])
-        self.assertEqual((built["record"], built["length"]), (record.hex(), len(record)))
-        self.object("check", root, 1024, "record")
-        self.object("settle", root, 1024, "record", "record")
-        self.object("settle-deal", "deal", "record")
-        self.assertEqual([m["new_place"] for m in self.object("collect", "deal", "collected")["moved"]], places)
+        self.assertEqual(built, {**DONE, "length": len(record), "number": NUMBER, "record": record.hex()})
+        built = self.object("build", "deal", places[0], "-o", "record")
+        self.assertEqual(built, {**DONE, "length": len(record), "number": NUMBER})
+        for words in (("check", root, 1024, "record", *GIVEN), ("settle", root, 1024, "record", "record", *GIVEN),
+                      ("settle-deal", "deal", "record")):
+            self.assertEqual(self.object(*words)["number"], NUMBER)
+        collected = self.object("collect", "deal", "collected")
+        self.assertEqual(([m["new_place"] for m in collected["moved"]], collected["number"]), (places, NUMBER))
         cancelled = self.object("cancel", "deal", places[0])
-        self.assertEqual(cancelled, {"code": 0, "meaning": "done", "offset": 0, "place": places[0], "size": 256, "commitment": commitment})
+        self.assertEqual(cancelled, {**DONE, "offset": 0, "place": places[0], "size": 256, "commitment": commitment})
         self.object("cancel", "deal", places[0], status=16)
         fields = self.object("show", "record")["fields"]
-        self.assertEqual([f["tag"] for f in fields], [1, 2, 3, 4, 5, 6])
-        self.assertEqual([f.get("value") for f in fields], [None, 0, 256, places[0], None, None])
+        self.assertEqual([f["tag"] for f in fields], [1, 2, 3, 4, 5, 6, 7])
+        self.assertEqual([f.get("value") for f in fields], [None, 0, 256, places[0], None, None, NUMBER])
+        self.assertEqual((fields[6]["name"], fields[6]["content"]), ("deal number", NUMBER.to_bytes(8, "little").hex()))
         self.assertEqual(b"".join(bytes.fromhex(f["content"]) for f in fields)[:32], record[3:35])
 
     def test_refusals(self):
         self.booked()
         self.assertEqual(self.object("find", "deal", "00" * 31, status=1), {"code": 1, "meaning": "a commitment is not 32 bytes long"})
-        self.assertEqual(self.object("build", "deal", 960, status=16)["code"], 16)
+        self.assertEqual(self.object("build", "deal", 960, *GIVEN, status=16)["code"], 16)
         self.put("record", b"\2\10\0" + b"\xff" * 8)
         shown = self.object("show", "record", status=3)
         self.assertEqual(shown["fields"][0]["value"], (1 << 64) - 1)
@@ -831,23 +970,24 @@ class Refusals(Calls):
 
     def test_the_codes_of_the_check(self):
         deal, places = self.booked(512, (128,))
-        record = self.put("record", MODEL.build(deal, places[0])[1])
+        record = self.put("record", MODEL.build(deal, NUMBER, places[0])[1])
         root = MODEL.commitment(deal)[1].hex()
-        self.refused(1, "check", root[:-2], 512, "record")
-        self.refused(1, "check", "", 512, "record")
-        self.refused(2, "check", root, 513, "record")
-        self.refused(2, "check", root, 1 << 37, "record")
-        self.put("cut", record[:-1])
-        self.refused(3, "check", root, 512, "cut")
+        self.refused(1, "check", root[:-2], 512, "record", *GIVEN)
+        self.refused(1, "check", "", 512, "record", *GIVEN)
+        self.refused(2, "check", root, 513, "record", *GIVEN)
+        self.refused(2, "check", root, 1 << 37, "record", *GIVEN)
+        for length in (244, 234):  # cut, and without its number
+            self.put("cut", record[:length])
+            self.refused(3, "check", root, 512, "cut", *GIVEN)
         cases = ((4, 49, 0), (5, 38, 64), (6, 60, 1), (7, 50, 1), (8, 34, 255), (9, 72, record[72] ^ 1), (10, 233, record[233] ^ 1),
-                 (19, 102, 255), (19, 233, 64))
+                 (19, 102, 255), (19, 233, 64), (21, 237, record[237] ^ 1), (21, 244, record[244] ^ 128))
         for code, at, value in cases:
             self.changed(record, at, value)
             if code == 7:  # a segment of 256 bytes with the path of one of 128
                 self.put("changed", record[:49] + b"\0\1" + record[51:])
-            self.refused(code, "check", root, 512, "changed")
-            self.refused(code, "settle", root, 512, "record", "changed")
-            self.refused(code, "settle-deal", "deal", "changed")
+            self.refused(code, "check", root, 512, "changed", *GIVEN)
+            self.refused(code, "settle", root, 512, "record", "changed", *GIVEN)
+            self.refused(code, "settle-deal", "deal", "changed", *GIVEN)
 
     def test_the_codes_of_deals(self):
         deal, places = self.booked(512, (128, 128))
@@ -860,9 +1000,9 @@ class Refusals(Calls):
         self.refused(11, "tally", "strayed")
         self.refused(4, "book", "deal", "deal")
         self.refused(16, "find", "deal", "00" * 32)
-        self.refused(16, "build", "deal", 384)
-        self.refused(6, "build", "deal", 300)
-        self.refused(6, "build", "deal", 512)
+        self.refused(16, "build", "deal", 384, *GIVEN)
+        self.refused(6, "build", "deal", 300, *GIVEN)
+        self.refused(6, "build", "deal", 512, *GIVEN)
         self.assertEqual(self.get("deal"), deal)
         self.booked(1024, (128,) * 4)
         self.refused(13, "book", "deal", "third")
@@ -870,7 +1010,8 @@ class Refusals(Calls):
     def test_wrong_sizes_are_named(self):
         self.put("short", bytes(1000))
         for words in (("list", "short"), ("tally", "short"), ("book", "short", "short"), ("find", "short", "00" * 32),
-                      ("build", "short", 0), ("commit", "short"), ("settle-deal", "short", "short")):
+                      ("build", "short", 0, *GIVEN), ("commit", "short"), ("settle-deal", "short", "short", *GIVEN),
+                      ("number", "short", 7)):
             out, err = self.call(*words, status=2)
             self.assertTrue(out.startswith("code 2: "))
             self.assertIn("short has 1000 bytes", err)
@@ -884,9 +1025,12 @@ class Refusals(Calls):
 
     def test_a_malformed_record_is_shown_as_far_as_it_goes(self):
         deal, places = self.booked()
-        self.put("cut", MODEL.build(deal, places[0])[1][:70])
+        record = MODEL.build(deal, NUMBER, places[0])[1]
+        self.put("cut", record[:70])
         lines = self.refused(3, "show", "cut").splitlines()
         self.assertEqual([line.split()[0] for line in lines], ["code", "tag", "1", "2", "3", "4", "unread"])
+        self.put("old", record[:-11])  # as records were without a number
+        self.assertNotIn("deal number", self.refused(3, "show", "old"))
         self.put("empty", b"")
         self.refused(3, "show", "empty")
 
@@ -900,11 +1044,20 @@ class Usage(Calls):
             self.assertTrue(text.startswith(f"Usage: vizhuthamen {command} "), text)
             self.assertEqual(text, self.answer("help", command))
         self.assertIn("DEAL is locked", self.answer("book", "--help"))
+        for usage in ("number DEAL [N] [--no-wait] [--instead-of N]", "check COMMITMENT SIZE RECORD --number N",
+                      "build DEAL PLACE [--output FILE] [--number N]"):
+            first = self.answer(usage.split()[0], "--help").splitlines()[0]
+            self.assertEqual(first, f"Usage: vizhuthamen {usage} [--json]")
         self.assertRegex(self.answer("--version"), r"\Avizhuthamen \d+\.\d+\.\d+\n\Z")
 
     def test_wrong_usage(self):
         calls = ((), ("nothing",), ("new", "d"), ("new", "d", "0x200"), ("new", "d", "-1"), ("new", "d", "512", "512"),
-                 ("find", "d", "xyz"), ("list", "--all", "d"), ("list", "d", "--output", "f"), ("settle", "00", "512", "-", "-"),
+                 ("find", "d", "xyz"), ("list", "--all", "d"), ("list", "d", "--output", "f"),
+                 ("settle", "00", "512", "-", "-", *GIVEN), ("settle", "00", "512", "r", "r"),
+                 ("check", "00", "512", "r"), ("check", "00", "512", "r", "--number", "0x1"),
+                 ("check", "00", "512", "r", "--number", 1 << 64), ("number", "d", -1), ("number", "d", 1 << 64),
+                 ("number", "-"), ("number", "-", 1),
+                 ("number", "d", "--instead-of", 1), ("new", "d", "512", "--number", ""),
                  ("build", "d", str(1 << 64)), ("build", "d", "256", "-o", "-", "--json"), ("new", "-", "512"), ("book", "-", "s"),
                  ("list", ""))
         for words in calls:
@@ -914,21 +1067,22 @@ class Usage(Calls):
     def test_standard_input(self):
         deal, places = self.booked()
         segment = deal[:256]
-        record = self.put("record", MODEL.build(deal, places[0])[1])
+        record = self.put("record", MODEL.build(deal, NUMBER, places[0])[1])
         root, commitment = MODEL.commitment(deal)[1].hex(), deal[places[0] : places[0] + 32].hex()
         self.assertEqual(self.answer("commit", "-", stdin=deal), root + "\n")
         self.refused(15, "book", "deal", "-", stdin=segment)
-        for words in (("list", "deal"), ("tally", "deal"), ("find", "deal", commitment), ("build", "deal", places[0])):
+        for words in (("list", "deal"), ("tally", "deal"), ("find", "deal", commitment),
+                      ("build", "deal", places[0], *GIVEN)):
             piped = ["-" if w == "deal" else w for w in words]
             self.assertEqual(self.answer(*piped, stdin=deal), self.answer(*words))
-        self.answer("check", root, 1024, "-", stdin=record)
-        self.answer("settle", root, 1024, "record", "-", stdin=record)
-        self.answer("settle-deal", "-", "record", stdin=deal)
+        self.answer("check", root, 1024, "-", *GIVEN, stdin=record)
+        self.answer("settle", root, 1024, "record", "-", *GIVEN, stdin=record)
+        self.answer("settle-deal", "-", "record", *GIVEN, stdin=deal)
         self.assertEqual(self.answer("show", "-", stdin=record), self.answer("show", "record"))
 
     def test_bytes_to_standard_output(self):
         deal, places = self.booked()
-        for words, data in ((("build", "deal", places[0]), MODEL.build(deal, places[0])[1]),
+        for words, data in ((("build", "deal", places[0], *GIVEN), MODEL.build(deal, NUMBER, places[0])[1]),
                             (("pad", "deal"), pad(deal, bytes(segment_length(1024)))[2]),
                             (("unpad", 1016, "deal"), unpad(1016, deal, bytes(1016))[2]),
                             (("find", "deal", deal[places[0] : places[0] + 32].hex()), deal[:256])):
@@ -937,10 +1091,11 @@ class Usage(Calls):
 
     def test_random_words_and_bytes_never_end_in_a_panic(self):
         deal, places = self.booked()
-        self.put("record", MODEL.build(deal, places[0])[1])
+        self.put("record", MODEL.build(deal, NUMBER, places[0])[1])
         self.put("empty", b"")
         words = [*COMMANDS, "deal", "record", "empty", "missing", ".", "-", "--json", "--output", "made", "--", "0", "512", "1024",
-                 "--force", "--no-wait", "--new-owner", "--segment", "--raw", "--commitment", "--place", "--state", "--resume", "--progress",
+                 "--force", "--no-wait", "--new-owner", "--segment", "--raw", "--commitment", "--place", "--number",
+                 "--instead-of", "--state", "--resume", "--progress",
                  str(places[0]), "00" * 32, "ff", "", "\udcff", "--help", MODEL.commitment(deal)[1].hex()]
         for _ in range(400):
             call = [self.rng.choice(COMMANDS), *self.rng.choices(words, k=self.rng.randrange(5))]
@@ -958,8 +1113,8 @@ class Usage(Calls):
             self.put("file", bytes(data))
             raw_length = str(len(data) * 127 // 128)
             for words in (("show", "file"), ("list", "file"), ("tally", "file"), ("commit", "file"), ("stream", "file"),
-                          ("stream", "--raw", "file"),
-                          ("settle-deal", "file", "file"), ("pad", "file"), ("unpad", raw_length, "file"), ("fsck", "file"),
+                          ("stream", "--raw", "file"), ("settle-deal", "file", "file", "--number", "7"),
+                          ("pad", "file"), ("unpad", raw_length, "file"), ("fsck", "file"),
                           *((("collect", "file", "new"), ("salvage", "file", "out"), ("cancel", "file", "832"), ("repair", "file"))
                             if i % 8 == 0 else ())):
                 ran = subprocess.run([self.program, *words], capture_output=True, cwd=self.folder)
@@ -978,8 +1133,10 @@ class Failures(Calls):
                       ("tally", "missing"), ("list", "folder"), ("book", "missing", "deal"), ("book", "folder", "deal"),
                       ("book", "deal", "missing"), ("cancel", "missing", 768), ("cancel", "folder", 768), ("collect", "missing", "new"),
                       ("collect", "folder", "new"),
-                      ("show", "missing"), ("settle-deal", "deal", "missing"), ("check", "00" * 32, 512, "missing"),
-                      ("build", "missing", 0), ("find", "missing", "00" * 32)):
+                      ("show", "missing"), ("settle-deal", "deal", "missing", *GIVEN),
+                      ("check", "00" * 32, 512, "missing", *GIVEN),
+                      ("build", "missing", 0, *GIVEN), ("build", "missing", 0), ("find", "missing", "00" * 32),
+                      ("number", "missing"), ("number", "folder"), ("number", "missing", 7), ("number", "folder", 7)):
             self.assertIn("missing" if "missing" in words else "folder", self.failed(IO, *words))
         self.path("deal").chmod(0)
         self.failed(IO, "list", "deal", **nobody())
@@ -1049,7 +1206,8 @@ class Failures(Calls):
         self.failed(IO, "book", "deal", "segment", **nobody())
         self.failed(IO, "cancel", "deal", 768, **nobody())
         self.failed(IO, "collect", "deal", "new", **nobody())
-        self.failed(IO, "build", "deal", 768, "-o", "record", **nobody())
+        self.failed(IO, "build", "deal", 768, "-o", "record", *GIVEN, **nobody())
+        self.failed(IO, "number", "deal", 7, **nobody())
         self.folder.chmod(0o777)
         self.assertEqual(self.get("deal"), deal)
         self.assertEqual(self.files(), ["deal", "segment"])
@@ -1076,17 +1234,17 @@ class Failures(Calls):
     def test_outputs(self):
         deal, places = self.booked()
         for name in ("deal", "./deal", str(self.path("deal"))):
-            self.failed(USAGE, "build", "deal", places[0], "-o", name)
+            self.failed(USAGE, "build", "deal", places[0], "-o", name, *GIVEN)
         self.assertEqual(self.get("deal"), deal)
         self.put("record", b"an old and longer file" * 100)
-        self.answer("build", "deal", places[0], "-o", "record")
-        self.assertEqual(self.get("record"), MODEL.build(deal, places[0])[1])
+        self.answer("build", "deal", places[0], "-o", "record", *GIVEN)
+        self.assertEqual(self.get("record"), MODEL.build(deal, NUMBER, places[0])[1])
         self.path("folder").mkdir()
-        self.failed(IO, "build", "deal", places[0], "-o", "folder")
-        self.failed(IO, "build", "deal", places[0], "-o", "no/such/file")
-        self.answer("build", "deal", places[0], "-o", "/dev/null")
+        self.failed(IO, "build", "deal", places[0], "-o", "folder", *GIVEN)
+        self.failed(IO, "build", "deal", places[0], "-o", "no/such/file", *GIVEN)
+        self.answer("build", "deal", places[0], "-o", "/dev/null", *GIVEN)
         self.assertTrue(stat.S_ISCHR(os.stat("/dev/null").st_mode))
-        self.failed(IO, "build", "deal", places[0], "-o", "/dev/full")
+        self.failed(IO, "build", "deal", places[0], "-o", "/dev/full", *GIVEN)
         self.assertEqual(self.files(), ["deal", "folder", "record"])
 
     def test_a_full_or_closed_standard_output(self):

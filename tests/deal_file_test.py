@@ -14,7 +14,7 @@ import time
 import unittest
 from concurrent.futures import ThreadPoolExecutor
 
-from cli_test import BINARY, BUSY, DATA, IO, MODEL, Calls, nobody
+from cli_test import BINARY, BUSY, DATA, GIVEN, IO, MODEL, NUMBER, OTHER, Calls, nobody
 from model import area, filled, index_numbers, pad, segment_length
 
 MIB = 1 << 20
@@ -60,7 +60,7 @@ class Locks(Deals):
         before = self.get("deal")
         held = self.held()
         for words in (("book", "deal", "segment"), ("cancel", "deal", 768), ("collect", "deal", "new"), ("repair", "deal"),
-                      ("fsck", "deal"), ("salvage", "deal", "out")):
+                      ("fsck", "deal"), ("salvage", "deal", "out"), ("number", "deal", 7)):
             self.assertIn("in use by another process", self.failed(BUSY, *words, "--no-wait"))
         self.assertEqual((self.get("deal"), self.files()), (before, ["deal", "segment"]))
         held.close()
@@ -75,14 +75,16 @@ class Locks(Deals):
         self.answer("collect", "deal", "new", "--no-wait")
         self.failed(BUSY, "book", "deal", "segment", "--no-wait")
         self.failed(BUSY, "cancel", "deal", 768, "--no-wait")
+        self.failed(BUSY, "number", "deal", 7, "--no-wait")
         held.close()
         self.answer("book", "deal", "segment", "--no-wait")
 
     def test_plain_reading_needs_no_lock(self):
         deal, _, places = self.deal_of(1024, (128,))
+        self.answer("number", "deal", NUMBER)
         self.held()
         for words in (("list", "deal"), ("tally", "deal"), ("commit", "deal"), ("build", "deal", places[0]),
-                      ("find", "deal", deal[places[0] : places[0] + 32].hex())):
+                      ("number", "deal"), ("find", "deal", deal[places[0] : places[0] + 32].hex())):
             self.answer(*words)
 
     def waiting(self, *words):
@@ -270,6 +272,53 @@ class Races(Deals):
         self.assertEqual(self.get("deal"), states[-1])
         self.assertGreater(len(met), 3)
 
+    def test_one_of_several_numbers_is_kept(self):
+        for processes in range(2, 9):
+            self.deal_of(1024, (128,))
+            self.path("deal.vz").unlink(missing_ok=True)
+            calls = [subprocess.Popen([self.program, "number", "deal", str(n)], cwd=self.folder, stdout=subprocess.PIPE,
+                                      stderr=subprocess.PIPE) for n in range(processes)]
+            answers = [(call.communicate(timeout=60), call.returncode)[1] for call in calls]
+            self.assertEqual(sorted(answers), [0] + [DATA] * (processes - 1))
+            self.assertEqual(self.answer("number", "deal"), f"number {answers.index(0)}\n")
+
+    def test_numbers_and_bookings_at_once(self):
+        """A booking puts the size beside a deal of which nothing is known. The number is not lost, whoever is first."""
+        for i in range(12):
+            deal, *_ = self.deal_of(1024, (128,))
+            self.path("deal.vz").unlink(missing_ok=True)
+            segments = [self.put(f"s{s}", self.segment()) for s in range(2)]
+            calls = [("book", "deal", "s0"), ("number", "deal", str(i)), ("book", "deal", "s1")]
+            started = [subprocess.Popen([self.program, *call], cwd=self.folder, stdout=subprocess.DEVNULL)
+                       for call in calls]
+            self.assertEqual([call.wait(timeout=60) for call in started], [0, 0, 0])
+            self.assertEqual(self.get("deal.vz"), f"vizhuthamen deal 1\nsize 1024\nnumber {i}\n".encode())
+            ends = [MODEL.book(MODEL.book(deal, a)[3], b)[3] for a, b in (segments, segments[::-1])]
+            self.assertIn(self.get("deal"), ends)
+        self.assertEqual(self.files(), ["deal", "deal.vz", "s0", "s1"])
+
+    def test_a_record_has_a_number_that_was_kept(self):
+        """One process after the other changes the number, while others build."""
+        deal, _, places = self.deal_of(1024, (128,))
+        self.answer("number", "deal", 0)
+        records = [MODEL.build(deal, n, places[0])[1].hex() for n in range(40)]
+        done, met = threading.Event(), set()
+
+        def building():
+            while not done.is_set():
+                out = self.answer("build", "deal", places[0]).strip()
+                self.assertIn(out, records)
+                met.add(records.index(out))
+
+        with ThreadPoolExecutor(2) as pool:
+            others = [pool.submit(building) for _ in range(2)]
+            for n in range(1, 40):
+                self.answer("number", "deal", n, "--instead-of", n - 1)
+            done.set()
+            for other in others:
+                other.result()
+        self.assertGreater(len(met), 3)
+
     def test_a_place_that_was_booked_again_meanwhile(self):
         deal, _, places = self.deal_of(1024, (128, 256))
         commitment = deal[places[0] : places[0] + 32].hex()
@@ -332,8 +381,9 @@ class ByteStreams(Deals):
     def test_refusals_do_not_become_data(self):
         deal, _, places = self.deal_of(1024, (128,))
         self.put("empty", b"")
-        for code, words in ((16, ("find", "deal", "00" * 32)), (16, ("build", "deal", 960)), (6, ("build", "deal", 1)),
-                            (2, ("pad", "empty")), (24, ("unpad", 127, "empty")), (2, ("unpad", 0, "empty")), (2, ("find", "empty", "00"))):
+        for code, words in ((16, ("find", "deal", "00" * 32)), (16, ("build", "deal", 960, *GIVEN)),
+                            (6, ("build", "deal", 1, *GIVEN)), (2, ("pad", "empty")),
+                            (24, ("unpad", 127, "empty")), (2, ("unpad", 0, "empty")), (2, ("find", "empty", "00"))):
             code = 1 if words[-1] == "00" else code
             ran = self.piped(*words, "-o", "-")
             self.assertEqual((ran.returncode, ran.stdout), (code, b""), words)
@@ -383,7 +433,8 @@ class Sidecar(Deals):
         cut = self.get("deal")
         for words in (("book", "deal", "segment"), ("cancel", "deal", MIB - 64), ("collect", "deal", "new"), ("repair", "deal"),
                       ("list", "deal"), ("tally", "deal"), ("commit", "deal"), ("stream", "deal"), ("build", "deal", 0),
-                      ("find", "deal", "00" * 32), ("settle-deal", "deal", "segment")):
+                      ("build", "deal", 0, *GIVEN), ("find", "deal", "00" * 32), ("settle-deal", "deal", "segment"),
+                      ("number", "deal"), ("number", "deal", 7)):
             error = self.failed(DATA, *words)
             self.assertIn(f"has {MIB} bytes, and", error)
             self.assertIn(f"says that it has {2 * MIB}", error)
@@ -401,9 +452,76 @@ class Sidecar(Deals):
                      b"vizhuthamen deal 1\nsize 1024\nsize 512\n"):
             self.put("deal.vz", text)
             self.assertIn("deal.vz cannot be understood", self.failed(DATA, "book", "deal", "segment"))
-        self.put("deal.vz", b"vizhuthamen deal 1\nlater word\nsize 1024\n")
+        for number in (b"", b"x", b"-1", b"0x7", b"%d" % (1 << 64), b"7\nnumber 7"):
+            self.put("deal.vz", b"vizhuthamen deal 1\nsize 1024\nnumber %s\n" % number)
+            for words in (("book", "deal", "segment"), ("build", "deal", 768), ("build", "deal", 768, *GIVEN),
+                          ("number", "deal"), ("number", "deal", 7), ("collect", "deal", "new")):
+                self.assertIn("deal.vz cannot be understood", self.failed(DATA, *words))
+            self.assertIn("cannot be understood", self.object("fsck", "deal", status=DATA)["disagrees"])
+        self.assertEqual((self.get("deal"), self.files()), (deal, ["deal", "deal.vz", "segment"]))
+
+    def test_words_that_are_not_known_stay(self):
+        self.deal_of(1024, (128,))
+        self.put("segment", self.segment())
+        known = self.put("deal.vz", b"vizhuthamen deal 1\nlater word\nsize 1024\n")
         self.answer("book", "deal", "segment")
-        self.assertEqual(self.get("deal.vz"), b"vizhuthamen deal 1\nlater word\nsize 1024\n")
+        self.assertEqual(self.get("deal.vz"), known)
+        for number, old in ((7, ()), (8, ("--instead-of", 7))):
+            self.answer("number", "deal", number, *old)
+            self.assertEqual(self.get("deal.vz"), known + b"number %d\n" % number)
+        self.path("deal.vz").unlink()
+        self.answer("number", "deal", 9)
+        self.assertEqual(self.get("deal.vz"), b"vizhuthamen deal 1\nsize 1024\nnumber 9\n")
+
+    def test_what_is_kept_has_the_attributes_of_the_old_file_or_of_the_deal(self):
+        self.deal_of(1024, (128,))
+        owner = (1234, 1235) if os.getuid() == 0 else (os.getuid(), os.getgid())
+        self.path("deal").chmod(0o640)
+        os.chown(self.path("deal"), *owner)
+        for number, mode, old in ((7, 0o640, ()), (8, 0o604, ("--instead-of", 7))):
+            self.answer("number", "deal", number, *old)
+            info = self.path("deal.vz").stat()
+            self.assertEqual((stat.S_IMODE(info.st_mode), info.st_uid, info.st_gid), (mode, *owner))
+            self.path("deal.vz").chmod(0o604)
+
+    def test_links_are_not_replaced(self):
+        self.deal_of(1024, (128,))
+        self.path("folder").mkdir()
+        self.path("folder/link").symlink_to("../deal")
+        self.answer("number", "folder/link", 7)
+        self.assertEqual(self.answer("number", "deal"), "number 7\n")
+        os.link(self.path("deal.vz"), self.path("second"))
+        self.assertIn("cannot replace", self.failed(IO, "number", "deal", 8, "--instead-of", 7))
+        self.path("deal.vz").unlink()
+        self.path("deal.vz").symlink_to("second")
+        self.assertIn("cannot replace", self.failed(IO, "number", "deal", 8, "--instead-of", 7))
+        self.assertEqual(self.answer("number", "deal"), "number 7\n")
+        self.assertEqual(sorted(p.name for p in self.path("folder").iterdir()), ["link"])
+
+    def test_a_number_beside_a_deal_that_is_gone_is_not_the_new_deals(self):
+        self.answer("new", "deal", 1024, *GIVEN)
+        known = self.get("deal.vz")
+        self.path("deal").unlink()
+        self.deal_of(1024, (128,), "source")
+        for number in ((), ("--number", OTHER)):
+            for words in (("new", "deal", 1024), ("collect", "source", "deal")):
+                error = self.failed(DATA, *words, *number)
+                self.assertIn(f"deal.vz is there and says the number {NUMBER}, and deal is to have", error)
+                self.assertIn("Remove", error)
+        self.assertEqual((self.get("deal.vz"), self.files()), (known, ["deal.vz", "source"]))
+        self.answer("new", "deal", 1024, *GIVEN)
+        self.put("other.vz", b"vizhuthamen deal 1\nsize 1024\n")
+        self.assertIn("says no number", self.failed(DATA, "new", "other", 1024, *GIVEN))
+
+    @unittest.skipIf(os.getuid() != 0, "needs another user")
+    def test_a_number_that_may_not_be_read_is_given(self):
+        deal, _, places = self.deal_of(1024, (128,))
+        self.answer("number", "deal", NUMBER)
+        self.path("deal.vz").chmod(0)
+        self.assertIn("is not known: give --number N", self.failed(DATA, "build", "deal", places[0], **nobody()))
+        out = self.answer("build", "deal", places[0], *GIVEN, **nobody())
+        self.assertEqual(out, MODEL.build(deal, NUMBER, places[0])[1].hex() + "\n")
+        self.assertIn("cannot read", self.failed(IO, "collect", "deal", "new", **nobody()))
 
     def test_nothing_is_known_of_a_pipe(self):
         self.deal_of(1024, (128,))

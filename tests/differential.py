@@ -17,8 +17,9 @@ from collections import Counter
 from pathlib import Path
 
 import change_cases
+import number_cases
 import tree_cases
-from cases import cases, deal, node, paddings, place, run, spoil, strayed, streams
+from cases import cases, deal, deal_number, node, paddings, place, run, spoil, strayed, streams
 from model import MAX_RAW, area, index_numbers
 from operations import (BOOK, BOOK_TREE, BUILD, BUILD_TREE, CANCEL, CANCEL_TREE, CHECK, COLLECT, COLLECT_TREE,
                         COMMITMENT, FIELDS, FILL, FIND, INSPECT, MAKE, MODEL, NAMES, NUMBERS, PAD, READ, ROW, SETTLE,
@@ -33,10 +34,11 @@ BATCH = 2000
 # The codes that a run of the default length must meet. 17 needs a collision of SHA-256, or a tree that is not the deal's, and 2 of
 # sha256 a long message (--large).
 CODES = {SHA256: {0}, COMMITMENT: {0, 2, 11}, NUMBERS: {0, 2}, MAKE: {0, 1, 8}, READ: {0, 2}, FIND: {0, 1, 2, 11, 16},
-         BOOK: {0, 2, 4, 11, 13, 14, 15}, BUILD: {0, 2, 6, 11, 12, 16}, CHECK: {*range(11), 19}, SETTLE: {*range(11), 18, 19},
-         SETTLE_DEAL: {0, *range(2, 12), 19}, FIELDS: {0}, INSPECT: {0, 2, 6, 11}, STREAM: {0, 2, 11},
-         PAD: {0, 2, 12}, UNPAD: {0, 2, 11, 12, 24}, TALLY: {0, 2, 11}, FILL: {0, 2, 11, 12}, BOOK_TREE: {0, 2, 4, 11, 12, 13, 14, 15},
-         BUILD_TREE: {0, 2, 6, 11, 12, 16}, SETTLE_TREE: {0, *range(2, 13), 17, 19}, CANCEL: {0, 2, 6, 11, 16},
+         BOOK: {0, 2, 4, 11, 13, 14, 15}, BUILD: {0, 2, 6, 11, 12, 16}, CHECK: {*range(11), 19, 21},
+         SETTLE: {*range(11), 18, 19, 21}, SETTLE_DEAL: {0, *range(2, 12), 19, 21}, FIELDS: {0}, INSPECT: {0, 2, 6, 11},
+         STREAM: {0, 2, 11}, PAD: {0, 2, 12}, UNPAD: {0, 2, 11, 12, 24}, TALLY: {0, 2, 11}, FILL: {0, 2, 11, 12},
+         BOOK_TREE: {0, 2, 4, 11, 12, 13, 14, 15},
+         BUILD_TREE: {0, 2, 6, 11, 12, 16}, SETTLE_TREE: {0, *range(2, 13), 17, 19, 21}, CANCEL: {0, 2, 6, 11, 16},
          CANCEL_TREE: {0, 2, 6, 11, 12, 16}, COLLECT: {0, 2, 11, 12, 20}, COLLECT_TREE: {0, 2, 11, 12, 20},
          ROW: {0, 12}}
 ENOUGH = 50_000
@@ -108,7 +110,7 @@ def false_entries(rng, count):
         data = bytes(data)
         yield FIND, data, data[p : p + 32], 0, 0
         yield BOOK, data, data[o : o + s], 0, 0
-        yield BUILD, data, rng.randbytes(2000), p, 0
+        yield BUILD, data, rng.randbytes(2000), p, deal_number(rng)
         yield INSPECT, data, b"", p, 0
         yield TALLY, data, b"", 0, 0
 
@@ -117,11 +119,13 @@ def long_records(rng):
     """Well-formed records with more nodes than any path has, and as many as a length can say."""
     for u, v in ((3, 2047), (2047, 3), (2047, 2047), (2047, 0)):
         nodes = [[rng.randbytes(32) for _ in range(n)] for n in (u, v)]
-        r = MODEL.encode(node(rng), 0, 128, 256, *nodes)
-        yield CHECK, r, bytes(32), 512, 0
-        yield SETTLE, r, r, 512, 0, bytes(32)
+        number = deal_number(rng)
+        r = MODEL.encode(node(rng), 0, 128, 256, *nodes, number)
+        for named in (number, number ^ 1 << 63):
+            yield CHECK, r, bytes(32), 512, named
+            yield SETTLE, r, r, 512, named, bytes(32)
+            yield SETTLE_DEAL, bytes(512), r, 0, named
         yield FIELDS, r, b"", 0, 0
-        yield SETTLE_DEAL, bytes(512), r, 0, 0
     yield FIELDS, bytes(65538) + b"\1\xff\xff" + bytes(65535) + b"\7\0", b"", 0, 0
     yield CHECK, bytes(70000), bytes(32), 512, 0
 
@@ -191,14 +195,16 @@ def large_calls(rng, d, sizes):
     yield BOOK, data, run(rng, d), 0, 0
     root = MODEL.commitment(data)[1]
     for p in rng.sample(places, min(2, len(places))):
-        code, r = MODEL.build(data, p)
-        yield BUILD, data, rng.randbytes(2000), p, 0
-        yield BUILD, data, rng.randbytes(len(r) - 1), p, 0
-        yield CHECK, r, root, d, 0
+        number = deal_number(rng)
+        code, r = MODEL.build(data, number, p)
+        yield BUILD, data, rng.randbytes(2000), p, number
+        yield BUILD, data, rng.randbytes(len(r) - 1), p, number
+        yield CHECK, r, root, d, number
         for record in (r, spoil(rng, r)):
-            yield SETTLE, r, record, d, 0, root
-            yield SETTLE_DEAL, data, record, 0, 0
-    yield BUILD, data, rng.randbytes(2000), place(rng, d), 0
+            yield SETTLE, r, record, d, number, root
+            yield SETTLE_DEAL, data, record, 0, number
+        yield SETTLE_DEAL, data, r, 0, number ^ 1 << rng.randrange(64)
+    yield BUILD, data, rng.randbytes(2000), place(rng, d), deal_number(rng)
     yield from spoilt_deal(rng, data, places)
 
 
@@ -226,6 +232,12 @@ def batches(options):
     yield "streams of every total", streams(random.Random(f"{options.seed}/streams"))
     yield "raw bytes there and back", paddings(random.Random(f"{options.seed}/paddings"))
     yield "entries that are not kept", false_entries(random.Random(f"{options.seed}/entries"), min(500, options.count))
+    rng = random.Random(f"{options.seed}/numbers")
+    yield "numbers of deals, right and wrong", number_cases.numbers(rng)
+    yield "numbers: other last fields of records", number_cases.last_fields(rng)
+    yield "numbers: beside every fault of a record", number_cases.beside_record(rng)
+    yield "numbers: beside faults of commitment, size, deal and tree", number_cases.beside_deal(rng)
+    yield "numbers: two records", number_cases.pairs(rng)
     rng = random.Random(f"{options.seed}/trees")
     yield "trees: the refusals in their order", tree_cases.orders(rng)
     yield "trees kept over bookings, and stale ones", tree_cases.runs(rng, 40)

@@ -144,10 +144,11 @@ def fault(at, what):
 
 class Scene:
     """A command, the files before it, what it does to files, its exit statuses (done, and run once more afterwards), and the deal that it
-    makes, if it makes one."""
+    makes, if it makes one, with the number that is to be kept of that."""
 
-    def __init__(self, name, words, before, effect, again, made=None):
-        self.name, self.words, self.before, self.effect, self.again, self.made = name, words, before, effect, again, made
+    def __init__(self, name, words, before, effect, again, made=None, number=None):
+        self.name, self.words, self.before, self.effect, self.again = name, words, before, effect, again
+        self.made, self.number = made, number
         self.after = effect(before)
         # Files that the command makes or changes.
         self.changed = [n for n in self.after if before.get(n) != self.after[n]]
@@ -170,13 +171,13 @@ class Scene:
         return all(new)
 
 
-def sidecar(deal):
-    return b"vizhuthamen deal 1\nsize %d\n" % len(deal)
+def sidecar(deal, number=None):
+    return b"vizhuthamen deal 1\nsize %d\n" % len(deal) + (b"" if number is None else b"number %d\n" % number)
 
 
-def with_deal(files, deal, name="deal"):
-    """The files with this deal, and what is known of it."""
-    return {**files, name: deal, name + ".vz": sidecar(deal)}
+def with_deal(files, deal, name="deal", number=None):
+    """The files with this deal, and what is known of it: what lies there, or its size and its number."""
+    return {name + ".vz": sidecar(deal, number), **files, name: deal}
 
 
 def booked(files, segment, name="deal"):
@@ -190,7 +191,7 @@ def scenes(rng):
     new = MODEL.book(old, segment)[3]
     gap = MODEL.cancel(new, 768)[1]
     spoilt = old[:768] + bytes([old[768] ^ 1]) + old[769:]
-    record = MODEL.build(old, 768)[1]
+    record = MODEL.build(old, 58, 768)[1]
     files = {"segment": segment, "deal": old}
     book = lambda files: booked(files, segment)
     yield Scene("book", ("book", "deal", "segment"), {**files, "deal.vz": sidecar(old)}, book, (0, 15))
@@ -198,14 +199,23 @@ def scenes(rng):
     cancel = lambda files: with_deal(files, MODEL.cancel(files["deal"], 768)[1])
     yield Scene("cancel", ("cancel", "deal", 768), {"deal": new, "deal.vz": sidecar(new)}, cancel, (0, 16))
     yield Scene("cancel, nothing known", ("cancel", "deal", 768), {"deal": new}, cancel, (0, 16))
-    collect = lambda files: with_deal(files, MODEL.collect(files["deal"], bytes(1024))[1], "new")
-    yield Scene("collect", ("collect", "deal", "new"), {"segment": third, "deal": gap}, collect, (0, IO), "new")
-    yield Scene("new", ("new", "deal", 1024), {"segment": segment}, lambda files: with_deal(files, bytes(1024)), (0, IO), "deal")
+    number = lambda files: {**files, "deal.vz": sidecar(files["deal"], 58)}
+    yield Scene("number", ("number", "deal", 58), {"deal": old, "deal.vz": sidecar(old)}, number, (0,))
+    yield Scene("number, nothing known", ("number", "deal", 58), {"deal": old}, number, (0,))
+    collect = lambda files: with_deal(files, MODEL.collect(files["deal"], bytes(1024))[1], "new", 58)
+    before = {"segment": third, "deal": gap, "deal.vz": sidecar(gap, 58)}
+    yield Scene("collect", ("collect", "deal", "new"), before, collect, (0, IO), "new", 58)
+    for name, number in (("new", None), ("new, numbered", 58)):
+        words = "new", "deal", 1024, *(() if number is None else ("--number", number))
+        made = lambda files, number=number: with_deal(files, bytes(1024), "deal", number)
+        yield Scene(name, words, {"segment": segment}, made, (0, IO), "deal", number)
     repair = lambda files: {**with_deal(files, old), "deal.before-repair": spoilt}
     yield Scene("repair", ("repair", "deal"), {"deal": spoilt}, repair, (0, 0))
     output = lambda files: {**files, "record": record}
-    yield Scene("output", ("build", "deal", 768, "-o", "record"), {"deal": old}, output, (0, 0))
-    yield Scene("output, replaced", ("build", "deal", 768, "-o", "record"), {"deal": old, "record": b"before"}, output, (0, 0))
+    build = "build", "deal", 768, "-o", "record"
+    yield Scene("output", (*build, "--number", 58), {"deal": old}, output, (0, 0))
+    before = {"deal": old, "deal.vz": sidecar(old, 58), "record": b"before"}
+    yield Scene("output, replaced", build, before, output, (0, 0))
 
 
 class Faults:
@@ -219,9 +229,12 @@ class Faults:
         state, after = self.place.state(), scene.after
         if scene.made:
             # What is known of a deal can be done without; the first booking puts it there, and removes what was left.
+            # A number that was not kept was said not to be.
             check(state[scene.made] == after[scene.made], scene.name, "after running again")
-            status, _, err = self.place.run(("book", scene.made, "segment"), plain=plain)
-            check(status == 0, scene.name, "booking afterwards:", status, err)
+            number = () if scene.number is None else (("number", scene.made, scene.number),)
+            for words in (*number, ("book", scene.made, "segment")):
+                status, _, err = self.place.run(words, plain=plain)
+                check(status == 0, scene.name, *words, "afterwards:", status, err)
             state, after = self.place.state(), booked(after, after["segment"], scene.made)
         check(state == after, scene.name, "after running again:", *sorted(state))
 
@@ -280,7 +293,9 @@ class Faults:
                 state = self.place.state()
                 scene.whole(state)
                 made = all(state.get(n) == scene.after[n] for n in scene.changed)
-                check(made or status != 0 or scene.made and b"could not be written" in err, *here)
+                # A size that is not beside a new deal is noted; a number that is not is an error.
+                noted = scene.made and scene.number is None and b"could not be written" in err
+                check(made or status != 0 or noted, *here)
                 check(b"nothing is changed" not in err or not made, *here)
                 # A name that could not be removed, or a change that the next call ends, may be left for that.
                 check(not scene.litter(state) or name == "unlink" or b"next call" in err, *here, *scene.litter(state))
@@ -663,7 +678,7 @@ def disturb(place, rng, name, plain, options):
         faults.ignored(scene, plain)
     if scene.name == "output, replaced":
         faults.paused_outputs(scene, plain, rng.randbytes(1000))
-    if scene.words[0] in ("book", "cancel", "collect"):
+    if scene.words[0] in ("book", "cancel", "number", "collect"):
         faults.pauses(scene, plain, b"".join(node(rng) for _ in range(4)))
     mode = ("", ", no unnamed files", ", no unnamed files, no rename to a free name")[plain]
     return counts, f"{scene.name}{mode}: {len(names)} calls"
@@ -729,10 +744,13 @@ def large(place, rng, name, plain, options):
     return counts, f"{name}: {unbroken:.1f} s unbroken, {time.monotonic() - began - unbroken:.1f} s with {counts['kills']} kills"
 
 
-# With unnamed files (0), without them (1), and without a rename to a free name too (2). At the gate a cancellation, which changes
-# files as a booking does, and a collection, which makes a deal as `new` does, are run in some of these ways.
-WAYS = {"book, nothing known": (0, 1, 2), "collect": (0, 1, 2), "new": (0, 1, 2), "output": (0, 1, 2)}
-WAYS_AT_THE_GATE = {**WAYS, "cancel": (0,), "cancel, nothing known": (1,), "collect": (0, 1)}
+# With unnamed files (0), without them (1), and without a rename to a free name too (2). At the gate a cancellation and
+# a number, which change files as a booking does, and a collection, which makes a deal as `new` does, are run in some of
+# these ways.
+WAYS = {"book, nothing known": (0, 1, 2), "collect": (0, 1, 2), "new": (0, 1, 2), "new, numbered": (0, 1, 2),
+        "output": (0, 1, 2)}
+WAYS_AT_THE_GATE = {**WAYS, "cancel": (0,), "cancel, nothing known": (1,), "number": (1,),
+                    "number, nothing known": (0,), "collect": (0, 1), "new, numbered": (1, 2)}
 # Commands and ways that get every error at the gate: one file, several files, a new deal.
 EVERY_ERROR = (("book", 0), ("book, nothing known", 1), ("collect", 1))
 

@@ -14,7 +14,7 @@ from vectors_test import data, vz
 TEXT = (ROOT / "docs" / "FORMAT.md").read_text()
 CHECKS = [case for case in json.loads((ROOT / "vectors" / "vectors.json").read_text())["cases"] if case["routine"] == "check"]
 SEGMENTS = b"\x01" * 128, b"\x02" * 100  # as the document says of its example
-SIZE, PLACE = 512, 320
+SIZE, PLACE, NUMBER = 512, 320, 2026
 
 
 def same(what, *values):
@@ -63,7 +63,7 @@ def booked():
 
 def ways(record):
     """The nodes on both ways up, with their positions: by the definition."""
-    c, o, s, p, *paths = MODEL.parse(record)
+    c, o, s, p, *paths, _ = MODEL.parse(record)
     starts = (c, o // area(s)), (MODEL.h.node(MODEL.entry(c, o, s)), p // 64)
     for (node, position), path in zip(starts, paths):
         way = [(node, position)]
@@ -100,9 +100,9 @@ def entry_table(rows):
 
 def record_table(rows):
     record, (deal, lent) = laid_out(rows), booked()
-    same("the record", record, MODEL.build(deal, PLACE)[1], vz.build(lent, PLACE))
-    same("the record's code", 0, MODEL.check(MODEL.commitment(deal)[1], SIZE, record))
-    vz.check(vz.commitment(lent), SIZE, record)
+    same("the record", record, MODEL.build(deal, NUMBER, PLACE)[1], vz.build(lent, NUMBER, PLACE))
+    same("the record's code", 0, MODEL.check(MODEL.commitment(deal)[1], SIZE, NUMBER, record))
+    vz.check(vz.commitment(lent), SIZE, NUMBER, record)
     for _, _, what, cell in rows:
         for at in map(int, re.findall(r"^sibling.* at (\d+)$", what)):
             there = [level[at >> 5 + k] for k, level in enumerate(MODEL.tree(deal)) if at % (32 << k) == 0]
@@ -111,7 +111,7 @@ def record_table(rows):
 
 def field_table(rows):
     """The record's fields: tags and lengths, for the example's D and A."""
-    record = vz.build(booked()[1], PLACE)
+    record = vz.build(booked()[1], NUMBER, PLACE)
     lengths = {"32 × log2(D / A)": 32 * (SIZE // area(100)).bit_length() - 32, "32 × log2(D / 64)": 32 * (SIZE // 64).bit_length() - 32}
     stated = [(int(tag), lengths[length] if length in lengths else int(length)) for tag, _, length in rows]
     same("fields", stated, [(field.tag, len(field.content)) for field in vz.fields(record)])
@@ -124,7 +124,7 @@ def check_table(rows):
 
 
 def way_table(rows):
-    segment, entry = ways(vz.build(booked()[1], PLACE))
+    segment, entry = ways(vz.build(booked()[1], NUMBER, PLACE))
     same("segment way", [(told(row[1]), int(row[0])) for row in rows if row[1]], segment)
     same("entry way", [(told(row[2]), int(row[3])) for row in rows], entry)
 
@@ -141,7 +141,7 @@ TABLES = {
     ("at", "bytes", "the deal", "in the example"): deal_table,
     ("at", "bytes", "the entry", f"in the example, at {PLACE}"): entry_table,
     ("tag", "content", "length"): field_table,
-    ("at", "bytes", "the record", f"in the example, of place {PLACE}"): record_table,
+    ("at", "bytes", "the record", f"in the example, of place {PLACE} and number {NUMBER}"): record_table,
     ("code", "the check refuses with it where"): check_table,
     ("position", "segment path, from the commitment", "entry path, from the entry's node hash", "position"): way_table,
     ("raw bytes", "segment"): raw_table,

@@ -20,8 +20,8 @@ from vectors_test import data
 
 VERSION = defined("VZ_VERSION")
 SONAME = "libvizhuthamen.so." + VERSION.rsplit(".", 1)[0]
-CHECKED = ("no-fault", "p4", "p7", "p7-other-node", "fault-size", "fault-form", "fault-path-bits", "fault-segment-path", "fault-entry-path",
-           "cut", "other-commitment")
+CHECKED = ("no-fault", "p4", "p7", "p7-other-node", "fault-size", "fault-form", "fault-number", "fault-path-bits", "fault-segment-path",
+           "fault-entry-path", "cut", "other-commitment")
 
 
 def fail(text):
@@ -127,7 +127,7 @@ def examples(prefix):
     for case in (cases[f"check/{name}"] for name in CHECKED):
         record = prefix.root.parent / "record"
         record.write_bytes(data(case["inputs"]["record"]))
-        words = [data(case["inputs"]["commitment"]).hex(), case["inputs"]["size"], str(record)]
+        words = [data(case["inputs"]["commitment"]).hex(), case["inputs"]["size"], case["inputs"]["number"], str(record)]
         expected = case["code"], f"code {case['code']}: {meanings[case['code']]}\n"
         for program in programs:
             env = {name: value for name, value in prefix.env.items() if name != "LD_LIBRARY_PATH" or program[0] != sys.executable}

@@ -423,9 +423,9 @@ class Model:
     # ---- records
     @staticmethod
     def parse(record):
-        """(commitment, offset, size, place, segment path, entry path) or None."""
+        """(commitment, offset, size, place, segment path, entry path, deal number) or None."""
         at, contents = 0, []
-        for tag, length in ((1, 32), (2, 8), (3, 8), (4, 8), (5, None), (6, None)):
+        for tag, length in ((1, 32), (2, 8), (3, 8), (4, 8), (5, None), (6, None), (7, 8)):
             head = record[at : at + 3]
             if len(head) < 3 or head[0] != tag:
                 return None
@@ -437,19 +437,17 @@ class Model:
             at += 3 + n
         if at != len(record):
             return None
-        c, o, s, p, u, v = contents
+        c, o, s, p, u, v, number = contents
         nodes = lambda x: [x[i : i + 32] for i in range(0, len(x), 32)]
-        number = lambda x: int.from_bytes(x, "little")
-        return c, number(o), number(s), number(p), nodes(u), nodes(v)
+        value = lambda x: int.from_bytes(x, "little")
+        return c, value(o), value(s), value(p), nodes(u), nodes(v), value(number)
 
     @staticmethod
-    def encode(c, o, s, p, u, v):
-        out = b""
-        for tag, content in ((1, c), (2, le(o)), (3, le(s)), (4, le(p)), (5, b"".join(u)), (6, b"".join(v))):
-            out += bytes([tag]) + le(len(content), 2) + content
-        return out
+    def encode(c, o, s, p, u, v, number):
+        contents = c, le(o), le(s), le(p), b"".join(u), b"".join(v), le(number)
+        return b"".join(bytes([tag]) + le(len(content), 2) + content for tag, content in enumerate(contents, 1))
 
-    def check(self, commitment, d, record):
+    def check(self, commitment, d, number, record):
         if len(commitment) != 32:
             return 1
         code, n, start = index_numbers(d)
@@ -458,7 +456,9 @@ class Model:
         fields = self.parse(record)
         if fields is None:
             return 3
-        c, o, s, p, u, v = fields
+        c, o, s, p, u, v, named = fields
+        if named != number:
+            return 21
         if not self.size_allowed(d, s):
             return 4
         if not self.offset_allowed(d, o, s):
@@ -477,7 +477,7 @@ class Model:
             return 10
         return 0
 
-    def build(self, deal, place, tree=None):
+    def build(self, deal, number, place, tree=None):
         """Code and record."""
         d = len(deal)
         if not self.lent_allowed(d):
@@ -494,7 +494,8 @@ class Model:
             return 16, b""
         c, o, s = row
         levels = self.levels(deal, tree)
-        return 0, self.encode(c, o, s, place, self.path(levels, area(s), o // area(s)), self.path(levels, 64, place // 64))
+        u, v = self.path(levels, area(s), o // area(s)), self.path(levels, 64, place // 64)
+        return 0, self.encode(c, o, s, place, u, v, number)
 
     @staticmethod
     def path(levels, size, q):
@@ -507,7 +508,7 @@ class Model:
         return out
 
     def strings(self, record):
-        c, o, s, p, u, v = self.parse(record)
+        c, o, s, p, u, v, _ = self.parse(record)
         e = self.entry(c, o, s)
         return self.path_strings(self.h.node(e), p // 64, v) + [e] + self.path_strings(c, o // area(s), u)
 
@@ -518,16 +519,16 @@ class Model:
                 return 17, a, b
         return 0, ZERO64, ZERO64
 
-    def settle_records(self, commitment, d, r, s):
+    def settle_records(self, commitment, d, number, r, s):
         for x in (r, s):
-            code = self.check(commitment, d, x)
+            code = self.check(commitment, d, number, x)
             if code:
                 return code, ZERO64, ZERO64
         if self.parse(r)[3] != self.parse(s)[3]:
             return 18, ZERO64, ZERO64
         return self.settled(self.strings(r), self.strings(s))
 
-    def settle_deal(self, deal, record, tree=None):
+    def settle_deal(self, deal, number, record, tree=None):
         d = len(deal)
         if not self.lent_allowed(d):
             return 2, ZERO64, ZERO64
@@ -536,10 +537,10 @@ class Model:
         if not tree_allowed(d, tree):
             return 12, ZERO64, ZERO64
         levels = self.levels(deal, tree)
-        code = self.check(levels[-1][0], d, record)
+        code = self.check(levels[-1][0], d, number, record)
         if code:
             return code, ZERO64, ZERO64
-        c, o, s, p, u, v = self.parse(record)
+        _, o, s, p, *_ = self.parse(record)
         pairs = lambda size, q: self.pairs(levels, size, q)
         return self.settled(self.strings(record), pairs(64, p // 64) + [deal[p : p + 64]] + pairs(area(s), o // area(s)))
 

@@ -1,9 +1,15 @@
 """Runs the independent model on the papers' own worked values. Prints one line; exits non-zero at the first difference."""
 import random
 import sys
+from pathlib import Path
 
+import refusal_cases
+from cases import sparse_record
 from model import (BLANK, DAMAGED, MAX_RAW, VALID, Model, Weak, area, filled, index_numbers, node_in, node_place, pad,
                    segment_length, sha256, stray, unpad, ZERO32, ZERO64)
+from operations import CHECK, CHECK_INPUT, SETTLE, SETTLE_TREE, answer
+
+NUMBER = 0x1122334455667788  # a deal's number
 
 
 def expect(what, got, want):
@@ -99,14 +105,140 @@ def kinds():
 
 
 def records():
+    """The lengths that document 02 names (P4 to P7), the last one of a deal that is no longer held in memory."""
     m, rng = Model(), random.Random(2)
-    for d, s, length in ((512, 256, 202), (512, 128, 234), (1 << 20, 1024, 842)):
+    for d, s, length in ((512, 256, 213), (512, 128, 245), (1 << 20, 1024, 853)):
         code, o, p, deal = m.book(bytes(d), segment(rng, s))
-        code, r = m.build(deal, p)
+        code, r = m.build(deal, NUMBER, p)
         expect(f"a record for {d}, {s}", (code, len(r)), (0, length))
         root = m.tree(deal)[-1][0]
-        expect("its check", m.check(root, d, r), 0)
-        expect("its settling", (m.settle_records(root, d, r, r)[0], m.settle_deal(deal, r)[0]), (0, 0))
+        expect("its check", m.check(root, d, NUMBER, r), 0)
+        expect("its settling", (m.settle_records(root, d, NUMBER, r, r)[0], m.settle_deal(deal, NUMBER, r)[0]), (0, 0))
+    root, r = sparse_record(rng, 1 << 36, 128, NUMBER)
+    expect("a record for 2^36, 128", (len(r), m.check(root, 1 << 36, NUMBER, r)), (1973, 0))
+
+
+def stored_input():
+    """The stored input of the program check_record, and what it must print."""
+    folder = Path(__file__).resolve().parent.parent / "crates/check_record"
+    stdin, stdout = (folder / "stdin").read_bytes(), (folder / "stdout").read_text()
+    expect("its length", len(stdin), 32 + 8 + 8 + 245)
+    expect("the stored input", answer((CHECK_INPUT, stdin)), stdout)
+    expect("the stored input with another number", answer((CHECK_INPUT, put(stdin, 40, b"\0"))), "21\n")
+
+
+def deal_numbers():
+    """Every number of 64 bits stands in the record's last 8 bytes, lowest byte first; every other one is refused with
+    21, by the check and by all settlings."""
+    m, rng = Model(), random.Random(22)
+    deal = m.book(bytes(512), segment(rng, 128))[3]
+    root, tree = m.commitment(deal)[1], m.fill(deal, bytes(480))[1]
+    without = m.build(deal, 0, 256)[1][:234]
+    for number in (0, 1, 255, 256, 1 << 63, (1 << 64) - 1, NUMBER):
+        record = m.build(deal, number, 256)[1]
+        expect("the last field", record, without + b"\7\x08\0" + number.to_bytes(8, "little"))
+        expect("the number read", m.parse(record)[6], number)
+        for named in {number, *(number ^ 1 << bit for bit in range(64)), (1 << 64) - 1 - number}:
+            code = 0 if named == number else 21
+            expect("its check", m.check(root, 512, named, record), code)
+            expect("settled with itself", m.settle_records(root, 512, named, record, record), (code, ZERO64, ZERO64))
+            for t in (None, tree):
+                expect("settled with the deal", m.settle_deal(deal, named, record, t), (code, ZERO64, ZERO64))
+
+
+def without_number():
+    """A record without tag 7, as they were before request (ix), is 3 whatever the deal's size and number; so is one
+    whose tag 7 has another length, stands elsewhere or twice, or is not the end."""
+    m, rng = Model(), random.Random(23)
+    for d, s, length in ((512, 256, 202), (512, 128, 234), (1 << 20, 1024, 842), (1 << 36, 128, 1962)):
+        root, r = sparse_record(rng, d, s, NUMBER)
+        expect("its length", len(r[:-11]), length)
+        for number in (NUMBER, 0, (1 << 64) - 1):
+            expect(f"a record of {length} bytes", m.check(root, d, number, r[:-11]), 3)
+    root, r = sparse_record(rng, 512, 128, NUMBER)
+    old, last = r[:234], r[234:]
+    for other in (b"\7\0\0", b"\7\7\0" + last[3:10], b"\7\x09\0" + last[3:] + b"\0", last[:-1], last + b"\0",
+                  last + last, b"\6" + last[1:], b"\x08" + last[1:], last[:2] + b"\1" + last[3:]):
+        expect("another last field", m.check(root, 512, NUMBER, old + other), 3)
+    expect("tag 7 before tag 6", m.check(root, 512, NUMBER, r[:135] + last + r[135:234]), 3)
+
+
+def order_of_the_number():
+    """1, 2 and 3 are before 21, and all other codes of the check after it; a first record's 21 is before all of the
+    second's."""
+    m, rng = Model(), random.Random(24)
+    deal = m.book(bytes(512), segment(rng, 128))[3]
+    root, r = m.commitment(deal)[1], m.build(deal, NUMBER, 256)[1]
+    spoilt = {3: r[:-1], 4: put(r, 49, bytes(1)), 5: put(r, 38, b"\x40"), 6: put(r, 60, b"\1"),
+              7: r[:68] + b"\5\0\0\6\0\0" + r[234:], 8: put(r, 34, b"\x40"), 19: put(r, 233, b"\x80"),
+              9: put(r, 71, bytes([r[71] ^ 1])), 10: put(r, 202, bytes([r[202] ^ 1]))}
+    for code, record in spoilt.items():
+        expect(f"{code} alone", m.check(root, 512, NUMBER, record), code)
+        late = 3 if code == 3 else 21
+        expect(f"{code} and another number", m.check(root, 512, NUMBER + 1, record), late)
+        expect(f"2 before {late}", m.check(root, 511, NUMBER + 1, record), 2)
+        expect(f"1 before {late}", m.check(root[:31], 511, NUMBER + 1, record), 1)
+        expect(f"{code} and another number, settled", m.settle_deal(deal, NUMBER + 1, record)[0], late)
+        expect(f"{code} in the first of two", m.settle_records(root, 512, NUMBER, record, b"")[0], code)
+        expect(f"another number before {code}", m.settle_records(root, 512, NUMBER + 1, r, record)[0], 21)
+        other = m.build(deal, NUMBER + 1, 256)[1]
+        expect("21 in the second of two", m.settle_records(root, 512, NUMBER, r, other)[0], 21)
+        expect(f"{code} before the second one's 21", m.settle_records(root, 512, NUMBER, record, other)[0], code)
+        expect(f"21 before the second one's {code}", m.settle_records(root, 512, NUMBER, other, record)[0], 21)
+
+
+def conditions(it):
+    """The codes whose own conditions hold of what is lent, whatever the others do, and also where the form is wrong."""
+    m, (c, o, s, p, u, v, number) = Model(), it.contents
+    o, s, p, number = (int.from_bytes(x, "little") for x in (o, s, p, number))
+    nodes = lambda x: [x[i : i + 32] for i in range(0, len(x), 32)]
+    levels = lambda part: (it.size // part).bit_length() - 1
+    a, start = area(s), it.size - 64 * max(4, it.size // 131072)
+    entry = m.h.node(m.entry(c, o, s))
+    holds = {1: len(it.root) != 32, 2: it.size not in (1 << k for k in range(9, 37)), 3: m.parse(it.record()) is None,
+             21: number != it.number, 4: not 1 <= s <= it.size // 2, 5: o % a != 0 or start < o + a,
+             6: p % 64 != 0 or p < start or it.size <= p, 7: (len(u) // 32, len(v) // 32) != (levels(a), levels(64)),
+             8: c[31:] > b"\x3f", 19: stray(u) or stray(v), 9: m.path_root(c, o // a, nodes(u)) != it.root,
+             10: m.path_root(entry, p // 64, nodes(v)) != it.root, 12: len(it.tree) != it.size - 32}
+    return {code for code, held in holds.items() if held}
+
+
+def code_of(case):
+    return int(answer(case).split()[0])
+
+
+def refused_records():
+    """A fault alone gets its own code; of two that are both there the earlier in the order decides, for every
+    operation; of two records refused the first one's code."""
+    it = refusal_cases.sound(512, 128)
+    for op, order in refusal_cases.ORDERS.items():
+        expect("a sound record", (code_of(it.call(op)), conditions(it)), (18 if op == SETTLE else 0, set()))
+        for code in order:
+            expect(f"{code} by operation {op}", code_of(refusal_cases.FAULTS[code][0](it).call(op)), code)
+    expect("the largest record", code_of(refusal_cases.largest().call(CHECK)), 0)
+    expect("a record of 600 bytes", code_of(refusal_cases.sound(2048, 600).call(CHECK)), 0)
+    for faulty in (refusal_cases.one_fault, refusal_cases.two_faults):
+        for codes, op, lent in faulty():
+            expect(f"{codes} by operation {op}", code_of(lent.call(op)), codes[0])
+            expect(f"of {codes} both hold", set(codes) - conditions(lent), set())
+    for (early, late), lent in refusal_cases.two_refused():
+        other = lent._replace(first=it.first).call(SETTLE), lent._replace(first=lent.record()).call(SETTLE)
+        expect(f"{late} first, {early} second", code_of(lent.call(SETTLE)), late)
+        expect(f"{early} second alone, and first", tuple(map(code_of, other)), (early, early))
+
+
+def shown_strings():
+    """Of two strings that differ between a record and a tree, the first in the order of settling is shown."""
+    m, it = Model(), refusal_cases.sound(1024, 128)
+    strings, changes = m.strings(it.record()), refusal_cases.differences(it)
+    del strings[5]  # the top of the segment's way, which is that of the entry's
+    shown = lambda lent: answer(lent.call(SETTLE_TREE)).split()
+    for string, change in zip(strings, changes, strict=True):
+        code, left, right = shown(change(it))
+        expect("a string that differs", (code, left, right != left), ("17", string.hex(), True))
+    for (first, second), lent in refusal_cases.two_differences():
+        both = shown(second(first(lent)))
+        expect("the first of two", (both, both != shown(second(lent))), (shown(first(lent)), True))
 
 
 def collisions():
@@ -117,12 +249,13 @@ def collisions():
         m = Model(Weak(4))
         _, o, p, deal = m.book(bytes(512), segment(rng, 128))
         root = m.tree(deal)[-1][0]
-        r = bytearray(m.build(deal, p)[1])
-        at = rng.choice((74, 141)) + rng.randrange(len(r) - 141)
-        r[min(at, len(r) - 1)] ^= 1 << rng.randrange(6)
-        if m.check(root, 512, bytes(r)):
+        r = bytearray(m.build(deal, NUMBER, p)[1])
+        at = rng.choice((74, 141)) + rng.randrange(len(r) - 152)
+        r[min(at, len(r) - 12)] ^= 1 << rng.randrange(6)
+        if m.check(root, 512, NUMBER, bytes(r)):
             continue
-        for code, v, w in (m.settle_deal(deal, bytes(r)), m.settle_records(root, 512, bytes(r), m.build(deal, p)[1])):
+        r, whole = bytes(r), m.build(deal, NUMBER, p)[1]
+        for code, v, w in (m.settle_deal(deal, NUMBER, r), m.settle_records(root, 512, NUMBER, r, whole)):
             if code == 17:
                 shown += 1
                 expect("a collision", (v != w, m.h.node(v) == m.h.node(w), len(v), len(w)), (True, True, 64, 64))
@@ -161,8 +294,8 @@ def tree_lengths():
     strayed = deal[:31] + b"\x40" + deal[32:]
     for n in (0, 32, 479, 481, 512, 992):
         tree = rng.randbytes(n)
-        forms = lambda data: (m.fill(data, tree)[0], m.book_with_tree(data, tree, deal[:128])[0], m.build(data, 300, tree)[0],
-                              m.settle_deal(data, b"", tree)[0])
+        forms = lambda data: (m.fill(data, tree)[0], m.book_with_tree(data, tree, deal[:128])[0],
+                              m.build(data, NUMBER, 300, tree)[0], m.settle_deal(data, NUMBER, b"", tree)[0])
         expect(f"a tree of {n} bytes", forms(deal), (12,) * 4)
         expect(f"a tree of {n} bytes with stray bits", forms(strayed), (11,) * 4)
         expect(f"a tree of {n} bytes with a deal of 500", forms(deal[:500]), (2,) * 4)
@@ -180,10 +313,11 @@ def same_as_plain(m, rng, deal):
             expect("the tree after booking", (code, got[4]), m.fill(got[3], tree) if got[0] == 0 else (code, tree))
     start = index_numbers(d)[2]
     for place in (*range(start, d, 64), 0, 300):
-        code, record = m.build(deal, place)
-        expect("building with the deal's tree", m.build(deal, place, tree), (code, record))
-        for r in (record, record[:-1], record[:-1] + b"\x39"):
-            expect("settling with the deal's tree", m.settle_deal(deal, r, tree), m.settle_deal(deal, r))
+        code, record = m.build(deal, NUMBER, place)
+        expect("building with the deal's tree", m.build(deal, NUMBER, place, tree), (code, record))
+        for r in (record, record[:-1], record[:-1] + b"\x39", record[:-12] + b"\x39" + record[-11:]):
+            plain = m.settle_deal(deal, NUMBER, r)
+            expect("settling with the deal's tree", m.settle_deal(deal, NUMBER, r, tree), plain)
 
 
 def true_trees():
@@ -210,11 +344,12 @@ def stale_trees():
     for s in (b"x", segment(rng, 130)):
         code, o, p, deal = m.book(bytes(1024), s)
         expect("booked by the plain form", (code, o, p), (0, 0, 768))
-        expect("building with the stale tree", m.build(deal, p, tree), (16, b""))
+        expect("building with the stale tree", m.build(deal, NUMBER, p, tree), (16, b""))
         code, again, q, after, renewed = m.book_with_tree(deal, tree, s)
         expect("booking with the stale tree", (code, again, q), (0, area(len(s)), 832))
-        expect("settling with the stale tree", m.settle_deal(deal, m.build(deal, p)[1], tree), (9, ZERO64, ZERO64))
-        expect("building what was booked with it", m.build(after, q, renewed)[0], 0)
+        record = m.build(deal, NUMBER, p)[1]
+        expect("settling with the stale tree", m.settle_deal(deal, NUMBER, record, tree), (9, ZERO64, ZERO64))
+        expect("building what was booked with it", m.build(after, NUMBER, q, renewed)[0], 0)
 
 
 def other_trees():
@@ -222,24 +357,27 @@ def other_trees():
     m, rng = Model(), random.Random(10)
     deal, s = bytes(1024), segment(rng, 256)
     _, o, p, deal = m.book(m.book(deal, segment(rng, 128))[3], s)
-    tree, record = m.fill(deal, bytes(992))[1], m.build(deal, p)[1]
+    tree, record = m.fill(deal, bytes(992))[1], m.build(deal, NUMBER, p)[1]
     put = lambda node, h, i: tree[: node_place(1024, h, i)] + node + tree[node_place(1024, h, i) + 32:]
     root = put(node_of(rng), 5, 0)
-    expect("a record with another last node", m.settle_deal(deal, record, root), (9, ZERO64, ZERO64))
-    expect("building with another last node", m.build(deal, p, root), (0, record))
+    expect("a record with another last node", m.settle_deal(deal, NUMBER, record, root), (9, ZERO64, ZERO64))
+    expect("building with another last node", m.build(deal, NUMBER, p, root), (0, record))
     sibling = put(node_of(rng), 3, 0)
-    built = m.build(deal, p, sibling)[1]
-    expect("a record of another sibling", (m.check(tree[-32:], 1024, built), m.settle_deal(deal, built, sibling)[0]), (9, 9))
-    expect("another sibling with stray bits", m.check(tree[-32:], 1024, m.build(deal, p, put(b"\xff" * 32, 3, 0))[1]), 19)
-    code, v, w = m.settle_deal(deal, record, sibling)
+    built = m.build(deal, NUMBER, p, sibling)[1]
+    expect("a record of another sibling, checked", m.check(tree[-32:], 1024, NUMBER, built), 9)
+    expect("a record of another sibling, settled", m.settle_deal(deal, NUMBER, built, sibling)[0], 9)
+    strayed = m.build(deal, NUMBER, p, put(b"\xff" * 32, 3, 0))[1]
+    expect("another sibling with stray bits", m.check(tree[-32:], 1024, NUMBER, strayed), 19)
+    code, v, w = m.settle_deal(deal, NUMBER, record, sibling)
     expect("a pair that does not collide", (code, v[32:], m.h.node(v) == m.h.node(w)), (17, w[32:], False))
     own = put(node_of(rng), 3, 1)
-    expect("kept by the bytes alone", (m.build(deal, p, own)[0], m.book_with_tree(deal, own, s)[0]), (16, 0))
+    expect("kept by the bytes alone", (m.build(deal, NUMBER, p, own)[0], m.book_with_tree(deal, own, s)[0]), (16, 0))
     named = node_of(rng)
     forged = deal[:p] + m.entry(named, o, 256) + deal[p + 64:]
     own = put(named, 3, 1)
-    expect("kept by no tree but this one", (m.build(forged, p)[0], m.book(forged, s)[0]), (16, 0))
-    expect("kept by this tree", (m.build(forged, p, own)[0], *m.book_with_tree(forged, own, s)[:3]), (0, 15, o, p))
+    expect("kept by no tree but this one", (m.build(forged, NUMBER, p)[0], m.book(forged, s)[0]), (16, 0))
+    expect("kept by this tree, built", m.build(forged, NUMBER, p, own)[0], 0)
+    expect("kept by this tree, booked", m.book_with_tree(forged, own, s)[:3], (15, o, p))
 
 
 def renewed_trees():
@@ -287,7 +425,7 @@ def cancellations():
     expect("another one in its place", m.book(after, c)[:3], (0, 0, 256))
     expect("a shorter one over its bytes", m.book(after, c[:100])[3][:128], c[:100] + bytes(28))
     false = put(deal, 256, m.entry(node_of(rng), 0, 128))
-    expect("an entry that is not kept", (m.build(false, 256)[0], m.cancel(false, 256)), (16, (0, after)))
+    expect("an entry that is not kept", (m.build(false, NUMBER, 256)[0], m.cancel(false, 256)), (16, (0, after)))
     damaged, valid = put(deal[256:320], 40, b"\1"), m.entry(node_of(rng), 64, 128)
     for what, slot in (("blank", bytes(64)), ("damaged", damaged), ("valid", valid)):
         spoilt = put(deal, 256, slot)
@@ -440,12 +578,13 @@ def old_records():
     """A record belongs to the commitment of the deal it was built from."""
     m, rng = Model(), random.Random(21)
     deal = booked(m, 1024, segment(rng, 128), segment(rng, 256))
-    old, records = m.commitment(deal)[1], [m.build(deal, p)[1] for p in (768, 832)]
+    old, records = m.commitment(deal)[1], [m.build(deal, NUMBER, p)[1] for p in (768, 832)]
     for after in (m.cancel(deal, 768)[1], m.collect(deal, bytes(1024))[1]):
         new = m.commitment(after)[1]
         for r in records:
-            expect("an old record", (m.check(old, 1024, r), m.check(new, 1024, r) in (9, 10)), (0, True))
-    expect("new records", [m.check(new, 1024, m.build(after, p)[1]) for p in (768, 832)], [0, 0])
+            codes = m.check(old, 1024, NUMBER, r), m.check(new, 1024, NUMBER, r)
+            expect("an old record", codes in ((0, 9), (0, 10)), True)
+    expect("new records", [m.check(new, 1024, NUMBER, m.build(after, NUMBER, p)[1]) for p in (768, 832)], [0, 0])
 
 
 def whole_runs():
@@ -483,6 +622,12 @@ paddings()
 worked_runs()
 kinds()
 records()
+stored_input()
+deal_numbers()
+without_number()
+order_of_the_number()
+refused_records()
+shown_strings()
 filled_trees()
 tree_lengths()
 true_trees()

@@ -110,8 +110,8 @@ def tree_of(case):
 
 
 def built(case):
-    """b is the output before, x the place; the output afterwards."""
-    code, record = MODEL.build(case.a, case.x, tree_of(case))
+    """b is the output before, x the place, y the deal's number; the output afterwards."""
+    code, record = MODEL.build(case.a, case.y, case.x, tree_of(case))
     if code == 0 and len(case.b) < len(record):
         code = 12
     out = record + case.b[len(record):] if code == 0 else case.b
@@ -160,14 +160,16 @@ def checked_input(case):
     data = case.a
     if len(data) < 32:
         return (1,)
-    if len(data) < 40:
+    if len(data) < 48:
         return (2,)
-    if len(data) > 40 + 4096:
+    if len(data) > 48 + 4096:
         return (3,)
-    return (MODEL.check(data[:32], int.from_bytes(data[32:40], "little"), data[40:]),)
+    size, number = (int.from_bytes(data[at : at + 8], "little") for at in (32, 40))
+    return (MODEL.check(data[:32], size, number, data[48:]),)
 
 
-# What each operation answers. Where nothing else is said, a is the message, run, commitment, entry, record or deal, x the size or place.
+# What each operation answers. Where nothing else is said, a is the message, run, commitment, entry, record or deal, x
+# the size or place, y the deal's number.
 ANSWERS = {
     SHA256: lambda case: sha256(case.a),
     COMMITMENT: lambda case: MODEL.commitment(case.a),
@@ -177,9 +179,9 @@ ANSWERS = {
     FIND: found,
     BOOK: booked,
     BUILD: built,
-    CHECK: lambda case: (MODEL.check(case.b, case.x, case.a),),  # a is the record, b the commitment
-    SETTLE: lambda case: MODEL.settle_records(case.c, case.x, case.a, case.b),  # c is the commitment
-    SETTLE_DEAL: lambda case: MODEL.settle_deal(case.a, case.b),
+    CHECK: lambda case: (MODEL.check(case.b, case.x, case.y, case.a),),  # a is the record, b the commitment
+    SETTLE: lambda case: MODEL.settle_records(case.c, case.x, case.y, case.a, case.b),  # c is the commitment
+    SETTLE_DEAL: lambda case: MODEL.settle_deal(case.a, case.y, case.b),
     FIELDS: fields,
     CHECK_INPUT: checked_input,
     INSPECT: lambda case: MODEL.inspect(case.a, case.x),
@@ -191,7 +193,7 @@ ANSWERS = {
     FILL: tree_filled,
     BOOK_TREE: booked_with_tree,
     BUILD_TREE: built,
-    SETTLE_TREE: lambda case: MODEL.settle_deal(case.a, case.b, case.c),
+    SETTLE_TREE: lambda case: MODEL.settle_deal(case.a, case.y, case.b, case.c),
     CANCEL: cancelled,
     CANCEL_TREE: cancelled_with_tree,
     COLLECT: collected,

@@ -83,7 +83,7 @@ class Memory(unittest.TestCase):
         for refused in (lambda: vz.collect(self.deal, self.deal), lambda: vz.collect(self.deal, view),
                         lambda: vz.book(self.deal, view[:128]), lambda: vz.book(self.deal, view[384:]),
                         lambda: vz.tree_fill(self.deal, view[32:]), lambda: vz.book(self.deal, b"\2", tree=view[32:]),
-                        lambda: vz.book(self.deal, memoryview(tree)[:100], tree=tree), lambda: vz.build_into(self.deal, 256, self.deal),
+                        lambda: vz.book(self.deal, memoryview(tree)[:100], tree=tree), lambda: vz.build_into(self.deal, 9, 256, self.deal),
                         lambda: vz.pad_into(view[:100], view[50:300]), lambda: vz.tree_row(view[:128], view[127:191])):
             self.assertRaises(ValueError, refused)
         self.assertEqual((bytes(self.deal), bytes(tree)), (before, bytes(480)))
@@ -94,8 +94,8 @@ class Memory(unittest.TestCase):
         self.assertEqual(view[128:], vz.commitment(bytes(64)) * 2)
         vz.tree_row(bytearray(), bytearray())
         self.assertEqual(vz.sha256(memoryview(b"")), vz.sha256(bytearray()))
-        twice = vz.build(self.deal, 256)
-        self.assertEqual(vz.settle_records(vz.commitment(self.deal), 512, twice, twice), vz.Same())
+        twice = vz.build(self.deal, 9, 256)
+        self.assertEqual(vz.settle_records(vz.commitment(self.deal), 512, 9, twice, twice), vz.Same())
 
     def test_every_kind_of_memory_is_read_alike(self):
         whole = bytes(self.deal)
@@ -125,12 +125,13 @@ class Answers(unittest.TestCase):
         for refused in (-1, 1 << 64):
             self.assertRaises(OverflowError, vz.index_numbers, refused)
             self.assertRaises(OverflowError, vz.inspect, bytes(512), refused)
+            self.assertRaises(OverflowError, vz.check, bytes(32), 512, refused, b"")
             self.assertRaises(OverflowError, vz.unpad, refused, b"")
         self.assertRaises(vz.Refusal, vz.index_numbers, (1 << 64) - 1)
 
     def test_a_refusal_says_its_code(self):
         with self.assertRaises(vz.Refusal) as caught:
-            vz.check(bytes(31), 512, b"")
+            vz.check(bytes(31), 512, 9, b"")
         refusal = caught.exception
         self.assertEqual((refusal.code, refusal.meaning), (vz.Refusal.COMMITMENT_LENGTH, "a commitment is not 32 bytes long"))
         self.assertEqual(str(refusal), "code 1: a commitment is not 32 bytes long")
@@ -141,7 +142,7 @@ class Answers(unittest.TestCase):
         self.assertEqual(vz.book(deal, b"x"), vz.Booked(vz.Position(0, 768)))
         self.assertEqual(vz.book(deal, b"x"), vz.AlreadyKept(vz.Position(0, 768)))
         tree = vz.filled_tree(deal)
-        self.assertEqual(vz.build(deal, 768, tree=tree), vz.build(deal, 768))
+        self.assertEqual(vz.build(deal, 9, 768, tree=tree), vz.build(deal, 9, 768))
         self.assertEqual(tree[-32:], vz.commitment(deal))
         for n in (1, 127, 128, 1000):
             raw = os.urandom(n)

@@ -1,30 +1,34 @@
 """Writes the records that the program `show_record` shows, and the lines that it must print.
 
 Run from the repository's root: python3 tests/show_record.py. It writes crates/show_record/stdin and crates/show_record/stdout; with
---check it compares them with what stands there. The record is document 01's of 234 bytes, from the input of check_record.
+--check it compares them with what stands there. The record is document 02's of 245 bytes, from the input of
+check_record.
 """
 import sys
 from pathlib import Path
 
 ROOT = Path(__file__).resolve().parent.parent
-RECORD = (ROOT / "crates/check_record/stdin").read_bytes()[40:]
+RECORD = (ROOT / "crates/check_record/stdin").read_bytes()[48:]
 
 
 def records():
-    """The record as it is; damaged: cut, another tag, a length too great or too small, bytes after the end; paths of no nodes; the
-    longest record that is shown, and one byte more."""
+    """The record as it is; without the deal's number, as records were before there was one; damaged: cut, another tag,
+    a length too great or too small, bytes after the end; paths of no nodes; the longest record that is shown, and one
+    byte more."""
     yield RECORD
-    for length in (0, 2, 3, 34, 35, 37, 233):
+    for length in (0, 2, 3, 34, 35, 37, 234, 236, 244):
         yield RECORD[:length]
-    yield bytes([7]) + RECORD[1:]
+    yield bytes([8]) + RECORD[1:]
     yield RECORD[:1] + b"\xff\xff" + RECORD[3:]
     yield RECORD[:136] + b"\x61" + RECORD[137:]
     yield RECORD[:136] + b"\x5d" + RECORD[137:]
-    yield RECORD + b"\x07\x00"
-    yield RECORD + b"\x07\x00\x00"
-    yield RECORD[:68] + b"\x05\x00\x00\x06\x00\x00"
-    yield RECORD + b"\x07\x13\x0f" + bytes(3859)
-    yield RECORD + b"\x07\x14\x0f" + bytes(3860)
+    yield RECORD[:235] + b"\x07" + RECORD[236:]
+    yield RECORD[:235] + b"\x09" + RECORD[236:]
+    yield RECORD + b"\x08\x00"
+    yield RECORD + b"\x08\x00\x00"
+    yield RECORD[:68] + b"\x05\x00\x00\x06\x00\x00" + RECORD[234:]
+    yield RECORD + b"\x08\x08\x0f" + bytes(3848)
+    yield RECORD + b"\x08\x09\x0f" + bytes(3849)
     yield RECORD
 
 

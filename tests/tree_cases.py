@@ -2,7 +2,7 @@
 that stand beside another deal than the one they were filled for."""
 from itertools import product
 
-from cases import deal, place, run, segment_size, spoil, standing_places, strayed
+from cases import deal, deal_number, place, run, segment_size, spoil, standing_places, strayed
 from model import area, index_numbers
 from operations import BOOK_TREE, BUILD_TREE, FILL, MODEL, ROW, SETTLE_TREE
 
@@ -12,7 +12,8 @@ def orders(rng):
     whole = bytes(512)
     for size in (128, 100):
         whole = MODEL.book(whole, run(rng, size))[3]
-    own, record = MODEL.fill(whole, bytes(480))[1], MODEL.build(whole, 256)[1]
+    number = deal_number(rng)
+    own, record = MODEL.fill(whole, bytes(480))[1], MODEL.build(whole, number, 256)[1]
     stray = strayed(whole, 31, 64)
     fresh = run(rng, 96)
     segments = (fresh, whole[:128], whole[128:228], b"", bytes(257), strayed(fresh, 63, 128))
@@ -20,10 +21,10 @@ def orders(rng):
         yield FILL, data, b"", 0, 0, tree
         for segment in segments:
             yield BOOK_TREE, data, segment, 0, 0, tree
-        for p, n in product((256, 300, 384), (234, 233)):
-            yield BUILD_TREE, data, rng.randbytes(n), p, 0, tree
+        for p, n in product((256, 300, 384), (245, 244)):
+            yield BUILD_TREE, data, rng.randbytes(n), p, number, tree
         for r in (record, record[:-1], spoil(rng, record), b""):
-            yield SETTLE_TREE, data, r, 0, 0, tree
+            yield SETTLE_TREE, data, r, 0, number, tree
 
 
 def rows(rng):
@@ -41,9 +42,10 @@ def looked_at(rng, data, tree):
     """A record built with the tree, and it and the one without settled with the tree."""
     places = standing_places(data)
     p = rng.choice(places) if places and rng.randrange(8) else place(rng, len(data))
-    yield BUILD_TREE, data, rng.randbytes(2000), p, 0, tree
-    for record in sorted({MODEL.build(data, p)[1], MODEL.build(data, p, tree)[1]}):
-        yield SETTLE_TREE, data, record, 0, 0, tree
+    number = deal_number(rng)
+    yield BUILD_TREE, data, rng.randbytes(2000), p, number, tree
+    for record in sorted({MODEL.build(data, number, p)[1], MODEL.build(data, number, p, tree)[1]}):
+        yield SETTLE_TREE, data, record, 0, number, tree
 
 
 def kept_tree(rng, d, sizes, mixed):
@@ -82,10 +84,11 @@ def changed_deals(rng, count):
             continue
         p = rng.choice(places)
         _, _, c, o, s = MODEL.read_entry(data[p : p + 64])
-        record = MODEL.build(data, p)[1]
+        number = deal_number(rng)
+        record = MODEL.build(data, number, p)[1]
         other = MODEL.entry(c, o, max(1, s - 1) if rng.randrange(2) else area(s))
         for at, part in ((p, other), (p, bytes(64)), (p, strayed(data[p : p + 64], 50, 1)), (o, bytes(32)), (rng.randrange(16) * 32, bytes(32))):
             changed = data[:at] + part + data[at + len(part):]
-            yield SETTLE_TREE, changed, record, 0, 0, tree
-            yield BUILD_TREE, changed, rng.randbytes(2000), p, 0, tree
+            yield SETTLE_TREE, changed, record, 0, number, tree
+            yield BUILD_TREE, changed, rng.randbytes(2000), p, number, tree
             yield BOOK_TREE, changed, data[o : o + s], 0, 0, tree

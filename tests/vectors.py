@@ -8,9 +8,11 @@ import sys
 from pathlib import Path
 
 import change_cases
+import number_cases
+import refusal_cases
 import tree_cases
-from cases import any_number, case, node, paddings, run, streams
-from model import area, filled, index_numbers, le
+from cases import any_number, case, deal_number, node, other_number, paddings, run, sparse_record, streams
+from model import index_numbers, le
 from operations import (BOOK, BUILD, CHECK, CHECK_INPUT, COMMITMENT, COMPARE, FIELDS, FIND, MAKE, MODEL, NAMES, NUMBERS, READ, SETTLE,
                         SETTLE_DEAL, TALLY, answer, encode)
 
@@ -30,7 +32,8 @@ def bookings(rng, size, segments):
     for s in segments:
         yield BOOK, deal, s, 0, 0
         deal = MODEL.book(deal, s)[3]
-    yield SETTLE_DEAL, deal, MODEL.build(deal, index_numbers(size)[2])[1], 0, 0
+    number = deal_number(rng)
+    yield SETTLE_DEAL, deal, MODEL.build(deal, number, index_numbers(size)[2])[1], 0, number
 
 
 def worked_runs(rng):
@@ -55,10 +58,11 @@ def sizes_in_deals(rng):
             yield BOOK, deal, segment, 0, 0
             yield from ((BOOK, after, s, 0, 0) for s in (segment, shorter, longer))
             yield FIND, after, after[p : p + 32], 0, 0
-            yield BUILD, after, bytes(2000), p, 0
-            record = MODEL.build(after, p)[1]
-            yield CHECK, record, MODEL.commitment(after)[1], d, 0
-            yield SETTLE_DEAL, after, record, 0, 0
+            number = deal_number(rng)
+            yield BUILD, after, bytes(2000), p, number
+            record = MODEL.build(after, number, p)[1]
+            yield CHECK, record, MODEL.commitment(after)[1], d, number
+            yield SETTLE_DEAL, after, record, 0, number
     for size in (0, 257, 512):
         yield BOOK, bytes(512), bytes(size), 0, 0
 
@@ -70,10 +74,11 @@ def other_trailer(rng):
     deal[768:832] = MODEL.entry(MODEL.tree(bytes(deal[:256]))[-1][0], 0, 130)
     deal = bytes(deal)
     yield FIND, deal, deal[768:800], 0, 0
-    yield BUILD, deal, bytes(2000), 768, 0
-    record = MODEL.build(deal, 768)[1]
-    yield CHECK, record, MODEL.commitment(deal)[1], 1024, 0
-    yield SETTLE_DEAL, deal, record, 0, 0
+    number = deal_number(rng)
+    yield BUILD, deal, bytes(2000), 768, number
+    record = MODEL.build(deal, number, 768)[1]
+    yield CHECK, record, MODEL.commitment(deal)[1], 1024, number
+    yield SETTLE_DEAL, deal, record, 0, number
     yield BOOK, deal, deal[:130], 0, 0
 
 
@@ -82,53 +87,33 @@ def two_places(rng):
     deal = bytes(1024)
     for size in (100, 130):
         deal = MODEL.book(deal, run(rng, size))[3]
-    r, s = (MODEL.build(deal, p)[1] for p in (768, 832))
+    number = deal_number(rng)
+    r, s = (MODEL.build(deal, number, p)[1] for p in (768, 832))
     root = MODEL.commitment(deal)[1]
     for a, b in ((r, s), (s, r), (r, r), (r, s[:-1])):
-        yield SETTLE, a, b, 1024, 0, root
-
-
-def sparse_record(rng, d, size):
-    """The record and the commitment of a deal of d bytes that is zero but for one segment and its entry."""
-    h = MODEL.h
-    zero = [bytes(32)]
-    for _ in range(40):
-        zero.append(h.node(zero[-1] + zero[-1]))
-    _, n, start = index_numbers(d)
-    taken = area(size)
-    segment = filled(run(rng, size))
-    o = rng.randrange(start // taken) * taken
-    p = start + 64 * rng.randrange(n)
-    commitment = MODEL.tree(segment)[-1][0]
-    entry = MODEL.entry(commitment, o, size)
-    levels = [{(o + 32 * i) // 32: segment[32 * i : 32 * i + 32] for i in range(taken // 32)}]
-    levels[0][p // 32], levels[0][p // 32 + 1] = entry[:32], entry[32:]
-    top = d.bit_length() - 6
-    for k in range(top):
-        at = lambda i: levels[k].get(i, zero[k])
-        levels.append({i // 2: h.node(at(i & ~1) + at(i | 1)) for i in levels[k]})
-    path = lambda k, q: [levels[k + j].get((q >> j) ^ 1, zero[k + j]) for j in range(top - k)]
-    k = (taken // 32).bit_length() - 1
-    record = MODEL.encode(commitment, o, size, p, path(k, o // taken), path(1, p // 64))
-    return levels[top][0], record
+        yield SETTLE, a, b, 1024, number, root
 
 
 def large_deals(rng):
-    """Records for deals up to 2^36 bytes, whole and damaged in one byte of each kind of field."""
+    """Records for deals up to 2^36 bytes: whole, without their number, damaged in one byte of each kind of field."""
     for d, size in ((512, 128), (512, 256), (1 << 20, 1024), (1 << 20, 258), (1 << 24, 128), (1 << 24, 1),
                     (1 << 30, 1 << 12), (1 << 36, 128), (1 << 36, 130), (1 << 36, 1 << 20)):
-        root, r = sparse_record(rng, d, size)
-        yield CHECK, r, root, d, 0
-        yield SETTLE, r, r, d, 0, root
+        number = deal_number(rng)
+        root, r = sparse_record(rng, d, size, number)
+        yield CHECK, r, root, d, number
+        yield SETTLE, r, r, d, number, root
         yield FIELDS, r, b"", 0, 0
-        yield CHECK_INPUT, root + le(d) + r, b"", 0, 0
-        for at in (0, 1, 3, 38, 49, 60, 68, 71, len(r) - 1, len(r) - 32):
-            damaged = bytearray(r)
-            damaged[at] ^= 1
-            yield CHECK, bytes(damaged), root, d, 0
-            yield SETTLE, r, bytes(damaged), d, 0, root
-        yield CHECK, r, root, d // 2, 0
-        yield CHECK, r, bytes(32), d, 0
+        yield CHECK_INPUT, root + le(d) + le(number) + r, b"", 0, 0
+        n = len(r)
+        places = 0, 1, 3, 38, 49, 60, 68, 71, n - 43, n - 12, n - 8
+        spoilt = [r[:at] + bytes([r[at] ^ 1]) + r[at + 1:] for at in places]
+        for record in (r[:-11], *spoilt):
+            yield CHECK, record, root, d, number
+            yield SETTLE, r, record, d, number, root
+        yield CHECK, r, root, d // 2, number
+        yield CHECK, r, bytes(32), d, number
+        other = other_number(rng, number)
+        yield from ((CHECK, record, root, d, other) for record in (r, r[:-11]))
 
 
 def kinds_of_entries(rng):
@@ -173,11 +158,12 @@ def stray_paths(rng):
         sibling, *below = free
         p = 256 + 64 * rng.randrange(4)
         left, right = h.node(c + sibling), MODEL.path_root(h.node(MODEL.entry(c, 0, 128)), p // 64, below)
-        record = MODEL.encode(c, 0, 128, p, [sibling, right], [*below, left])
+        number = deal_number(rng)
+        record = MODEL.encode(c, 0, 128, p, [sibling, right], [*below, left], number)
         root = h.node(left + right)
-        yield CHECK, record, root, 512, 0
-        yield SETTLE, record, record, 512, 0, root
-        yield CHECK_INPUT, root + le(512) + record, b"", 0, 0
+        yield CHECK, record, root, 512, number
+        yield SETTLE, record, record, 512, number, root
+        yield CHECK_INPUT, root + le(512) + le(number) + record, b"", 0, 0
 
 
 def compared_paths(rng):
@@ -196,12 +182,16 @@ def compared_paths(rng):
 
 def inputs(rng):
     """Inputs of the program check_record at the edges of its lengths."""
-    root, r = sparse_record(rng, 512, 128)
-    for n in (0, 1, 31, 32, 39, 40, 41, 273, 274):
-        yield CHECK_INPUT, (root + le(512) + r)[:n], b"", 0, 0
-    for n in (4096, 4097):
-        yield CHECK_INPUT, root + le(512) + (r + bytes(n))[:n], b"", 0, 0
-        yield CHECK_INPUT, root + le(0) + bytes(n), b"", 0, 0
+    number = rng.randrange(1 << 64)
+    root, r = sparse_record(rng, 512, 128, number)
+    terms = root + le(512) + le(number)
+    for n in (0, 1, 31, 32, 39, 40, 41, 47, 48, 49, 292, 293):
+        yield CHECK_INPUT, (terms + r)[:n], b"", 0, 0
+    for n in (4088, 4096, 4097):
+        yield CHECK_INPUT, terms + (r + bytes(n))[:n], b"", 0, 0
+        yield CHECK_INPUT, root + le(0) + le(number) + bytes(n), b"", 0, 0
+    yield CHECK_INPUT, root + le(512) + r, b"", 0, 0  # without the number
+    yield CHECK_INPUT, root + le(number) + le(512) + r, b"", 0, 0  # the number before D
 
 
 def all_cases():
@@ -228,6 +218,8 @@ def all_cases():
     yield from change_cases.one_rule(random.Random(2048))
     yield from change_cases.runs(random.Random(16), 3, (512, 1024), 12)
     yield from change_cases.foreign_deals(random.Random(256), 8, (512, 1024))
+    yield from number_cases.stored(random.Random(21))
+    yield from refusal_cases.stored()
     yield COMMITMENT, run(rng, 8192), b"", 0, 0
     for _ in range(50):
         for op in NAMES:
@@ -248,8 +240,8 @@ def main():
         else:
             path.write_bytes(data)
     codes = sorted({int(line.split()[0]) for line in texts["crates/vectors/stdout"].decode().splitlines()})
-    if codes != [*range(21), 24]:
-        sys.exit(f"vectors: the codes {codes} are not 0 to 20 and 24")
+    if codes != [*range(22), 24]:
+        sys.exit(f"vectors: the codes {codes} are not 0 to 21 and 24")
     print(f"vectors: {len(calls)} calls, codes {codes}")
 
 

@@ -90,7 +90,7 @@ func go_check(commitment *C.uint8_t, record *C.uint8_t, n C.size_t) C.int {
 	if pathRoot(segment, offset/size, r[71:end]) != root {
 		return 0
 	}
-	if pathRoot(nodeHash(entry[:]), place/64, r[end+3:]) != root {
+	if pathRoot(nodeHash(entry[:]), place/64, r[end+3:len(r)-11]) != root {
 		return 0
 	}
 	return 1

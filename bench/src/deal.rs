@@ -1,7 +1,7 @@
 //! The routines over a deal of 16 MiB beside one pass over it: reading every byte, and hashing its tree. Worst cases with them.
 use crate::aims::Aim;
 use crate::passes::{Passes, Works};
-use crate::record::filled;
+use crate::record::{filled, DEAL_NUMBER};
 use crate::timing::Work;
 use crate::{DEAL, SEGMENT};
 use std::hint::black_box;
@@ -121,10 +121,10 @@ fn lookups(deal: &[u8], last: u64) -> Works<'_> {
 }
 
 fn records<'a>(deal: &'a [u8], last: u64, (half, place): &'a (Vec<u8>, u64)) -> Works<'a> {
-    let build = move || vizhuthamen::build(black_box(deal), None, last).unwrap();
+    let build = move || vizhuthamen::build(black_box(deal), None, DEAL_NUMBER, last).unwrap();
     let record = build();
-    let build_half = move || vizhuthamen::build(black_box(half), None, *place).unwrap();
-    let settle = move || vizhuthamen::settle_with_deal(deal, None, black_box(&record)).unwrap();
+    let build_half = move || vizhuthamen::build(black_box(half), None, DEAL_NUMBER, *place).unwrap();
+    let settle = move || vizhuthamen::settle_with_deal(deal, None, DEAL_NUMBER, black_box(&record)).unwrap();
     assert!(matches!(settle(), Settled::Same));
     vec![
         (

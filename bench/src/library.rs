@@ -1,6 +1,6 @@
 //! The library at one level of x86-64, or an earlier one, opened as a shared object: so that all are timed in one process.
 use crate::peers::{Node, Peer};
-use crate::record::{Longest, DEAL_SIZE};
+use crate::record::{Longest, DEAL_NUMBER, DEAL_SIZE};
 use std::ffi::{c_char, c_int, c_void, CStr, CString};
 use std::path::Path;
 use vizhuthamen::STREAM_STATE;
@@ -70,17 +70,17 @@ functions! {
     book: (Out, usize, In, usize, Number, Number);
     cancel: (Out, usize, u64);
     collect: (In, usize, Out, usize);
-    build: (In, usize, u64, Out, usize, Number);
-    check: (In, usize, u64, In, usize);
-    settle_records: (In, usize, u64, In, usize, In, usize, Out, usize, Out, usize);
-    settle_with_deal: (In, usize, In, usize, Out, usize, Out, usize);
+    build: (In, usize, u64, u64, Out, usize, Number);
+    check: (In, usize, u64, u64, In, usize);
+    settle_records: (In, usize, u64, u64, In, usize, In, usize, Out, usize, Out, usize);
+    settle_with_deal: (In, usize, u64, In, usize, Out, usize, Out, usize);
     tree_fill: (In, usize, Out, usize);
     tree_row: (In, usize, Out, usize);
     book_with_tree: (Out, usize, Out, usize, In, usize, Number, Number);
     cancel_with_tree: (Out, usize, Out, usize, u64);
     collect_with_tree: (In, usize, Out, usize, Out, usize);
-    build_with_tree: (In, usize, In, usize, u64, Out, usize, Number);
-    settle_with_tree: (In, usize, In, usize, In, usize, Out, usize, Out, usize);
+    build_with_tree: (In, usize, In, usize, u64, u64, Out, usize, Number);
+    settle_with_tree: (In, usize, In, usize, u64, In, usize, Out, usize, Out, usize);
     read_field: (In, usize, u64, *mut u32, Number, Number, Number);
 }
 
@@ -147,9 +147,9 @@ impl Library {
     }
 
     pub fn accepts(&self, commitment: &[u8], size: u64, record: &[u8]) -> bool {
+        let (commitment, n, record, m) = (commitment.as_ptr(), commitment.len(), record.as_ptr(), record.len());
         // SAFETY: both slices are live, and nothing is written.
-        let code = unsafe { (self.check)(commitment.as_ptr(), commitment.len(), size, record.as_ptr(), record.len()) };
-        code == 0
+        unsafe { (self.check)(commitment, n, size, DEAL_NUMBER, record, m) == 0 }
     }
 }
 

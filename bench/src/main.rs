@@ -38,7 +38,7 @@ fn main() {
     match words.iter().map(String::as_str).collect::<Vec<_>>()[..] {
         ["--functions"] => library::FUNCTIONS.iter().for_each(|name| println!("{name}")),
         [folder] => everything(&libraries(Path::new(folder))),
-        [folder, "--peers"] => drop(beside_peers(&libraries(Path::new(folder)), &peers::peers())),
+        [folder, "--peers"] => drop(beside_peers(&current(&libraries(Path::new(folder))), &peers::peers())),
         _ => panic!("bench FOLDER [--peers], or bench --functions"),
     }
 }
@@ -53,12 +53,12 @@ fn beside_peers(libraries: &[Library], peers: &[Box<dyn Peer>]) -> Vec<Aim> {
 
 fn everything(libraries: &[Library]) {
     let peers = peers::peers();
-    let mut aims = beside_peers(libraries, &peers);
+    let now = current(libraries);
+    let mut aims = beside_peers(&now, &peers);
     section(
         "Every routine by level",
         "The time on the lowest level, the level chosen here, the ratio of each level's time.",
     );
-    let now: Vec<Library> = libraries.iter().filter(|library| library.name != BEFORE).cloned().collect();
     aims.extend(routines::print(&now));
     section("Growth", "Commitments: nanoseconds a node hash, by the size of the run.");
     aims.extend(growth::print(libraries, &peers));
@@ -85,6 +85,11 @@ fn everything(libraries: &[Library]) {
 
 fn section(name: &str, said: &str) {
     println!("\n### {name}\n\n{said}\n");
+}
+
+/// All libraries but the earlier one, whose records, and the functions that take them, may be other ones.
+fn current(libraries: &[Library]) -> Vec<Library> {
+    libraries.iter().filter(|library| library.name != BEFORE).cloned().collect()
 }
 
 /// The library that chooses its level, each level that this processor has, the lowest first, and the earlier library if there

@@ -2,6 +2,8 @@
 use crate::peers::{joined, Node, OpenSsl, Peer};
 
 pub const DEAL_SIZE: u64 = 1 << 36;
+/// The number of every deal that is measured.
+pub const DEAL_NUMBER: u64 = 58;
 const SEGMENT_SIZE: u64 = 128;
 
 /// A record with the commitment of its deal, and what a peer needs to walk its two paths.
@@ -58,8 +60,8 @@ pub fn entry(sha256: impl Fn(&[u8]) -> Node, segment: &Node) -> [u8; 64] {
 }
 
 fn encoded(segment: &Node, place: u64, segment_path: &[u8], entry_path: &[u8]) -> Vec<u8> {
-    let (offset, size, place) = (0u64.to_le_bytes(), SEGMENT_SIZE.to_le_bytes(), place.to_le_bytes());
-    let contents: [&[u8]; 6] = [segment, &offset, &size, &place, segment_path, entry_path];
+    let [offset, size, place, number] = [0, SEGMENT_SIZE, place, DEAL_NUMBER].map(u64::to_le_bytes);
+    let contents: [&[u8]; 7] = [segment, &offset, &size, &place, segment_path, entry_path, &number];
     let mut record = vec![];
     for (tag, content) in (1..).zip(contents) {
         record.push(tag);

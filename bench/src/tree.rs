@@ -2,7 +2,7 @@
 use crate::aims::Aim;
 use crate::deal::booked_deal;
 use crate::passes::{Passes, Works};
-use crate::record::filled;
+use crate::record::{filled, DEAL_NUMBER};
 use crate::timing::Work;
 use std::hint::black_box;
 use vizhuthamen::{Booking, Refusal, Settled};
@@ -45,7 +45,7 @@ impl InHand {
     }
 
     fn build(&self, place: u64) -> Result<Vec<u8>, Refusal> {
-        vizhuthamen::build(black_box(&self.deal), Some(&self.tree), place)
+        vizhuthamen::build(black_box(&self.deal), Some(&self.tree), DEAL_NUMBER, place)
     }
 
     /// All that is judged before a place is: one pass over the deal for stray bits.
@@ -104,7 +104,8 @@ fn records(full: &InHand) -> Works<'_> {
         move || vizhuthamen::tree_fill_with_threads(&full.deal, black_box(&mut tree), 1).expect("a deal and its tree");
     let record = full.build(full.last).expect("it is kept");
     let settle = move || {
-        let settled = vizhuthamen::settle_with_deal(&full.deal, Some(&full.tree), black_box(&record));
+        let record = black_box(&record);
+        let settled = vizhuthamen::settle_with_deal(&full.deal, Some(&full.tree), DEAL_NUMBER, record);
         assert_eq!(settled, Ok(Settled::Same));
     };
     let build = |place| {

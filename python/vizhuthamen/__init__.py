@@ -6,8 +6,9 @@ and yet carry values (15 of a booking, 17 of a settling) are the cases AlreadyKe
 
     deal = bytearray(512)
     booked = vizhuthamen.book(deal, bytes(128))
-    record = vizhuthamen.build(deal, booked.position.place)
-    vizhuthamen.check(vizhuthamen.commitment(deal), 512, record)
+    number = 2026  # the deal's, which its bytes do not hold
+    record = vizhuthamen.build(deal, number, booked.position.place)
+    vizhuthamen.check(vizhuthamen.commitment(deal), 512, number, record)
 
 What is written, a deal that is booked into among them, is a bytearray or a memoryview that may be written. What is read is copied only
 where it is a memoryview that may not be written. No other thread may change lent memory during a call.

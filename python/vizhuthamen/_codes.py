@@ -39,6 +39,7 @@ class Refusal(Exception):
     OTHER_PLACE: Final = 18
     PATH_BITS: Final = 19
     OVERLAP: Final = 20
+    DEAL_NUMBER: Final = 21
     SEGMENT_LENGTH: Final = 24
 
     def __init__(self, code: int) -> None:

@@ -14,7 +14,7 @@ Readable = Union[bytes, bytearray, memoryview]
 Writable = Union[bytearray, memoryview]
 Number = Union[ctypes.c_uint32, ctypes.c_uint64]
 
-NAME = "libvizhuthamen.so.0.1"
+NAME = "libvizhuthamen.so.0.2"
 
 # The functions of vizhuthamen.h: `in` and `out` are memory that is read, and that is written, a pointer and a length each; u64 is a
 # number; u32* and u64* are numbers that are written.
@@ -35,17 +35,17 @@ FUNCTIONS = {
     "vz_book": "out in u64* u64*",
     "vz_cancel": "out u64",
     "vz_collect": "in out",
-    "vz_build": "in u64 out u64*",
-    "vz_check": "in u64 in",
-    "vz_settle_records": "in u64 in in out out",
-    "vz_settle_with_deal": "in in out out",
+    "vz_build": "in u64 u64 out u64*",
+    "vz_check": "in u64 u64 in",
+    "vz_settle_records": "in u64 u64 in in out out",
+    "vz_settle_with_deal": "in u64 in out out",
     "vz_tree_fill": "in out",
     "vz_tree_row": "in out",
     "vz_book_with_tree": "out out in u64* u64*",
     "vz_cancel_with_tree": "out out u64",
     "vz_collect_with_tree": "in out out",
-    "vz_build_with_tree": "in in u64 out u64*",
-    "vz_settle_with_tree": "in in in out out",
+    "vz_build_with_tree": "in in u64 u64 out u64*",
+    "vz_settle_with_tree": "in in u64 in out out",
     "vz_read_field": "in u64 u32* u64* u64* u64*",
 }
 

@@ -8,7 +8,7 @@ from typing import Final, Iterator, Optional, Union
 from ._codes import Refusal, accepted
 from ._library import Readable, Writable, byte_view, call, numbers
 
-MAX_RECORD: Final = 1962
+MAX_RECORD: Final = 1973
 """The length of the longest record that is accepted, and so of the longest that is built."""
 
 
@@ -39,42 +39,43 @@ class Field:
     next: int
 
 
-def build_into(deal: Readable, place: int, output: Writable, *, tree: Optional[Readable] = None) -> int:
-    """Builds the record of the entry at a place into the first bytes of an output: its length. Refusals: 2, 11, 6, 16, 12; with a tree
-    12 after 11 too, for its length."""
+def build_into(deal: Readable, number: int, place: int, output: Writable, *, tree: Optional[Readable] = None) -> int:
+    """Builds the record of the entry at a place, for the deal of this number, into the first bytes of an output: its length. Refusals:
+    2, 11, 6, 16, 12; with a tree 12 after 11 too, for its length."""
     (length,) = numbers(1)
     if tree is None:
-        accepted(call("vz_build", deal, place, output, length))
+        accepted(call("vz_build", deal, number, place, output, length))
     else:
-        accepted(call("vz_build_with_tree", deal, tree, place, output, length))
+        accepted(call("vz_build_with_tree", deal, tree, number, place, output, length))
     return length.value
 
 
-def build(deal: Readable, place: int, *, tree: Optional[Readable] = None) -> bytes:
-    """The record of the entry at a place of a deal. Refusals: 2, 11, 6, 16; with a tree 12 after 11."""
+def build(deal: Readable, number: int, place: int, *, tree: Optional[Readable] = None) -> bytes:
+    """The record of the entry at a place of a deal with this number. Refusals: 2, 11, 6, 16; with a tree 12 after 11."""
     record = bytearray(MAX_RECORD)
-    return bytes(record[: build_into(deal, place, record, tree=tree)])
+    return bytes(record[: build_into(deal, number, place, record, tree=tree)])
 
 
-def check(commitment: Readable, size: int, record: Readable) -> None:
-    """Checks a record against a deal's commitment and size. Refusals, in this order: 1 to 8, 19, 9, 10."""
-    accepted(call("vz_check", commitment, size, record))
+def check(commitment: Readable, size: int, number: int, record: Readable) -> None:
+    """Checks a record against a deal's commitment, size and number. Refusals, in this order: 1, 2, 3, 21, 4 to 8, 19, 9, 10."""
+    accepted(call("vz_check", commitment, size, number, record))
 
 
-def settle_records(commitment: Readable, size: int, first: Readable, second: Readable) -> Settled:
-    """Settles two records for one deal commitment and size. Refusals: those of the first one's check, of the second one's, 18."""
+def settle_records(commitment: Readable, size: int, number: int, first: Readable, second: Readable) -> Settled:
+    """Settles two records for one deal commitment, size and number. Refusals: those of the first one's check, of the second one's,
+    18."""
     left, right = bytearray(64), bytearray(64)
-    return _settled(call("vz_settle_records", commitment, size, first, second, left, right), left, right)
+    return _settled(call("vz_settle_records", commitment, size, number, first, second, left, right), left, right)
 
 
-def settle_with_deal(deal: Readable, record: Readable, *, tree: Optional[Readable] = None) -> Settled:
-    """Settles a record with a deal in hand. Refusals: 2, 11, those of the check against the deal's own commitment and length; with a
-    tree 12 after 11."""
+def settle_with_deal(deal: Readable, number: int, record: Readable, *, tree: Optional[Readable] = None) -> Settled:
+    """Settles a record with a deal in hand, whose number this is. Refusals: 2, 11, those of the check against the deal's own commitment
+    and length and this number; with a tree 12 after 11."""
     left, right = bytearray(64), bytearray(64)
     if tree is None:
-        code = call("vz_settle_with_deal", deal, record, left, right)
+        code = call("vz_settle_with_deal", deal, number, record, left, right)
     else:
-        code = call("vz_settle_with_tree", deal, tree, record, left, right)
+        code = call("vz_settle_with_tree", deal, tree, number, record, left, right)
     return _settled(code, left, right)
 
 

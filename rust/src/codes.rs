@@ -46,6 +46,7 @@ refusals! {
     18 OTHER_PLACE "the two records name different entry places"
     19 PATH_BITS "a node of a path has stray bits"
     20 OVERLAP "two standing entries overlap"
+    21 DEAL_NUMBER "the record's deal number differs from the caller's"
     24 SEGMENT_LENGTH "the segment has another length than the raw length gives"
 }
 
@@ -103,7 +104,7 @@ mod tests {
             assert_eq!(refusal.meaning(), *text);
             assert!(REFUSALS[..i].iter().all(|other| other.0.code() < refusal.code() && other.2 != *text), "{refusal}");
         }
-        for code in [21, 23, 25, u32::MAX] {
+        for code in [22, 23, 25, u32::MAX] {
             assert_eq!(meaning(code), "unknown code");
         }
     }

@@ -97,21 +97,25 @@ extern "C" {
     /// Collects a deal into a second one of the same length. Codes: 2, 12, 11, 20.
     pub fn vz_collect(deal: *const u8, deal_len: usize, second: *mut u8, second_len: usize) -> u32;
 
-    /// Builds the record of the entry at a place into the first bytes of `record`. Codes: 2, 11, 6, 16, 12.
+    /// Builds the record of the entry at a place, for the deal of this number, into the first bytes of `record`. Codes:
+    /// 2, 11, 6, 16, 12.
     pub fn vz_build(
         deal: *const u8,
         deal_len: usize,
+        number: u64,
         place: u64,
         record: *mut u8,
         record_len: usize,
         length: *mut u64,
     ) -> u32;
 
-    /// Checks a record against a deal's commitment and size. Codes, in this order: 1 to 8, 19, 9, 10.
+    /// Checks a record against a deal's commitment, size and number. Codes, in this order: 1, 2, 3, 21, 4, 5, 6, 7, 8,
+    /// 19, 9, 10.
     pub fn vz_check(
         commitment: *const u8,
         commitment_len: usize,
         size: u64,
+        number: u64,
         record: *const u8,
         record_len: usize,
     ) -> u32;
@@ -122,6 +126,7 @@ extern "C" {
         commitment: *const u8,
         commitment_len: usize,
         size: u64,
+        number: u64,
         first: *const u8,
         first_len: usize,
         second: *const u8,
@@ -136,6 +141,7 @@ extern "C" {
     pub fn vz_settle_with_deal(
         deal: *const u8,
         deal_len: usize,
+        number: u64,
         record: *const u8,
         record_len: usize,
         left: *mut u8,
@@ -181,6 +187,7 @@ extern "C" {
         deal_len: usize,
         tree: *const u8,
         tree_len: usize,
+        number: u64,
         place: u64,
         record: *mut u8,
         record_len: usize,
@@ -193,6 +200,7 @@ extern "C" {
         deal_len: usize,
         tree: *const u8,
         tree_len: usize,
+        number: u64,
         record: *const u8,
         record_len: usize,
         left: *mut u8,
@@ -275,18 +283,18 @@ mod tests {
 
     #[test]
     fn two_outputs() {
-        let (deal, tree, record, root) = ([0; 512], [0; 480], [0; 234], [0; 32]);
+        let (deal, tree, record, root) = ([0; 512], [0; 480], [0; 245], [0; 32]);
         let records = |left: &mut [u8], right: &mut [u8]| unsafe {
             let (l, ln, r, rn) = (left.as_mut_ptr(), left.len(), right.as_mut_ptr(), right.len());
-            vz_settle_records(root.as_ptr(), 32, 512, record.as_ptr(), 234, record.as_ptr(), 234, l, ln, r, rn)
+            vz_settle_records(root.as_ptr(), 32, 512, 9, record.as_ptr(), 245, record.as_ptr(), 245, l, ln, r, rn)
         };
         let with_deal = |left: &mut [u8], right: &mut [u8]| unsafe {
             let (l, ln, r, rn) = (left.as_mut_ptr(), left.len(), right.as_mut_ptr(), right.len());
-            vz_settle_with_deal(deal.as_ptr(), 512, record.as_ptr(), 234, l, ln, r, rn)
+            vz_settle_with_deal(deal.as_ptr(), 512, 9, record.as_ptr(), 245, l, ln, r, rn)
         };
         let with_tree = |left: &mut [u8], right: &mut [u8]| unsafe {
             let (l, ln, r, rn) = (left.as_mut_ptr(), left.len(), right.as_mut_ptr(), right.len());
-            vz_settle_with_tree(deal.as_ptr(), 512, tree.as_ptr(), 480, record.as_ptr(), 234, l, ln, r, rn)
+            vz_settle_with_tree(deal.as_ptr(), 512, tree.as_ptr(), 480, 9, record.as_ptr(), 245, l, ln, r, rn)
         };
         refuses_lengths(64, |out| records(out, &mut [0; 64]));
         refuses_lengths(64, |out| records(&mut [0; 64], out));
@@ -331,12 +339,12 @@ mod tests {
             assert_eq!(vz_tally(deal.as_ptr(), 511, &mut a, &mut b, &mut c), 2);
             assert_eq!(vz_find(deal.as_ptr(), 512, deal.as_ptr(), 32, &mut a, &mut b, &mut c), 16);
             assert_eq!(vz_book(deal.as_mut_ptr(), 512, segment(1, 512).as_ptr(), 512, &mut a, &mut b), 4);
-            assert_eq!(vz_build(deal.as_ptr(), 512, 256, [0; 300].as_mut_ptr(), 300, &mut a), 16);
+            assert_eq!(vz_build(deal.as_ptr(), 512, 9, 256, [0; 300].as_mut_ptr(), 300, &mut a), 16);
             let (lent, t) = (deal.as_mut_ptr(), tree.as_mut_ptr());
             assert_eq!(vz_book_with_tree(lent, 512, t, 479, [0; 128].as_ptr(), 128, &mut a, &mut b), 12);
             assert_eq!(vz_book_with_tree(lent, 512, t, 480, [0; 512].as_ptr(), 512, &mut a, &mut b), 4);
-            assert_eq!(vz_build_with_tree(lent, 512, t, 479, 256, [0; 300].as_mut_ptr(), 300, &mut a), 12);
-            assert_eq!(vz_build_with_tree(lent, 512, t, 480, 256, [0; 300].as_mut_ptr(), 300, &mut a), 16);
+            assert_eq!(vz_build_with_tree(lent, 512, t, 479, 9, 256, [0; 300].as_mut_ptr(), 300, &mut a), 12);
+            assert_eq!(vz_build_with_tree(lent, 512, t, 480, 9, 256, [0; 300].as_mut_ptr(), 300, &mut a), 16);
             assert_eq!(vz_read_field(deal.as_ptr(), 2, 0, &mut tag, &mut a, &mut b, &mut c), 3);
             assert_eq!(vz_fr32_pad(deal.as_ptr(), 0, [0; 300].as_mut_ptr(), 300, &mut a), 2);
             assert_eq!(vz_fr32_pad(deal.as_ptr(), 128, [0; 300].as_mut_ptr(), 129, &mut a), 12);

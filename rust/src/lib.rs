@@ -17,9 +17,10 @@
 //! let vizhuthamen::Booking::Booked(position) = vizhuthamen::book(&mut deal, None, &segment)? else {
 //!     unreachable!("an all-zero deal keeps nothing");
 //! };
-//! let record = vizhuthamen::build(&deal, None, position.place)?;
+//! let number = 2026; // the deal's, which its bytes do not hold
+//! let record = vizhuthamen::build(&deal, None, number, position.place)?;
 //! let commitment = vizhuthamen::commitment(&deal)?;
-//! vizhuthamen::check(commitment.as_ref(), 512, &record)?;
+//! vizhuthamen::check(commitment.as_ref(), 512, number, &record)?;
 //! # Ok::<(), vizhuthamen::Refusal>(())
 //! ```
 #![deny(missing_docs)]

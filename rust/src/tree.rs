@@ -226,9 +226,9 @@ mod tests {
             assert_eq!(tree, nodes(&deal));
         }
         for place in (1792..2048).step_by(64) {
-            let record = build(&deal, Some(&tree), place);
-            assert_eq!(record, build(&deal, None, place));
-            assert_eq!(settle_with_deal(&deal, Some(&tree), &record.unwrap()), Ok(Settled::Same));
+            let record = build(&deal, Some(&tree), 9, place);
+            assert_eq!(record, build(&deal, None, 9, place));
+            assert_eq!(settle_with_deal(&deal, Some(&tree), 9, &record.unwrap()), Ok(Settled::Same));
         }
     }
 
@@ -273,7 +273,7 @@ mod tests {
         assert_eq!(collect(&deal, &mut second, Some(&mut tree)), Ok(()));
         assert_eq!(second, plain);
         assert_eq!(tree, nodes(&second));
-        assert_eq!(build(&second, Some(&tree), 1856), build(&second, None, 1856));
+        assert_eq!(build(&second, Some(&tree), 9, 1856), build(&second, None, 9, 1856));
     }
 
     #[test]
@@ -281,9 +281,9 @@ mod tests {
         let mut deal = [0; 1024];
         let mut tree = filled_tree(&deal).unwrap();
         book(&mut deal, None, b"x").unwrap();
-        assert_eq!(build(&deal, Some(&tree), 768), Err(Refusal::NOT_KEPT));
-        let record = build(&deal, None, 768).unwrap();
-        assert_eq!(settle_with_deal(&deal, Some(&tree), &record), Err(Refusal::SEGMENT_PATH));
+        assert_eq!(build(&deal, Some(&tree), 9, 768), Err(Refusal::NOT_KEPT));
+        let record = build(&deal, None, 9, 768).unwrap();
+        assert_eq!(settle_with_deal(&deal, Some(&tree), 9, &record), Err(Refusal::SEGMENT_PATH));
         let again = Ok(Booking::Booked(Position { offset: 128, place: 832 }));
         assert_eq!(book(&mut deal, Some(&mut tree), b"x"), again);
     }
@@ -293,9 +293,9 @@ mod tests {
         let mut deal = [0; 1024];
         book(&mut deal, None, &segment(1, 256)).unwrap();
         let mut tree = filled_tree(&deal).unwrap();
-        let record = build(&deal, None, 768).unwrap();
+        let record = build(&deal, None, 9, 768).unwrap();
         tree[896] ^= 1; // the left one of the two nodes below the top
-        let Ok(Settled::Collision { left, right }) = settle_with_deal(&deal, Some(&tree), &record) else {
+        let Ok(Settled::Collision { left, right }) = settle_with_deal(&deal, Some(&tree), 9, &record) else {
             panic!("a node on the way differs");
         };
         assert_eq!(right[..32], tree[896..928]);
@@ -309,8 +309,8 @@ mod tests {
         let before = deal;
         for length in [0, 479, 481, 512] {
             assert_eq!(book(&mut deal, Some(&mut tree[..length]), &segment(1, 128)), Err(Refusal::OUTPUT));
-            assert_eq!(build(&deal, Some(&tree[..length]), 300), Err(Refusal::OUTPUT));
-            assert_eq!(settle_with_deal(&deal, Some(&tree[..length]), &[]), Err(Refusal::OUTPUT));
+            assert_eq!(build(&deal, Some(&tree[..length]), 9, 300), Err(Refusal::OUTPUT));
+            assert_eq!(settle_with_deal(&deal, Some(&tree[..length]), 9, &[]), Err(Refusal::OUTPUT));
             assert_eq!(cancel(&mut deal, Some(&mut tree[..length]), 300), Err(Refusal::OUTPUT));
             let mut second = [7; 512];
             assert_eq!(collect(&deal, &mut second, Some(&mut tree[..length])), Err(Refusal::OUTPUT));

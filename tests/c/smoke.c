@@ -27,6 +27,7 @@ static uint8_t deal[512], first_segment[128], second_segment[128], third_segment
 static uint8_t commitment[32], deal_commitment[32], entry[64], record[VZ_MAX_RECORD], left[64], right[64];
 static uint64_t offset, place, size, length, start, next, entries, blank, damaged, valid;
 static uint32_t kind, state, tag;
+static const uint64_t number = 0x0102030405060708; /* the deal's */
 
 static void hashing(void) {
   static const uint8_t digest_of_abc[32] = {
@@ -129,11 +130,15 @@ static void looking(void) {
 }
 
 static void records(void) {
-  answer("build", vz_build(deal, 512, 256, record, sizeof record, &length), VZ_OK);
-  answer("build, length", length, 234);
-  answer("build in 233 bytes", vz_build(deal, 512, 256, record, 233, &length), VZ_OUTPUT);
+  static const uint8_t last_field[11] = {7, 8, 0, 8, 7, 6, 5, 4, 3, 2, 1};
+  answer("build", vz_build(deal, 512, number, 256, record, sizeof record, &length), VZ_OK);
+  answer("build, length", length, 245);
+  answer("build, the deal's number", memcmp(record + 234, last_field, 11) == 0, 1);
+  answer("build in 244 bytes", vz_build(deal, 512, number, 256, record, 244, &length), VZ_OUTPUT);
   answer("commitment of the deal", vz_commitment(deal, 512, deal_commitment, 32), VZ_OK);
-  answer("check", vz_check(deal_commitment, 32, 512, record, length), VZ_OK);
+  answer("check", vz_check(deal_commitment, 32, 512, number, record, length), VZ_OK);
+  answer("check for another deal", vz_check(deal_commitment, 32, 512, number + 1, record, length), VZ_DEAL_NUMBER);
+  answer("check without the number", vz_check(deal_commitment, 32, 512, number, record, 234), VZ_FORM);
   answer("read field", vz_read_field(record, length, 0, &tag, &start, &size, &next), VZ_OK);
   answer("read field, tag", tag, 1);
   answer("read field, length", size, 32);
@@ -146,17 +151,24 @@ static void settling(void) {
   memset(left, 7, 64);
   memset(right, 7, 64);
   answer("settle records",
-         vz_settle_records(deal_commitment, 32, 512, record, length, record, length, left, 64, right, 64), VZ_OK);
+         vz_settle_records(deal_commitment, 32, 512, number, record, length, record, length, left, 64, right, 64),
+         VZ_OK);
   answer("settle records, strings", memcmp(left, zeros, 64) == 0 && memcmp(right, zeros, 64) == 0, 1);
-  answer("settle with the deal", vz_settle_with_deal(deal, 512, record, length, left, 64, right, 64), VZ_OK);
+  answer("settle records for another deal",
+         vz_settle_records(deal_commitment, 32, 512, ~number, record, length, record, 0, left, 64, right, 64),
+         VZ_DEAL_NUMBER);
+  answer("settle with the deal", vz_settle_with_deal(deal, 512, number, record, length, left, 64, right, 64), VZ_OK);
+  answer("settle with another deal's number",
+         vz_settle_with_deal(deal, 512, 0, record, length, left, 64, right, 64), VZ_DEAL_NUMBER);
   record[40] ^= 1;
-  answer("check of another record", vz_check(deal_commitment, 32, 512, record, length), VZ_OFFSET);
-  answer("settle with another record", vz_settle_with_deal(deal, 512, record, length, left, 64, right, 64), VZ_OFFSET);
+  answer("check of another record", vz_check(deal_commitment, 32, 512, number, record, length), VZ_OFFSET);
+  answer("settle with another record",
+         vz_settle_with_deal(deal, 512, number, record, length, left, 64, right, 64), VZ_OFFSET);
 }
 
 /* The same two bookings with a tree beside the deal: deal, commitment and first record are those from above. */
 static void with_tree(void) {
-  static uint8_t booked[512], tree[480], before[481], built[234];
+  static uint8_t booked[512], tree[480], before[481], built[245];
   memset(tree, 7, sizeof tree);
   answer("tree fill", vz_tree_fill(booked, 512, tree, 480), VZ_OK);
   answer("tree fill, 479 bytes", vz_tree_fill(booked, 512, tree, 479), VZ_OUTPUT);
@@ -172,10 +184,14 @@ static void with_tree(void) {
   answer("tree fill again, tree", memcmp(tree, before, 480) == 0, 1);
   answer("book with tree, again",
          vz_book_with_tree(booked, 512, tree, 480, first_segment, 128, &offset, &place), VZ_ALREADY_KEPT);
-  answer("build with tree", vz_build_with_tree(booked, 512, tree, 480, 256, built, 234, &length), VZ_OK);
-  answer("build with tree, record", memcmp(built, record, 234) == 0, 1);
-  answer("build with a tree of 481", vz_build_with_tree(booked, 512, before, 481, 300, built, 0, &length), VZ_OUTPUT);
-  answer("settle with tree", vz_settle_with_tree(booked, 512, tree, 480, built, 234, left, 64, right, 64), VZ_OK);
+  answer("build with tree", vz_build_with_tree(booked, 512, tree, 480, number, 256, built, 245, &length), VZ_OK);
+  answer("build with tree, record", memcmp(built, record, 245) == 0, 1);
+  answer("build with a tree of 481",
+         vz_build_with_tree(booked, 512, before, 481, number, 300, built, 0, &length), VZ_OUTPUT);
+  answer("settle with tree",
+         vz_settle_with_tree(booked, 512, tree, 480, number, built, 245, left, 64, right, 64), VZ_OK);
+  answer("settle with tree and another deal's number",
+         vz_settle_with_tree(booked, 512, tree, 480, 256, built, 245, left, 64, right, 64), VZ_DEAL_NUMBER);
   memset(before, 7, sizeof before);
   answer("tree row", vz_tree_row(booked, 512, before, 256), VZ_OK);
   answer("tree row, the next", vz_tree_row(before, 256, before + 256, 128), VZ_OK);
@@ -186,7 +202,7 @@ static void with_tree(void) {
   answer("tree row of one node", vz_tree_row(booked, 32, before, 16), VZ_OUTPUT);
   tree[448] ^= 1;
   answer("settle with another last node",
-         vz_settle_with_tree(booked, 512, tree, 480, built, 234, left, 64, right, 64), VZ_SEGMENT_PATH);
+         vz_settle_with_tree(booked, 512, tree, 480, number, built, 245, left, 64, right, 64), VZ_SEGMENT_PATH);
 }
 
 /* The first segment is cancelled and the deal collected: the second one moves to 0, and its entry to the first slot. */

@@ -3,7 +3,7 @@ use super::inputs::{Inputs, Kept};
 use super::Case;
 use crate::library::Library;
 use crate::peers::Peer;
-use crate::record::{Longest, DEAL_SIZE};
+use crate::record::{Longest, DEAL_NUMBER, DEAL_SIZE};
 use crate::timing::Work;
 use std::hint::black_box;
 use vizhuthamen::{MAX_RECORD, STREAM_STATE};
@@ -162,7 +162,10 @@ fn checks<'a>(longest: &'a Longest, kept: &'a Kept) -> Vec<Case<'a>> {
             let (root, first, length) = (longest.commitment.as_ptr(), black_box(record).as_ptr(), record.len());
             let (left, right) = (left.as_mut_ptr(), right.as_mut_ptr());
             // SAFETY: the slices are live, and the two that are written apart.
-            unsafe { (library.settle_records)(root, 32, DEAL_SIZE, first, length, first, length, left, 64, right, 64) }
+            unsafe {
+                let (d, number) = (DEAL_SIZE, DEAL_NUMBER);
+                (library.settle_records)(root, 32, d, number, first, length, first, length, left, 64, right, 64)
+            }
         }),
         call("vz_read_field", ", the first", 50_000, 0, move |library| {
             let (mut tag, mut start, mut length, mut next) = (0, 0, 0, 0);
@@ -219,14 +222,14 @@ fn records_of_deal<'a>(kept: &'a Kept, input: &'static str, repeats: usize) -> V
             let (mut record, mut written) = ([0; MAX_RECORD], 0);
             let (deal, record) = (black_box(deal).as_ptr(), record.as_mut_ptr());
             // SAFETY: the slices are live and apart.
-            unsafe { (library.build)(deal, length, kept.place, record, MAX_RECORD, &mut written) }
+            unsafe { (library.build)(deal, length, DEAL_NUMBER, kept.place, record, MAX_RECORD, &mut written) }
         }),
         call("vz_settle_with_deal", input, repeats, 0, move |library| {
             let (mut left, mut right) = ([0; 64], [0; 64]);
-            let (deal, record) = (black_box(deal).as_ptr(), &kept.record);
+            let (deal, record, m) = (black_box(deal).as_ptr(), kept.record.as_ptr(), kept.record.len());
             let (left, right) = (left.as_mut_ptr(), right.as_mut_ptr());
             // SAFETY: the slices are live and apart.
-            unsafe { (library.settle_with_deal)(deal, length, record.as_ptr(), record.len(), left, 64, right, 64) }
+            unsafe { (library.settle_with_deal)(deal, length, DEAL_NUMBER, record, m, left, 64, right, 64) }
         }),
     ]
 }
@@ -255,10 +258,9 @@ fn over_tree<'a>(kept: &'a Kept, input: &'static str, repeats: usize) -> Vec<Cas
         call("vz_build_with_tree", input, 20 * repeats, 0, move |library| {
             let (mut record, mut written) = ([0; MAX_RECORD], 0);
             let (deal, tree, record) = (black_box(deal).as_ptr(), tree.as_ptr(), record.as_mut_ptr());
+            let (number, place, room) = (DEAL_NUMBER, kept.place, MAX_RECORD);
             // SAFETY: the slices are live and apart.
-            unsafe {
-                (library.build_with_tree)(deal, length, tree, nodes, kept.place, record, MAX_RECORD, &mut written)
-            }
+            unsafe { (library.build_with_tree)(deal, length, tree, nodes, number, place, record, room, &mut written) }
         }),
         call("vz_settle_with_tree", input, 20 * repeats, 0, move |library| {
             let (mut left, mut right) = ([0; 64], [0; 64]);
@@ -266,7 +268,9 @@ fn over_tree<'a>(kept: &'a Kept, input: &'static str, repeats: usize) -> Vec<Cas
             let (left, right) = (left.as_mut_ptr(), right.as_mut_ptr());
             let (record, m) = (record.as_ptr(), record.len());
             // SAFETY: the slices are live and apart.
-            unsafe { (library.settle_with_tree)(deal, length, tree, nodes, record, m, left, 64, right, 64) }
+            unsafe {
+                (library.settle_with_tree)(deal, length, tree, nodes, DEAL_NUMBER, record, m, left, 64, right, 64)
+            }
         }),
     ]
 }

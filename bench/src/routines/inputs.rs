@@ -1,5 +1,5 @@
 //! What the measured routines are lent.
-use crate::record::{filled, Longest};
+use crate::record::{filled, Longest, DEAL_NUMBER};
 use vizhuthamen::Booking;
 
 /// Clean nodes, the longest record, and deals of 512 bytes and of 1 MiB that keep one segment of a quarter.
@@ -36,7 +36,7 @@ impl Kept {
         };
         let entry = deal[position.place as usize..][..64].to_vec();
         let tree = vizhuthamen::filled_tree(&deal).expect("a deal");
-        let record = vizhuthamen::build(&deal, None, position.place).expect("it is kept");
+        let record = vizhuthamen::build(&deal, None, DEAL_NUMBER, position.place).expect("it is kept");
         Kept { deal, tree, segment, place: position.place, entry, record }
     }
 }

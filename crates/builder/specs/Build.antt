@@ -1,5 +1,5 @@
 -- Building a record from a lent deal and an entry place (document 01, "Booking, finding, building, settling": build;
--- document 02, request (vii): the deal may have a tree beside it).
+-- document 02, request (vii): the deal may have a tree beside it; request (ix): building takes the deal's number).
 use Prim.Native.Nat.{ℕ}
 use mathlib.Core.List.{List, [], _∷_, _++_}
 use lib.ListN.{length}
@@ -17,9 +17,13 @@ use Rattle.record.specs.Form.{Fields, encode}
 use Rattle.record.specs.Check.{DealTerms, dealTerms}
 use Rattle.builder.specs.declared.BuildAnswer.{BuildAnswer}
 
--- what a record of the deal is checked against: its own commitment and length
-abbrev pub termsOf : LentDeal → DealTerms
-termsOf deal = dealTerms (deal .nodes (dealLevel (dealSize deal)) 0) (dealSize deal)
+-- the deal's own commitment: its top node
+abbrev pub dealCommitment : LentDeal → List ℕ
+dealCommitment deal = deal .nodes (dealLevel (dealSize deal)) 0
+
+-- what a record of the deal is checked against: its own commitment and length, and its number
+abbrev pub termsOf : LentDeal → ℕ → DealTerms
+termsOf deal number = dealTerms (dealCommitment deal) (dealSize deal) number
 
 -- the Merkle paths of a segment and of an entry
 abbrev pub segmentPathOf : LentDeal → ℕ → ℕ → List ℕ
@@ -29,8 +33,8 @@ abbrev pub entryPathOf : LentDeal → ℕ → List ℕ
 entryPathOf deal place = siblingsFrom (deal .nodes) (entryStart (dealSize deal) place)
 
 -- the fields of the record for the entry e at a place
-unfoldable pub fieldsFor : LentDeal → List ℕ → ℕ → Fields
-fieldsFor deal e place =
+unfoldable pub fieldsFor : LentDeal → ℕ → List ℕ → ℕ → Fields
+fieldsFor deal number e place =
     record {
       commitment = commitmentIn e;
       offset = offsetIn e;
@@ -38,6 +42,7 @@ fieldsFor deal e place =
       place = place;
       segmentPath = segmentPathOf deal (offsetIn e) (sizeIn e);
       entryPath = entryPathOf deal place;
+      number = number;
     }
 
 -- the record at an entry place, or why there is none: 2, 11, 12 for the tree beside the deal, 6, 16
@@ -54,10 +59,10 @@ entryRules deal place =
 abbrev pub buildRules : LentDeal → ℕ → List Rule
 buildRules deal place = dealRules deal ++ entryRules deal place
 
-unfoldable pub recordAt : LentDeal → ℕ → Building
-recordAt deal place =
+unfoldable pub recordAt : LentDeal → ℕ → ℕ → Building
+recordAt deal number place =
     unlessRefused (firstRefusal (buildRules deal place)) notBuilt
-    (built (encode (fieldsFor deal (entryAt (deal .bytes) place) place)))
+    (built (encode (fieldsFor deal number (entryAt (deal .bytes) place) place)))
 
 -- with a lent output: 12 where it is shorter than the record, which else fills its first bytes
 abbrev pub answerFor : Building → List ℕ → BuildAnswer
@@ -69,8 +74,8 @@ abbrev pub outputFor : Building → List ℕ → List ℕ
 outputFor (notBuilt code) out = out
 outputFor (built r) out = choose (leb (length r) (length out)) (splice out 0 r) out
 
-unfoldable pub buildAnswer : LentDeal → ℕ → List ℕ → BuildAnswer
-buildAnswer deal place out = answerFor (recordAt deal place) out
+unfoldable pub buildAnswer : LentDeal → ℕ → ℕ → List ℕ → BuildAnswer
+buildAnswer deal number place out = answerFor (recordAt deal number place) out
 
-unfoldable pub buildOutput : LentDeal → ℕ → List ℕ → List ℕ
-buildOutput deal place out = outputFor (recordAt deal place) out
+unfoldable pub buildOutput : LentDeal → ℕ → ℕ → List ℕ → List ℕ
+buildOutput deal number place out = outputFor (recordAt deal number place) out

@@ -36,29 +36,31 @@ use Rattle.record.specs.Form.{parsed, parse, encode}
 use Rattle.record.specs.FormLaws.{Sized, parse-encode}
 use Rattle.record.specs.CheckLaws.{Accepted}
 use Rattle.lent.specs.LentDeal.{LentDeal, dealSize}
-use Rattle.builder.specs.Build.{termsOf, segmentPathOf, entryPathOf, fieldsFor}
+use Rattle.builder.specs.Build.{dealCommitment, termsOf, segmentPathOf, entryPathOf, fieldsFor}
 use Rattle.builder.specs.Build.{built, notBuilt, buildRules, recordAt}
 
 -- what a record that was built is
-pub record Builds (deal : LentDeal) (place : ℕ) (r : List ℕ) : Type 0 where
+pub record Builds (deal : LentDeal) (number place : ℕ) (r : List ℕ) : Type 0 where
   pub lent : lentSizeAllowed (dealSize deal) ≡ true
   pub clean : noStrayBits (deal .bytes) ≡ true
   pub tree-sized : deal .treeSized ≡ true
   pub place-allowed : placeAllowed (dealSize deal) place ≡ true
   pub is-kept : Keeps (deal .nodes) (dealSize deal) (entryAt (deal .bytes) place)
-  pub wrote : encode (fieldsFor deal (entryAt (deal .bytes) place) place) ≡ r
+  pub wrote : encode (fieldsFor deal number (entryAt (deal .bytes) place) place) ≡ r
 
-pub build-means : (deal : LentDeal) (place : ℕ) (r : List ℕ) → recordAt deal place ≡ built r → Builds deal place r
+pub build-means : (deal : LentDeal) (number place : ℕ) (r : List ℕ) → recordAt deal number place ≡ built r
+    → Builds deal number place r
 unfolding recordAt
-build-means deal place r e = go (firstRefusal (buildRules deal place)) refl e
+build-means deal number place r e = go (firstRefusal (buildRules deal place)) refl e
   where
     go : (code : ℕ) → firstRefusal (buildRules deal place) ≡ code
-        → unlessRefused code notBuilt (built (encode (fieldsFor deal (entryAt (deal .bytes) place) place))) ≡ built r
-        → Builds deal place r
+        → unlessRefused code notBuilt (built (encode (fieldsFor deal number (entryAt (deal .bytes) place) place)))
+        ≡ built r
+        → Builds deal number place r
     go zero q i =
         let a = none-refused (buildRules deal place)
         (omega arith, (omega arith, (omega arith, (omega arith, (omega arith, tt))))) q in
-        let w : encode (fieldsFor deal (entryAt (deal .bytes) place) place) ≡ r = cc in
+        let w : encode (fieldsFor deal number (entryAt (deal .bytes) place) place) ≡ r = cc in
         record {
           lent = a .0;
           clean = a .1 .0;
@@ -69,12 +71,12 @@ build-means deal place r e = go (firstRefusal (buildRules deal place)) refl e
         }
     go (suc code) q i = let z : _≡_ {A = ℕ} 0 1 = cc in absurd (omega arith)
 
-pub means-build : (deal : LentDeal) (place : ℕ) (r : List ℕ) → lentSizeAllowed (dealSize deal) ≡ true
+pub means-build : (deal : LentDeal) (number place : ℕ) (r : List ℕ) → lentSizeAllowed (dealSize deal) ≡ true
     → noStrayBits (deal .bytes) ≡ true → deal .treeSized ≡ true → placeAllowed (dealSize deal) place ≡ true
     → kept (deal .nodes) (dealSize deal) (entryAt (deal .bytes) place) ≡ true
-    → encode (fieldsFor deal (entryAt (deal .bytes) place) place) ≡ r → recordAt deal place ≡ built r
+    → encode (fieldsFor deal number (entryAt (deal .bytes) place) place) ≡ r → recordAt deal number place ≡ built r
 unfolding recordAt
-means-build deal place r a b t c k e =
+means-build deal number place r a b t c k e =
     rw (all-passed (buildRules deal place) (a, (b, (t, (c, (k, tt)))))) (ap built e)
 
 -- the numbers of an entry place, an offset and a size in a lent deal
@@ -160,12 +162,12 @@ module _ (deal : LentDeal) (t : IsTree (deal .nodes) (deal .bytes) (dealLevel (d
 
     pub segment-path-leads :
         let start = segmentStart (dealSize deal) offset size in
-        rootFrom start (nodeFrom (deal .nodes) start) (segmentPathOf deal offset size) ≡ termsOf deal .commitment
+        rootFrom start (nodeFrom (deal .nodes) start) (segmentPathOf deal offset size) ≡ dealCommitment deal
     segment-path-leads = own-leads (deal .nodes) (deal .bytes) _ t _ (segment-start w)
 
     pub entry-path-leads :
         let start = entryStart (dealSize deal) place in
-        rootFrom start (nodeFrom (deal .nodes) start) (entryPathOf deal place) ≡ termsOf deal .commitment
+        rootFrom start (nodeFrom (deal .nodes) start) (entryPathOf deal place) ≡ dealCommitment deal
     entry-path-leads = own-leads (deal .nodes) (deal .bytes) _ t _ (entry-start w)
 
     pub place-node : nodeHash (entryAt (deal .bytes) place) ≡ nodeFrom (deal .nodes) (entryStart (dealSize deal) place)
@@ -174,10 +176,10 @@ module _ (deal : LentDeal) (t : IsTree (deal .nodes) (deal .bytes) (dealLevel (d
         entry-node (deal .nodes) (deal .bytes) (dealLevel (dealSize deal)) place t (w .place-is .at-position)
         (omega arith) (w .place-is .position-in)
 
-  pub commitment-length : length (termsOf deal .commitment) ≡ 32
+  pub commitment-length : length (dealCommitment deal) ≡ 32
   commitment-length = t .sized 0 (dealLevel (dealSize deal)) 0 (omega arith) (omega arith)
 
-  module _ (b : Bytes (deal .bytes)) (place : ℕ) (r : List ℕ) (m : Builds deal place r) where
+  module _ (b : Bytes (deal .bytes)) (number place : ℕ) (r : List ℕ) (m : Builds deal number place r) where
     abbrev e : List ℕ
     e = entryAt (deal .bytes) place
 
@@ -193,9 +195,9 @@ module _ (deal : LentDeal) (t : IsTree (deal .nodes) (deal .bytes) (dealLevel (d
         valid-is e (part-length (deal .bytes) place 64 (built-in-deal .place-is .in-deal))
         (bytes-part (deal .bytes) place 64 b) (m .is-kept .is-standing .right)
 
-    built-sized : Sized (fieldsFor deal e place)
+    built-sized : number < 2 ^ 64 → Sized (fieldsFor deal number e place)
     unfolding fieldsFor commitmentIn
-    built-sized =
+    built-sized bound =
         let w = built-in-deal in
         let o = offsetIn e in
         let z = sizeIn e in
@@ -217,12 +219,13 @@ module _ (deal : LentDeal) (t : IsTree (deal .nodes) (deal .bytes) (dealLevel (d
           segment-path-short = omega arith;
           entry-path-nodes = eq-eqb (length (entryPathOf deal place) % 32) 0 (omega arith);
           entry-path-short = omega arith;
+          number-8 = omega arith;
         }
 
-    pub built-parses : parse r ≡ parsed (fieldsFor deal e place)
-    built-parses = ap parse (sym (m .wrote)) ∙ parse-encode (fieldsFor deal e place) built-sized
+    pub built-parses : number < 2 ^ 64 → parse r ≡ parsed (fieldsFor deal number e place)
+    built-parses bound = ap parse (sym (m .wrote)) ∙ parse-encode (fieldsFor deal number e place) (built-sized bound)
 
-    pub built-accepted : Accepted (termsOf deal) (fieldsFor deal e place)
+    pub built-accepted : Accepted (termsOf deal number) (fieldsFor deal number e place)
     unfolding fieldsFor
     built-accepted =
         let w = built-in-deal in
@@ -230,6 +233,7 @@ module _ (deal : LentDeal) (t : IsTree (deal .nodes) (deal .bytes) (dealLevel (d
         let z = sizeIn e in
         let d = dealSize deal in
         record {
+          number-same = refl;
           size-allowed = m .is-kept .is-standing .size-allowed;
           offset-allowed = m .is-kept .is-standing .offset-allowed;
           place-allowed = m .place-allowed;

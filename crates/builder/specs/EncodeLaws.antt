@@ -18,10 +18,10 @@ use Rattle.builder.specs.BuildLaws.{InDeal, in-deal, segment-path-length
 use Rattle.builder.specs.Encode.{recordFor}
 
 -- the record for the bytes of an entry
-pub record-of-entry : (deal : LentDeal) (e : List ℕ) (place : ℕ)
-    → encode (fieldsFor deal e place) ≡ recordFor deal (commitmentIn e) (offsetIn e) (sizeIn e) place
+pub record-of-entry : (deal : LentDeal) (number : ℕ) (e : List ℕ) (place : ℕ)
+    → encode (fieldsFor deal number e place) ≡ recordFor deal number (commitmentIn e) (offsetIn e) (sizeIn e) place
 unfolding fieldsFor recordFor
-record-of-entry deal e place = refl
+record-of-entry deal number e place = refl
 
 pub commitment-in-length : (deal : List ℕ) (place : ℕ) → place + 64 ≤ length deal
     → length (commitmentIn (entryAt deal place)) ≡ 32
@@ -31,24 +31,24 @@ commitment-in-length deal place h = let l = part-length deal place 64 h in
 
 module _ (deal : LentDeal) (each : NodesSized (deal .nodes) (dealLevel (dealSize deal))) where
   -- the length of the record for an entry
-  pub record-length : (commitment : List ℕ) (offset size place : ℕ) → length commitment ≡ 32
+  pub record-length : (number : ℕ) (commitment : List ℕ) (offset size place : ℕ) → length commitment ≡ 32
       → InDeal (dealSize deal) place offset size
-      → length (recordFor deal commitment offset size place) ≡ recordLength (dealSize deal) size
+      → length (recordFor deal number commitment offset size place) ≡ recordLength (dealSize deal) size
   unfolding recordFor recordLength
-  record-length commitment offset size place l w =
+  record-length number commitment offset size place l w =
       encode-length _ l
       ∙ ap₂ (λ (m n : ℕ). tableLength layout (m ∷ n ∷ [])) (segment-path-length deal each place offset size w)
       (entry-path-length deal each place offset size w)
 
   -- the length of a record that was built
-  pub built-length : (place : ℕ) (r : List ℕ) → Builds deal place r
+  pub built-length : (number place : ℕ) (r : List ℕ) → Builds deal number place r
       → length r ≡ recordLength (dealSize deal) (sizeIn (entryAt (deal .bytes) place))
-  built-length place r m =
+  built-length number place r m =
       let e = entryAt (deal .bytes) place in
       let s = m .is-kept .is-standing in
       let w = in-deal (dealSize deal) place (offsetIn e) (sizeIn e) (m .lent) (m .place-allowed) (s .size-allowed)
       (s .offset-allowed) in
       sym (ap length (m .wrote))
-      ∙ ap length (record-of-entry deal e place)
-      ∙ record-length (commitmentIn e) (offsetIn e) (sizeIn e) place
+      ∙ ap length (record-of-entry deal number e place)
+      ∙ record-length number (commitmentIn e) (offsetIn e) (sizeIn e) place
       (commitment-in-length (deal .bytes) place (w .place-is .in-deal)) w

@@ -34,9 +34,9 @@ module _ (bytes tree : List ℕ) (f : FilledFor bytes tree) where
   -- a deal of an allowed size
   module _ (lent : lentSizeAllowed size ≡ true) where
     -- the deal's commitment
-    pub filled-terms : termsOf (treeDeal bytes tree) ≡ termsOf (lentDeal bytes)
-    filled-terms =
-        ap (λ (node : List ℕ). dealTerms node size)
+    pub filled-terms : (number : ℕ) → termsOf (treeDeal bytes tree) number ≡ termsOf (lentDeal bytes) number
+    filled-terms number =
+        ap (λ (node : List ℕ). dealTerms node size number)
         (filled-nodes bytes tree f lent (pathStart 0 (dealLevel size) 0)
         (record { up = omega arith; among = omega arith }))
 
@@ -51,25 +51,29 @@ module _ (bytes tree : List ℕ) (f : FilledFor bytes tree) where
         ap₂ (λ (rules : List Rule) (isKept : Bool). rules ++ (rule (placeAllowed size place) 6 ∷ rule isKept 16 ∷ []))
         (filled-rules bytes tree f) (filled-kept bytes tree f lent (entryAt bytes place))
 
-    same-fields : (entry : List ℕ) (place : ℕ) → InDeal size place (offsetIn entry) (sizeIn entry)
-        → fieldsFor (treeDeal bytes tree) entry place ≡ fieldsFor (lentDeal bytes) entry place
+    same-fields : (number : ℕ) (entry : List ℕ) (place : ℕ) → InDeal size place (offsetIn entry) (sizeIn entry)
+        → fieldsFor (treeDeal bytes tree) number entry place ≡ fieldsFor (lentDeal bytes) number entry place
     unfolding fieldsFor
-    same-fields entry place w =
-        ap₂ (fields (commitmentIn entry) (offsetIn entry) (sizeIn entry) place)
+    same-fields number entry place w =
+        ap₂ (λ (segmentPath entryPath : List ℕ).
+        fields (commitmentIn entry) (offsetIn entry) (sizeIn entry) place segmentPath entryPath number)
         (filled-siblings (segmentStart size (offsetIn entry) (sizeIn entry)) (segment-start w))
         (filled-siblings (entryStart size place) (entry-start w))
 
-    same-built : (place : ℕ) → recordAt (treeDeal bytes tree) place ≡ recordAt (lentDeal bytes) place
+    same-built : (number place : ℕ)
+        → recordAt (treeDeal bytes tree) number place ≡ recordAt (lentDeal bytes) number place
     unfolding recordAt
-    same-built place =
+    same-built number place =
         let e = entryAt bytes place in
         ap (λ (rules : List Rule). unlessRefused (firstRefusal rules) notBuilt
-        (built (encode (fieldsFor (treeDeal bytes tree) e place)))) (same-rules place)
+        (built (encode (fieldsFor (treeDeal bytes tree) number e place)))) (same-rules place)
         ∙ go (firstRefusal (buildRules (lentDeal bytes) place)) refl
       where
         go : (code : ℕ) → firstRefusal (buildRules (lentDeal bytes) place) ≡ code
-            → unlessRefused code notBuilt (built (encode (fieldsFor (treeDeal bytes tree) (entryAt bytes place) place)))
-            ≡ unlessRefused code notBuilt (built (encode (fieldsFor (lentDeal bytes) (entryAt bytes place) place)))
+            → unlessRefused code notBuilt
+            (built (encode (fieldsFor (treeDeal bytes tree) number (entryAt bytes place) place)))
+            ≡ unlessRefused code notBuilt
+            (built (encode (fieldsFor (lentDeal bytes) number (entryAt bytes place) place)))
         go zero q =
             let e = entryAt bytes place in
             let a = none-refused (buildRules (lentDeal bytes) place)
@@ -77,24 +81,27 @@ module _ (bytes tree : List ℕ) (f : FilledFor bytes tree) where
             let s = keeps (nodeAt bytes) size e (a .1 .1 .1 .1 .0) .is-standing in
             let w = in-deal size place (offsetIn e) (sizeIn e) lent (a .1 .1 .1 .0) (s .size-allowed)
             (s .offset-allowed) in
-            ap (λ (x : Fields). built (encode x)) (same-fields e place w)
+            ap (λ (x : Fields). built (encode x)) (same-fields number e place w)
         go (suc code) q = refl
 
   -- a deal of any size: 2 where it is not allowed
-  pub filled-record : (place : ℕ) → recordAt (treeDeal bytes tree) place ≡ recordAt (lentDeal bytes) place
+  pub filled-record : (number place : ℕ)
+      → recordAt (treeDeal bytes tree) number place ≡ recordAt (lentDeal bytes) number place
   unfolding recordAt
-  filled-record place = by (lentSizeAllowed size) refl
+  filled-record number place = by (lentSizeAllowed size) refl
     where
       by : (allowed : Bool) → lentSizeAllowed size ≡ allowed
-          → recordAt (treeDeal bytes tree) place ≡ recordAt (lentDeal bytes) place
-      by true e = same-built e place
+          → recordAt (treeDeal bytes tree) number place ≡ recordAt (lentDeal bytes) number place
+      by true e = same-built e number place
       by false e = rw e
 
-  module _ (place : ℕ) (out : List ℕ) where
-    pub filled-answer : buildAnswer (treeDeal bytes tree) place out ≡ buildAnswer (lentDeal bytes) place out
+  module _ (number place : ℕ) (out : List ℕ) where
+    pub filled-answer : buildAnswer (treeDeal bytes tree) number place out
+        ≡ buildAnswer (lentDeal bytes) number place out
     unfolding buildAnswer
-    filled-answer = ap (λ (b : Building). answerFor b out) (filled-record place)
+    filled-answer = ap (λ (b : Building). answerFor b out) (filled-record number place)
 
-    pub filled-output : buildOutput (treeDeal bytes tree) place out ≡ buildOutput (lentDeal bytes) place out
+    pub filled-output : buildOutput (treeDeal bytes tree) number place out
+        ≡ buildOutput (lentDeal bytes) number place out
     unfolding buildOutput
-    filled-output = ap (λ (b : Building). outputFor b out) (filled-record place)
+    filled-output = ap (λ (b : Building). outputFor b out) (filled-record number place)

@@ -30,7 +30,7 @@ pub(crate) fn record_length(d: u64, size: u64) -> usize
 }
 
 // Writes the fields of the two Merkle paths: that of the segment, whose node is in hand, and behind it that of the
-// entry at a position.
+// entry at a position. The answer is the place where they end.
 fn put_paths(
     out: &mut [u8],
     at: usize,
@@ -40,7 +40,7 @@ fn put_paths(
     level: usize,
     segment: PathNode,
     entry_position: usize,
-)
+) -> usize
     requires { ⌜ Usable (lentWith «has_tree» (now deal) (now tree)) ⌝ }
     requires { ⌜ (0 < level) × InTree (dealLevel (length (now deal)))
         (pathStart (dealLevel (length (now deal)) - level) level (segment .position)) ⌝ }
@@ -49,21 +49,24 @@ fn put_paths(
         (pathStart (dealLevel (length (now deal)) - 1) 1 «entry_position») ⌝ }
     requires { ⌜ at + 6 + 32 * (dealLevel (length (now deal)) - level) + 32 * (dealLevel (length (now deal)) - 1)
         ≤ length (now out) ⌝ }
-    ensures { λ _. ⌜ now (out .exit) ≡ splice (splice (now (out .entry)) at
+    ensures { λ r. ⌜ (r ≡ at + (3 + 32 * (dealLevel (length (now (deal .entry))) - level))
+        + (3 + 32 * (dealLevel (length (now (deal .entry))) - 1)))
+        × (now (out .exit) ≡ splice (splice (now (out .entry)) at
         (putField (tableRow 4 .tag)
         (siblings (lentWith «has_tree» (now (deal .entry)) (now (tree .entry)) .nodes)
         (dealLevel (length (now (deal .entry))) - level) level (segment .position)) []))
         (at + (3 + 32 * (dealLevel (length (now (deal .entry))) - level)))
         (putField (tableRow 5 .tag)
         (siblings (lentWith «has_tree» (now (deal .entry)) (now (tree .entry)) .nodes)
-        (dealLevel (length (now (deal .entry))) - 1) 1 «entry_position») []) ⌝ }
+        (dealLevel (length (now (deal .entry))) - 1) 1 «entry_position») [])) ⌝ }
 {
     let top = sizes::deal_level(deal.len() as u64);
     let size = 32 * (top - level);
     let row = record::row(record::SEGMENT_PATH);
     let content = fields::put_head(out, at, row.tag, size);
     let entry_row = record::row(record::ENTRY_PATH);
-    let entry_content = fields::put_head(out, content + size, entry_row.tag, 32 * (top - 1));
+    let entry_size = 32 * (top - 1);
+    let entry_content = fields::put_head(out, content + size, entry_row.tag, entry_size);
     lent::write_paths(
         deal,
         tree,
@@ -75,14 +78,16 @@ fn put_paths(
         content,
         entry_content,
     );
+    entry_content + entry_size
 }
 
-// Writes the record for the kept entry at a place of a lent deal into the first bytes of `out`: the fields of the table
-// in its order, each where the one before it ends. Its commitment is the node over the segment.
+// Writes the record for the kept entry at a place of a lent deal with a number into the first bytes of `out`: the
+// fields of the table in its order, each where the one before it ends. Its commitment is the node over the segment.
 pub(crate) fn write_record(
     deal: &[u8],
     tree: &[u8],
     has_tree: bool,
+    number: u64,
     entry: Row,
     place: u64,
     out: &mut [u8],
@@ -94,8 +99,8 @@ pub(crate) fn write_record(
         (segmentPosition (entry .offset) (entry .size)) ⌝ }
     requires { ⌜ recordLength (length (now deal)) (entry .size) ≤ length (now out) ⌝ }
     ensures { λ _. ⌜ now (out .exit) ≡ splice (now (out .entry)) 0
-        (recordFor (lentWith «has_tree» (now (deal .entry)) (now (tree .entry))) (entry .commitment) (entry .offset)
-        (entry .size) place) ⌝ }
+        (recordFor (lentWith «has_tree» (now (deal .entry)) (now (tree .entry))) number (entry .commitment)
+        (entry .offset) (entry .size) place) ⌝ }
 {
     let level = sizes::segment_level(entry.size);
     let position = sizes::segment_position(entry.offset, entry.size) as usize;
@@ -109,7 +114,7 @@ pub(crate) fn write_record(
         position,
         node: commitment,
     };
-    put_paths(
+    let at = put_paths(
         out,
         at,
         deal,
@@ -119,4 +124,5 @@ pub(crate) fn write_record(
         segment,
         entry_position,
     );
+    fields::put_number(out, at, record::row(record::NUMBER), number);
 }

@@ -1,5 +1,5 @@
 -- The ways through `checkInput`.
-use mathlib.Core.Path.{_≡_, ap₂, _∙_}
+use mathlib.Core.Path.{_≡_, _∙_}
 use Prim.Native.Nat.{ℕ, _-_, _≤_, _<_}
 use native.Mathlib.Omega.{arith}
 use mathlib.Core.List.{List}
@@ -16,24 +16,25 @@ module _ (input : List ℕ) where
   unfolding checkInput
   no-commitment h = rw (lt-leb 32 (length input) h)
 
-  pub no-size : 32 ≤ length input → length input < 40 → 2 ≡ checkInput input
+  pub no-number : 32 ≤ length input → length input < 48 → 2 ≡ checkInput input
   unfolding checkInput
-  no-size h l = rw (le-leb 32 (length input) h, lt-leb 40 (length input) l)
+  no-number h l = rw (le-leb 32 (length input) h, lt-leb 48 (length input) l)
 
-  pub too-long : 4136 < length input → 3 ≡ checkInput input
+  pub too-long : 4144 < length input → 3 ≡ checkInput input
   unfolding checkInput
   too-long h = rw (
     le-leb 32 (length input) (omega arith),
-    le-leb 40 (length input) (omega arith),
+    le-leb 48 (length input) (omega arith),
     lt-leb
-        (length input) 4136 h,
+        (length input) 4144 h,
   )
 
-  pub checked : (size code : ℕ) → 40 ≤ length input → length input ≤ 4136 → size ≡ numberOf (part input 32 8)
-      → code ≡ checkOf (dealTerms (take 32 input) size) (take (length input - 40) (drop 40 input))
+  pub checked : {size number code : ℕ} → 48 ≤ length input → length input ≤ 4144 → size ≡ numberOf (part input 32 8)
+      → number ≡ numberOf (part input 40 8)
+      → code ≡ checkOf (dealTerms (take 32 input) size number) (take (length input - 48) (drop 48 input))
       → code ≡ checkInput input
   unfolding checkInput
-  checked size code h l s c =
-      rw (le-leb 32 (length input) (omega arith), le-leb 40 (length input) h, le-leb (length input) 4136 l)
-      (c ∙ ap₂ (λ (n : ℕ) (r : List ℕ). checkOf (dealTerms (take 32 input) n) r) s
-      (take-all (length input - 40) (drop 40 input) (simp length-drop (omega arith))))
+  checked h l s n c =
+      rw (le-leb 32 (length input) (omega arith), le-leb 48 (length input) h, le-leb (length input) 4144 l)
+      (c ∙ (λ i. checkOf (dealTerms (take 32 input) (s i) (n i))
+      (take-all (length input - 48) (drop 48 input) (simp length-drop (omega arith)) i)))

@@ -4,11 +4,11 @@
 -- entries overlap"). Any code but 0 changes nothing (TreeForms.refused-collecting).
 -- "Old records belong to the old commitment; demand 3 speaks of the commitment a record is checked against": the new
 -- deal has a commitment of its own. A record of the old deal goes on settling against the old one (Demand3), and each
--- kept entry has a record of the new deal (`moved-is-built`).
+-- kept entry has a record of the new deal, with whatever number that one has (`moved-is-built`).
 use mathlib.Core.Path.{_≡_, _∙_}
 use mathlib.Core.Bool.{true}
 use mathlib.Core.Logic.{_↔_, inl}
-use Prim.Native.Nat.{ℕ, _+_, _%_, _≤_, _<_}
+use Prim.Native.Nat.{ℕ, _+_, _^_, _%_, _≤_, _<_}
 use native.Mathlib.Omega.{arith}
 use mathlib.Core.List.{List}
 use lib.ListN.{length, replicate}
@@ -189,15 +189,16 @@ module _ (deal : List ℕ) (second : LentDeal) (e : collectCode deal second ≡ 
       (sizeIn (entryAt deal place)))
   moved-entry place a s = (D.collected-place-allowed c place a s, D.collected-entry c place a s)
 
-  -- Demand 2 for an entry that was kept: building at the place where it went, given enough output, answers 0 and writes
-  -- exactly a record that the check accepts, against the new deal's commitment and size.
-  pub moved-is-built : Bytes deal → (place : ℕ) → placeAllowed (length deal) place ≡ true
+  -- Demand 2 for an entry that was kept: building with the new deal's number at the place where it went, given enough
+  -- output, answers 0 and writes exactly a record that the check accepts, against that number and the new deal's
+  -- commitment and size.
+  pub moved-is-built : Bytes deal → (number place : ℕ) → number < 2 ^ 64 → placeAllowed (length deal) place ≡ true
       → kept (nodeAt deal) (length deal) (entryAt deal place) ≡ true
       → let new = collectedDeal deal in
       (r : List ℕ)
-      × BuildsExactly (lentDeal new) (placeTo deal place) r
-      × (checkOf (dealTerms (commitmentOf (dealLevel (length new)) new) (length new)) r ≡ 0)
-  moved-is-built b place a k =
+      × BuildsExactly (lentDeal new) number (placeTo deal place) r
+      × (checkOf (dealTerms (commitmentOf (dealLevel (length new)) new) (length new) number) r ≡ 0)
+  moved-is-built b number place bound a k =
       let s = kept-stands (nodeAt deal) (length deal) (entryAt deal place) k in
-      kept-is-built (collectedDeal deal) (B.collected-bytes c b) (D.collected-passes c clear) (placeTo deal place)
-      (D.collected-place-allowed c place a s) (D.collected-entry-kept c place a s ∙ k)
+      kept-is-built (collectedDeal deal) (B.collected-bytes c b) (D.collected-passes c clear) number
+      (placeTo deal place) bound (D.collected-place-allowed c place a s) (D.collected-entry-kept c place a s ∙ k)

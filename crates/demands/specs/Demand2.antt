@@ -1,8 +1,9 @@
--- Demand 2: whatever is built from a kept entry is accepted against its deal's commitment and size; a segment already
--- kept is never booked again in that deal, unless its entry is cancelled (document 02, request (viii)).
+-- Demand 2: whatever is built from a kept entry is accepted against its deal's number, commitment and size, where
+-- building takes that same number (document 02, request (ix)); a segment already kept is never booked again in that
+-- deal, unless its entry is cancelled (request (viii)). Every u64 is a deal number: `number < 2 ^ 64`.
 use mathlib.Core.Path.{_≡_, refl, sym, ap, _∙_, subst}
 use mathlib.Core.Bool.{Bool, true, false}
-use Prim.Native.Nat.{ℕ, zero, suc, _≤_, _<_}
+use Prim.Native.Nat.{ℕ, zero, suc, _^_, _≤_, _<_}
 use native.Mathlib.Omega.{arith}
 use mathlib.Core.List.{List}
 use lib.ListN.{length}
@@ -42,11 +43,13 @@ use Rattle.demands.specs.CallsLaws.{kept-after-calls, keeping-after-call
 
 -- for any source of nodes that is a tree over the deal
 pub built-checks : (deal : LentDeal) → IsTree (deal .nodes) (deal .bytes) (dealLevel (dealSize deal))
-    → Bytes (deal .bytes) → (place : ℕ) (r : List ℕ) → recordAt deal place ≡ built r → checkOf (termsOf deal) r ≡ 0
-built-checks deal t b place r e =
-    let m = build-means deal place r e in
-    means-check (termsOf deal) r (fieldsFor deal (entryAt (deal .bytes) place) place) (commitment-length deal t)
-    (lent-size (dealSize deal) (m .lent) .allowed) (built-parses deal t b place r m) (built-accepted deal t b place r m)
+    → Bytes (deal .bytes) → (number place : ℕ) → number < 2 ^ 64 → (r : List ℕ) → recordAt deal number place ≡ built r
+    → checkOf (termsOf deal number) r ≡ 0
+built-checks deal t b number place bound r e =
+    let m = build-means deal number place r e in
+    let x = fieldsFor deal number (entryAt (deal .bytes) place) place in
+    means-check (termsOf deal number) r x (commitment-length deal t) (lent-size (dealSize deal) (m .lent) .allowed)
+    (built-parses deal t b number place r m bound) (built-accepted deal t b number place r m)
 
 -- building never refuses with 0
 no-zero : (code : ℕ) (r : List ℕ) → unlessRefused code notBuilt (built r) ≡ notBuilt 0 → ⊥
@@ -69,40 +72,43 @@ written (built r) out n e = go (leb (length r) (length out)) refl e
     go false q f = absurd (omega arith)
 
 -- by the nodes worked out from the deal's bytes
-accepted : (deal : List ℕ) → Bytes deal → (place : ℕ) (r : List ℕ) → recordAt (lentDeal deal) place ≡ built r
-    → checkOf (dealTerms (commitmentOf (dealLevel (length deal)) deal) (length deal)) r ≡ 0
-accepted deal b place r e =
-    let p = lent-size (length deal) (build-means (lentDeal deal) place r e .lent) .deal .is-power in
-    ap (λ (c : List ℕ). checkOf (dealTerms c (length deal)) r) (sym (top-node deal (dealLevel (length deal)) p))
-    ∙ built-checks (lentDeal deal) (run-tree deal (dealLevel (length deal)) p) b place r e
+accepted : (deal : List ℕ) → Bytes deal → (number place : ℕ) → number < 2 ^ 64 → (r : List ℕ)
+    → recordAt (lentDeal deal) number place ≡ built r
+    → checkOf (dealTerms (commitmentOf (dealLevel (length deal)) deal) (length deal) number) r ≡ 0
+accepted deal b number place bound r e =
+    let p = lent-size (length deal) (build-means (lentDeal deal) number place r e .lent) .deal .is-power in
+    ap (λ (c : List ℕ). checkOf (dealTerms c (length deal) number) r) (sym (top-node deal (dealLevel (length deal)) p))
+    ∙ built-checks (lentDeal deal) (run-tree deal (dealLevel (length deal)) p) b number place bound r e
 
--- Demand 2. Where building at an entry place of a deal answers 0, the check accepts what it wrote, against the deal's
--- commitment and size.
-pub built-is-accepted : (deal : List ℕ) → Bytes deal → (place : ℕ) (out : List ℕ)
-    → let answer = buildAnswer (lentDeal deal) place out in
+-- Demand 2. Where building with a deal's number at an entry place of the deal answers 0, the check accepts what it
+-- wrote, against that number and the deal's commitment and size.
+pub built-is-accepted : (deal : List ℕ) → Bytes deal → (number place : ℕ) → number < 2 ^ 64 → (out : List ℕ)
+    → let answer = buildAnswer (lentDeal deal) number place out in
     answer .code ≡ 0
-    → checkOf (dealTerms (commitmentOf (dealLevel (length deal)) deal) (length deal))
-    (part (buildOutput (lentDeal deal) place out) 0 (answer .length)) ≡ 0
+    → checkOf (dealTerms (commitmentOf (dealLevel (length deal)) deal) (length deal) number)
+    (part (buildOutput (lentDeal deal) number place out) 0 (answer .length)) ≡ 0
 unfolding buildAnswer buildOutput recordAt
-built-is-accepted deal b place out e =
-    let x = recordAt (lentDeal deal) place in
+built-is-accepted deal b number place bound out e =
+    let x = recordAt (lentDeal deal) number place in
     let r = part (outputFor x out) 0 (answerFor x out .length) in
-    let y = fieldsFor (lentDeal deal) (entryAt deal place) place in
+    let y = fieldsFor (lentDeal deal) number (entryAt deal place) place in
     let n = no-zero (firstRefusal (buildRules (lentDeal deal) place)) (encode y) in
-    accepted deal b place r (written x out n e)
+    accepted deal b number place bound r (written x out n e)
 
--- Demand 2. From a kept entry a record is built: given enough output, building at its place answers 0 and writes
--- exactly a record that the check accepts, against the deal's commitment and size. The deal gets neither 2 nor 11.
-pub kept-is-built : (deal : List ℕ) → Bytes deal → dealRefusal (lentDeal deal) ≡ 0 → (place : ℕ)
-    → placeAllowed (length deal) place ≡ true → kept (nodeAt deal) (length deal) (entryAt deal place) ≡ true
+-- Demand 2. From a kept entry a record is built: given enough output, building with the deal's number at its place
+-- answers 0 and writes exactly a record that the check accepts, against that number and the deal's commitment and size.
+-- The deal gets neither 2 nor 11.
+pub kept-is-built : (deal : List ℕ) → Bytes deal → dealRefusal (lentDeal deal) ≡ 0 → (number place : ℕ)
+    → number < 2 ^ 64 → placeAllowed (length deal) place ≡ true
+    → kept (nodeAt deal) (length deal) (entryAt deal place) ≡ true
     → (r : List ℕ)
-    × BuildsExactly (lentDeal deal) place r
-    × (checkOf (dealTerms (commitmentOf (dealLevel (length deal)) deal) (length deal)) r ≡ 0)
-kept-is-built deal b z place a k =
+    × BuildsExactly (lentDeal deal) number place r
+    × (checkOf (dealTerms (commitmentOf (dealLevel (length deal)) deal) (length deal) number) r ≡ 0)
+kept-is-built deal b z number place bound a k =
     let rules = refusal-none (lentDeal deal) z in
-    let r = encode (fieldsFor (lentDeal deal) (entryAt deal place) place) in
-    let e = means-build (lentDeal deal) place r (rules .0) (rules .1) refl a k refl in
-    (r, builds-exactly (lentDeal deal) place r e, accepted deal b place r e)
+    let r = encode (fieldsFor (lentDeal deal) number (entryAt deal place) place) in
+    let e = means-build (lentDeal deal) number place r (rules .0) (rules .1) refl a k refl in
+    (r, builds-exactly (lentDeal deal) number place r e, accepted deal b number place bound r e)
 
 -- Demand 2. A segment that was booked with code 0 gets 15, with the same offset and entry place, whatever calls come in
 -- between, as long as none of them cancels that place.

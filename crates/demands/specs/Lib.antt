@@ -3,6 +3,7 @@ pub mod BuildsExactly
 pub mod Calls
 pub mod Demand2
 pub mod Demand3
+pub mod DealNumber
 pub mod Cancelling
 pub mod Collecting
 pub mod TableLaws
@@ -10,6 +11,7 @@ pub mod Table
 pub mod Chains
 pub mod TwoRecords
 pub mod WithDeal
+pub mod DealNumberLaws
 pub mod BuildsExactlyLaws
 pub mod CancelKeepLaws
 pub mod CallsLaws

@@ -1,4 +1,5 @@
--- Document 01, "Table to be proved (P1 to P12)", over what the routines answer.
+-- Document 01, "Table to be proved (P1 to P12)", over what the routines answer. Document 02, request (ix): "the lengths
+-- in P4 to P7 grow by 11"; and the check comes to 4, 5 and 6 where the record names the caller's deal number.
 use mathlib.Core.Path.{_≡_, refl, ap, ap₂, _∙_}
 use mathlib.Core.Bool.{Bool, true, false}
 use Prim.Native.Nat.{ℕ, _^_, _≤_}
@@ -25,18 +26,19 @@ use Rattle.demands.specs.TableLaws.{answers-4, answers-5, answers-6, nev
 abbrev numbers : ℕ → ℕ → IndexNumbers
 numbers entries start = record { code = 0; entries = entries; start = start }
 
--- The check's answers for a deal of d bytes, to every record in form whose fields are as given: for every commitment of
--- 32 bytes, and whatever stands in the fields that are not named
-abbrev Checked : ℕ → (Fields → Type 0) → (ℕ → Type 0) → Type 0
+-- The check's answers for a deal of d bytes and a deal number, to every record in form whose fields are as given: for
+-- every commitment of 32 bytes, and whatever stands in the fields that are not named
+abbrev Checked : ℕ → (ℕ → Fields → Type 0) → (ℕ → Type 0) → Type 0
 Checked d given Says =
-    (commitment r : List ℕ) (x : Fields) → length commitment ≡ 32 → parse r ≡ parsed x → given x
-    → Says (checkOf (dealTerms commitment d) r)
+    (commitment : List ℕ) (number : ℕ) (r : List ℕ) (x : Fields) → length commitment ≡ 32 → parse r ≡ parsed x
+    → given number x → Says (checkOf (dealTerms commitment d number) r)
 
+-- a code, where they name the caller's number; and never a code, whatever number they name
 abbrev Answers : ℕ → (Fields → Type 0) → ℕ → Type 0
-Answers d given code = Checked d given (λ answer. answer ≡ code)
+Answers d given code = Checked d (λ number x. (x .number ≡ number) × given x) (λ answer. answer ≡ code)
 
 abbrev Never : ℕ → (Fields → Type 0) → ℕ → Type 0
-Never d given code = Checked d given (λ answer. answer ≡ code → ⊥)
+Never d given code = Checked d (λ number x. given x) (λ answer. answer ≡ code → ⊥)
 
 -- a segment of a size at an offset
 abbrev Segment : ℕ → ℕ → Fields → Type 0
@@ -50,7 +52,8 @@ Place d place x =
 -- every accepted record of a segment of a size in a deal of d bytes has n bytes
 abbrev RecordsOf : ℕ → ℕ → ℕ → Type 0
 RecordsOf d size n =
-    (commitment r : List ℕ) → Bytes r → checkOf (dealTerms commitment d) r ≡ 0 → fieldsOf r .size ≡ size → length r ≡ n
+    (commitment : List ℕ) (number : ℕ) (r : List ℕ) → Bytes r → checkOf (dealTerms commitment d number) r ≡ 0
+    → fieldsOf r .size ≡ size → length r ≡ n
 
 pub Table : Type 0
 Table =
@@ -60,14 +63,14 @@ Table =
     × (indexNumbers 1048576 ≡ numbers 8 1048064)
     -- P3
     × (indexNumbers (2 ^ 36) ≡ numbers 524288 68685922304)
-    -- P4: size 256 at offset 0 is allowed, record of 202 bytes
-    × Never 512 (Segment 256 0) 4 × Never 512 (Segment 256 0) 5 × RecordsOf 512 256 202
+    -- P4: size 256 at offset 0 is allowed, record of 213 bytes
+    × Never 512 (Segment 256 0) 4 × Never 512 (Segment 256 0) 5 × RecordsOf 512 256 213
     -- P5
-    × RecordsOf 512 128 234
+    × RecordsOf 512 128 245
     -- P6
-    × RecordsOf 1048576 1024 842
+    × RecordsOf 1048576 1024 853
     -- P7
-    × RecordsOf (2 ^ 36) 128 1962
+    × RecordsOf (2 ^ 36) 128 1973
     -- P8
     × Answers 512 (λ x. x .size ≡ 512) 4
     -- P9
@@ -80,13 +83,14 @@ Table =
     × Answers 512 (Place 512 300) 6
 
 -- P4 to P7: the lengths
-lengths : (recordLength 512 256 ≡ 202) × (recordLength 512 128 ≡ 234) × (recordLength 1048576 1024 ≡ 842)
-    × (recordLength (2 ^ 36) 128 ≡ 1962)
+lengths : (recordLength 512 256 ≡ 213) × (recordLength 512 128 ≡ 245) × (recordLength 1048576 1024 ≡ 853)
+    × (recordLength (2 ^ 36) 128 ≡ 1973)
 unfolding recordLength area doubledTo dealLevel segmentLevel trailingZeros
 lengths = (refl, refl, refl, refl)
 
 records-of : (d size n : ℕ) → recordLength d size ≡ n → RecordsOf d size n
-records-of d size n e commitment r b c s = accepted-length (dealTerms commitment d) r b c ∙ ap (recordLength d) s ∙ e
+records-of d size n e commitment number r b c s =
+    accepted-length (dealTerms commitment d number) r b c ∙ ap (recordLength d) s ∙ e
 
 -- P1 to P3: the index numbers of an allowed deal size
 answered : (d entries start : ℕ) → dealSizeAllowed d ≡ true → entryCount d ≡ entries → indexStart d ≡ start
@@ -108,7 +112,8 @@ allowed-512 : dealSizeAllowed 512 ≡ true
 allowed-512 = allowed-power 9 (omega arith) (omega arith)
 
 -- P8 to P12: the test of the fields is the test of the numbers in the table
-module _ (commitment r : List ℕ) (x : Fields) (l : length commitment ≡ 32) (p : parse r ≡ parsed x) where
+module _ (commitment : List ℕ) (number : ℕ) (r : List ℕ) (x : Fields) (l : length commitment ≡ 32)
+    (p : parse r ≡ parsed x) where
   size-test : (size : ℕ) (t : Bool) → segmentSizeAllowed 512 size ≡ t → x .size ≡ size
       → segmentSizeAllowed 512 (x .size) ≡ t
   size-test size t e s = ap (segmentSizeAllowed 512) s ∙ e
@@ -121,27 +126,30 @@ module _ (commitment r : List ℕ) (x : Fields) (l : length commitment ≡ 32) (
   place-test place t e s = ap (placeAllowed 512) s ∙ e
 
   abbrev answer : ℕ
-  answer = checkOf (dealTerms commitment 512) r
+  answer = checkOf (dealTerms commitment 512 number) r
 
   size-passes : (size offset : ℕ) → segmentSizeAllowed 512 size ≡ true → Segment size offset x → answer ≡ 4 → ⊥
-  size-passes size offset e s = never-4 512 allowed-512 commitment r x l p (size-test size true e (s .0))
+  size-passes size offset e s = never-4 512 allowed-512 commitment number r x l p (size-test size true e (s .0))
 
   offset-passes : (size offset : ℕ) → offsetAllowed 512 offset size ≡ true → Segment size offset x → answer ≡ 5 → ⊥
-  offset-passes size offset e s = never-5 512 allowed-512 commitment r x l p (offset-test size offset true e s)
+  offset-passes size offset e s = never-5 512 allowed-512 commitment number r x l p (offset-test size offset true e s)
 
   place-passes : (place : ℕ) → placeAllowed 512 place ≡ true → x .place ≡ place → answer ≡ 6 → ⊥
-  place-passes place e s = never-6 512 allowed-512 commitment r x l p (place-test place true e s)
+  place-passes place e s = never-6 512 allowed-512 commitment number r x l p (place-test place true e s)
 
-  size-refused : (size : ℕ) → segmentSizeAllowed 512 size ≡ false → x .size ≡ size → answer ≡ 4
-  size-refused size e s = answers-4 512 allowed-512 commitment r x l p (size-test size false e s)
+  size-refused : (size : ℕ) → segmentSizeAllowed 512 size ≡ false → (x .number ≡ number) × (x .size ≡ size)
+      → answer ≡ 4
+  size-refused size e (n, s) = answers-4 512 allowed-512 commitment number r x l p n (size-test size false e s)
 
   offset-refused : (size offset : ℕ) → segmentSizeAllowed 512 size ≡ true → offsetAllowed 512 offset size ≡ false
-      → Segment size offset x → answer ≡ 5
-  offset-refused size offset a e s =
-      answers-5 512 allowed-512 commitment r x l p (size-test size true a (s .0)) (offset-test size offset false e s)
+      → (x .number ≡ number) × Segment size offset x → answer ≡ 5
+  offset-refused size offset a e (n, s) =
+      answers-5 512 allowed-512 commitment number r x l p n (size-test size true a (s .0))
+      (offset-test size offset false e s)
 
-  place-refused : (place : ℕ) → placeAllowed 512 place ≡ false → Place 512 place x → answer ≡ 6
-  place-refused place e s = answers-6 512 allowed-512 commitment r x l p (s .1) (s .2) (place-test place false e (s .0))
+  place-refused : (place : ℕ) → placeAllowed 512 place ≡ false → (x .number ≡ number) × Place 512 place x → answer ≡ 6
+  place-refused place e (n, s) =
+      answers-6 512 allowed-512 commitment number r x l p n (s .1) (s .2) (place-test place false e (s .0))
 
 pub table : Table
 unfolding Table entryCount indexStart area doubledTo segmentSizeAllowed offsetAllowed placeAllowed
@@ -149,18 +157,18 @@ table = (
   answered 512 4 256 allowed-512 refl refl,
   answered 1048576 8 1048064 (allowed-power 20 (omega arith) (omega arith)) refl refl,
   answered (2 ^ 36) 524288 68685922304 (allowed-power 36 (omega arith) (omega arith)) refl refl,
-  (λ c r x l p. size-passes c r x l p 256 0 refl),
-  (λ c r x l p. offset-passes c r x l p 256 0 refl),
-  records-of 512 256 202 (lengths .0),
-  records-of 512 128 234 (lengths .1),
-  records-of 1048576 1024 842 (lengths .2),
-  records-of (2 ^ 36) 128 1962 (lengths .3),
-  (λ c r x l p. size-refused c r x l p 512 refl),
-  (λ c r x l p. offset-refused c r x l p 128 256 refl refl),
-  (λ c r x l p. offset-refused c r x l p 128 64 refl refl),
-  (λ c r x l p. place-passes c r x l p 448 refl),
-  (λ c r x l p. place-refused c r x l p 512 refl),
-  (λ c r x l p. place-refused c r x l p 300 refl),
+  (λ c n r x l p. size-passes c n r x l p 256 0 refl),
+  (λ c n r x l p. offset-passes c n r x l p 256 0 refl),
+  records-of 512 256 213 (lengths .0),
+  records-of 512 128 245 (lengths .1),
+  records-of 1048576 1024 853 (lengths .2),
+  records-of (2 ^ 36) 128 1973 (lengths .3),
+  (λ c n r x l p. size-refused c n r x l p 512 refl),
+  (λ c n r x l p. offset-refused c n r x l p 128 256 refl refl),
+  (λ c n r x l p. offset-refused c n r x l p 128 64 refl refl),
+  (λ c n r x l p. place-passes c n r x l p 448 refl),
+  (λ c n r x l p. place-refused c n r x l p 512 refl),
+  (λ c n r x l p. place-refused c n r x l p 300 refl),
 )
 
 -- Document 02, request (iii): 127, 128 and 255 raw bytes have the sizes T = 128, 130 and 258, and the areas A

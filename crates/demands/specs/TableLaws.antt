@@ -1,13 +1,14 @@
--- Codes 4 to 6 of the check, for a commitment of 32 bytes, an allowed deal size and a record in form: where the check
--- answers them, and where it does not.
+-- Codes 21 and 4 to 6 of the check, for a commitment of 32 bytes, an allowed deal size and a record in form: where the
+-- check answers them, and where it does not.
 use mathlib.Core.Path.{_≡_, refl, sym, _∙_}
 use mathlib.Core.Bool.{Bool, true, false, not, _&&_, _||_}
+use mathlib.Core.Logic.{_≢_}
 use Prim.Native.Nat.{ℕ}
 use native.Mathlib.Omega.{arith}
 use mathlib.Core.List.{List, [], _∷_}
 use lib.ListN.{length}
 use lib.Dec.{eqb}
-use borrow.Author.Tests.{eq-eqb}
+use borrow.Author.Tests.{eq-eqb, ne-eqb}
 use Rattle.rules.specs.Refusals.{Rule, firstOf, firstRefusal}
 use Rattle.sizes.specs.Sizes.{dealSizeAllowed, segmentSizeAllowed, offsetAllowed, placeAllowed}
 use Rattle.record.specs.Form.{Fields, parsed, parse}
@@ -33,38 +34,46 @@ answered-fails code (r ∷ rs) e = by-test (r .passed) (answered-fails code rs) 
     by-test true later f = or-right (eqb (r .code) code && false) (fails code rs) (later f)
     by-test false later f = rw (eq-eqb (r .code) code f)
 
-module _ (d : ℕ) (allowed : dealSizeAllowed d ≡ true)
-    (commitment r : List ℕ) (x : Fields) (l : length commitment ≡ 32) (p : parse r ≡ parsed x) where
+module _ (d : ℕ) (allowed : dealSizeAllowed d ≡ true) (commitment : List ℕ) (number : ℕ) (r : List ℕ) (x : Fields)
+    (l : length commitment ≡ 32) (p : parse r ≡ parsed x) where
+  abbrev answer : ℕ
+  answer = checkOf (dealTerms commitment d number) r
+
+  abbrev rules : List Rule
+  rules = judgement (dealTerms commitment d number) (parsed x)
+
   -- the check comes to its judgement over the fields
-  judged : checkOf (dealTerms commitment d) r ≡ firstRefusal (judgement (dealTerms commitment d) (parsed x))
+  judged : answer ≡ firstRefusal rules
   unfolding checkOf
   judged = rw (eq-eqb (length commitment) 32 l, allowed, p)
 
-  pub answers-4 : segmentSizeAllowed d (x .size) ≡ false → checkOf (dealTerms commitment d) r ≡ 4
-  answers-4 s = judged ∙ rw s
+  -- a record that names another deal number than the caller's
+  pub answers-21 : x .number ≢ number → answer ≡ 21
+  answers-21 n = judged ∙ rw (ne-eqb (x .number) number n)
 
-  module _ (s : segmentSizeAllowed d (x .size) ≡ true) where
-    pub answers-5 : offsetAllowed d (x .offset) (x .size) ≡ false → checkOf (dealTerms commitment d) r ≡ 5
-    answers-5 o = judged ∙ rw (s, o)
+  -- a record that names the caller's
+  module _ (n : x .number ≡ number) where
+    pub answers-4 : segmentSizeAllowed d (x .size) ≡ false → answer ≡ 4
+    answers-4 s = judged ∙ rw (eq-eqb (x .number) number n, s)
 
-    pub answers-6 : offsetAllowed d (x .offset) (x .size) ≡ true → placeAllowed d (x .place) ≡ false
-        → checkOf (dealTerms commitment d) r ≡ 6
-    answers-6 o e = judged ∙ rw (s, o, e)
+    module _ (s : segmentSizeAllowed d (x .size) ≡ true) where
+      pub answers-5 : offsetAllowed d (x .offset) (x .size) ≡ false → answer ≡ 5
+      answers-5 o = judged ∙ rw (eq-eqb (x .number) number n, s, o)
 
-  abbrev rules : List Rule
-  rules = judgement (dealTerms commitment d) (parsed x)
+      pub answers-6 : offsetAllowed d (x .offset) (x .size) ≡ true → placeAllowed d (x .place) ≡ false → answer ≡ 6
+      answers-6 o e = judged ∙ rw (eq-eqb (x .number) number n, s, o, e)
 
-  other : (code : ℕ) → fails code rules ≡ false → checkOf (dealTerms commitment d) r ≡ code → ⊥
+  other : (code : ℕ) → fails code rules ≡ false → answer ≡ code → ⊥
   other code a e =
       let f = answered-fails code rules (sym judged ∙ e) in
       let z : _≡_ {A = ℕ} 0 1 = cc in
       omega arith
 
-  pub never-4 : segmentSizeAllowed d (x .size) ≡ true → checkOf (dealTerms commitment d) r ≡ 4 → ⊥
+  pub never-4 : segmentSizeAllowed d (x .size) ≡ true → answer ≡ 4 → ⊥
   never-4 s = other 4 (rw s)
 
-  pub never-5 : offsetAllowed d (x .offset) (x .size) ≡ true → checkOf (dealTerms commitment d) r ≡ 5 → ⊥
+  pub never-5 : offsetAllowed d (x .offset) (x .size) ≡ true → answer ≡ 5 → ⊥
   never-5 o = other 5 (rw o)
 
-  pub never-6 : placeAllowed d (x .place) ≡ true → checkOf (dealTerms commitment d) r ≡ 6 → ⊥
+  pub never-6 : placeAllowed d (x .place) ≡ true → answer ≡ 6 → ⊥
   never-6 q = other 6 (rw q)

@@ -1,9 +1,10 @@
 -- Demands 2 and 3 for the forms that take the tree (document 02, request (vii): "demands 2 and 3 wherever the buffer is
 -- used, rest on one premise"). The premise is `FilledFor deal tree`, which the paper's history gives
--- (TreeHistoryLaws.history-filled); all else is as for the plain forms (Demand2, Demand3).
+-- (TreeHistoryLaws.history-filled); all else is as for the plain forms (Demand2, Demand3), the deal's number too
+-- (request (ix)).
 use mathlib.Core.Path.{_≡_, sym, ap, _∙_, subst}
 use mathlib.Core.Bool.{true}
-use Prim.Native.Nat.{ℕ, _<_}
+use Prim.Native.Nat.{ℕ, _^_, _<_}
 use mathlib.Core.List.{List, _∷_}
 use lib.ListN.{length}
 use Rattle.rules.specs.SearchLaws.{IsLowest}
@@ -36,37 +37,41 @@ use Rattle.demands.specs.TreeHistoryLaws.{same-run, same-run-answer}
 
 module _ (deal tree : List ℕ) (f : FilledFor deal tree) where
   -- what the plain form builds exactly is built with the tree, and the other way round
-  builds-with-tree : (place : ℕ) (r : List ℕ) → BuildsExactly (lentDeal deal) place r
-      → BuildsExactly (treeDeal deal tree) place r
-  builds-with-tree place r b out h =
-      (same-building deal tree f place out ∙ b out h .0, same-output deal tree f place out ∙ b out h .1)
+  builds-with-tree : (number place : ℕ) (r : List ℕ) → BuildsExactly (lentDeal deal) number place r
+      → BuildsExactly (treeDeal deal tree) number place r
+  builds-with-tree number place r b out h =
+      (same-building deal tree f number place out ∙ b out h .0, same-output deal tree f number place out ∙ b out h .1)
 
-  builds-without-tree : (place : ℕ) (r : List ℕ) → BuildsExactly (treeDeal deal tree) place r
-      → BuildsExactly (lentDeal deal) place r
-  builds-without-tree place r b out h =
-      (sym (same-building deal tree f place out) ∙ b out h .0, sym (same-output deal tree f place out) ∙ b out h .1)
+  builds-without-tree : (number place : ℕ) (r : List ℕ) → BuildsExactly (treeDeal deal tree) number place r
+      → BuildsExactly (lentDeal deal) number place r
+  builds-without-tree number place r b out h =
+      let answer = same-building deal tree f number place out in
+      let output = same-output deal tree f number place out in
+      (sym answer ∙ b out h .0, sym output ∙ b out h .1)
 
-  -- Demand 2. Where building with the tree answers 0, the check accepts what it wrote, against the deal's commitment
-  -- and size.
-  pub built-with-tree-is-accepted : Bytes deal → (place : ℕ) (out : List ℕ)
-      → let answer = buildAnswer (treeDeal deal tree) place out in
+  -- Demand 2. Where building with the tree and a deal's number answers 0, the check accepts what it wrote, against that
+  -- number and the deal's commitment and size.
+  pub built-with-tree-is-accepted : Bytes deal → (number place : ℕ) → number < 2 ^ 64 → (out : List ℕ)
+      → let answer = buildAnswer (treeDeal deal tree) number place out in
       answer .code ≡ 0
-      → checkOf (dealTerms (commitmentOf (dealLevel (length deal)) deal) (length deal))
-      (part (buildOutput (treeDeal deal tree) place out) 0 (answer .length)) ≡ 0
-  built-with-tree-is-accepted b place out e =
-      let same = same-building deal tree f place out in
-      rw (same, same-output deal tree f place out)
-      (built-is-accepted deal b place out (ap (λ (a : BuildAnswer). a .code) (sym same) ∙ e))
+      → checkOf (dealTerms (commitmentOf (dealLevel (length deal)) deal) (length deal) number)
+      (part (buildOutput (treeDeal deal tree) number place out) 0 (answer .length)) ≡ 0
+  built-with-tree-is-accepted b number place bound out e =
+      let same = same-building deal tree f number place out in
+      rw (same, same-output deal tree f number place out)
+      (built-is-accepted deal b number place bound out (ap (λ (a : BuildAnswer). a .code) (sym same) ∙ e))
 
-  -- Demand 2. From a kept entry a record is built with the tree, given enough output: exactly one that the check
-  -- accepts, against the deal's commitment and size. The deal gets neither 2 nor 11.
-  pub kept-is-built-with-tree : Bytes deal → dealRefusal (lentDeal deal) ≡ 0 → (place : ℕ)
-      → placeAllowed (length deal) place ≡ true → kept (nodeAt deal) (length deal) (entryAt deal place) ≡ true
+  -- Demand 2. From a kept entry a record is built with the tree and the deal's number, given enough output: exactly one
+  -- that the check accepts, against that number and the deal's commitment and size. The deal gets neither 2 nor 11.
+  pub kept-is-built-with-tree : Bytes deal → dealRefusal (lentDeal deal) ≡ 0 → (number place : ℕ)
+      → number < 2 ^ 64 → placeAllowed (length deal) place ≡ true
+      → kept (nodeAt deal) (length deal) (entryAt deal place) ≡ true
       → (r : List ℕ)
-      × BuildsExactly (treeDeal deal tree) place r
-      × (checkOf (dealTerms (commitmentOf (dealLevel (length deal)) deal) (length deal)) r ≡ 0)
-  kept-is-built-with-tree b z place a k =
-      let p = kept-is-built deal b z place a k in (p .0, builds-with-tree place (p .0) (p .1), p .2)
+      × BuildsExactly (treeDeal deal tree) number place r
+      × (checkOf (dealTerms (commitmentOf (dealLevel (length deal)) deal) (length deal) number) r ≡ 0)
+  kept-is-built-with-tree b z number place bound a k =
+      let p = kept-is-built deal b z number place bound a k in
+      (p .0, builds-with-tree number place (p .0) (p .1), p .2)
 
   -- deal and tree now, and after calls with the tree in hand, whatever their codes
   abbrev now : DealAndTree
@@ -134,17 +139,19 @@ module _ (deal tree : List ℕ) (f : FilledFor deal tree) where
           ap (λ (a : Booked). a .code) (same-run-answer later now f segment) ∙ p .1,
         )
 
-  -- Demand 3, a record with a deal and its tree in hand; the deal gets neither 2 nor 11. A record accepted against the
-  -- deal's commitment and size settles with the tree to 0 exactly when building with the tree at its entry place, given
-  -- enough output, answers 0 and writes exactly that record; otherwise to 17 and a pair that collides.
-  pub record-settles-with-tree : (r : List ℕ) → Bytes deal → Bytes r → lentSizeAllowed (length deal) ≡ true
-      → noStrayBits deal ≡ true
-      → checkOf (dealTerms (commitmentOf (dealLevel (length deal)) deal) (length deal)) r ≡ 0
-      → Settles (BuildsExactly (treeDeal deal tree) (placeIn (parse r)) r) (settleWithDeal (treeDeal deal tree) r)
-  record-settles-with-tree r bd br l c k =
+  -- Demand 3, a record with a deal and its tree in hand; the deal gets neither 2 nor 11. A record accepted against a
+  -- deal number and the deal's commitment and size settles with the tree to 0 exactly when building with the tree and
+  -- that same number at its entry place, given enough output, answers 0 and writes exactly that record; otherwise to 17
+  -- and a pair that collides.
+  pub record-settles-with-tree : (number : ℕ) (r : List ℕ) → Bytes deal → Bytes r
+      → lentSizeAllowed (length deal) ≡ true → noStrayBits deal ≡ true
+      → checkOf (dealTerms (commitmentOf (dealLevel (length deal)) deal) (length deal) number) r ≡ 0
+      → Settles (BuildsExactly (treeDeal deal tree) number (placeIn (parse r)) r)
+      (settleWithDeal (treeDeal deal tree) number r)
+  record-settles-with-tree number r bd br l c k =
       let place = placeIn (parse r) in
-      let plain = BuildsExactly (lentDeal deal) place r in
-      let with-tree = BuildsExactly (treeDeal deal tree) place r in
-      subst (Settles with-tree) (sym (same-settling deal tree f r))
-      (same-statement plain with-tree (settleWithDeal (lentDeal deal) r) (builds-with-tree place r)
-      (builds-without-tree place r) (record-settles-with-deal deal r bd br l c k))
+      let plain = BuildsExactly (lentDeal deal) number place r in
+      let with-tree = BuildsExactly (treeDeal deal tree) number place r in
+      subst (Settles with-tree) (sym (same-settling deal tree f number r))
+      (same-statement plain with-tree (settleWithDeal (lentDeal deal) number r) (builds-with-tree number place r)
+      (builds-without-tree number place r) (record-settles-with-deal deal number r bd br l c k))

@@ -102,16 +102,17 @@ module _ (deal tree : List ℕ) (f : FilledFor deal tree) where
         FilledFor (cancelledDeal (treeDeal deal tree) place) (cancelledTree deal tree place)
     cancelling-leaves-the-nodes = C.cancelled-filled deal tree f place
 
-  -- Building with the tree: answer and output of the plain form.
-  module _ (place : ℕ) (out : List ℕ) where
-    pub same-building : buildAnswer (treeDeal deal tree) place out ≡ buildAnswer (lentDeal deal) place out
-    same-building = filled-answer deal tree f place out
+  -- Building with the tree: answer and output of the plain form, for every deal number.
+  module _ (number place : ℕ) (out : List ℕ) where
+    pub same-building : buildAnswer (treeDeal deal tree) number place out ≡ buildAnswer (lentDeal deal) number place out
+    same-building = filled-answer deal tree f number place out
 
-    pub same-output : buildOutput (treeDeal deal tree) place out ≡ buildOutput (lentDeal deal) place out
-    same-output = filled-output deal tree f place out
+    pub same-output : buildOutput (treeDeal deal tree) number place out ≡ buildOutput (lentDeal deal) number place out
+    same-output = filled-output deal tree f number place out
 
   -- Settling with the deal and the tree: the answer of the plain form.
-  pub same-settling : (r : List ℕ) → settleWithDeal (treeDeal deal tree) r ≡ settleWithDeal (lentDeal deal) r
+  pub same-settling : (number : ℕ) (r : List ℕ)
+      → settleWithDeal (treeDeal deal tree) number r ≡ settleWithDeal (lentDeal deal) number r
   same-settling = filled-settled deal tree f
 
 -- Collection with a tree beside the second deal, of the length that this asks, whatever it holds: code and second deal
@@ -160,7 +161,7 @@ not-written (built r) out h = go (leb (length r) (length out)) h
     go false k = refl
 
 -- .. and building leaves the output, with the tree and without.
-pub refused-building : (deal : LentDeal) (place : ℕ) (out : List ℕ) → buildAnswer deal place out .code ≢ 0
-    → buildOutput deal place out ≡ out
+pub refused-building : (deal : LentDeal) (number place : ℕ) (out : List ℕ)
+    → buildAnswer deal number place out .code ≢ 0 → buildOutput deal number place out ≡ out
 unfolding buildAnswer buildOutput
-refused-building deal place out h = not-written (recordAt deal place) out h
+refused-building deal number place out h = not-written (recordAt deal number place) out h

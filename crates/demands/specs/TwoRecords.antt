@@ -1,4 +1,5 @@
--- Two accepted records of one entry place: the same bytes, or a collision.
+-- Two accepted records of one entry place: the same bytes, or a collision. The number stands in no string: both records
+-- name the number that they are checked against (document 02, request (ix)).
 use mathlib.Core.Path.{_≡_, sym, ap, _∙_, subst}
 use mathlib.Core.Bool.{Bool}
 use Prim.Native.Nat.{ℕ, _*_}
@@ -61,7 +62,8 @@ module _ (terms : DealTerms) (x y : Fields) (hx : Sized x) (hy : Sized y) (ax : 
       let f = named e in
       let s = same-segment e g in
       let t = same-entry terms x y ax ay at e .0 in
-      λ i. fields (f .0 i) (f .1 i) (f .2 i) (at i) (s i) (t i)
+      let n : x .number ≡ y .number = ax .number-same ∙ sym (ay .number-same) in
+      λ i. fields (f .0 i) (f .1 i) (f .2 i) (at i) (s i) (t i) (n i)
 
 pub two-records : (terms : DealTerms) (r s : List ℕ) → Bytes r → Bytes s → checkOf terms r ≡ 0 → checkOf terms s ≡ 0
     → placeIn (parse r) ≡ placeIn (parse s) → Settles (r ≡ s) (settleRecords terms r s)

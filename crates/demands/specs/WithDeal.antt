@@ -1,7 +1,7 @@
 -- A record accepted against a deal in hand: what building writes, or a collision.
 use mathlib.Core.Path.{_≡_, refl, sym, ap, ap₂, _∙_, subst}
 use mathlib.Core.Bool.{true}
-use Prim.Native.Nat.{ℕ, _<_}
+use Prim.Native.Nat.{ℕ, _^_, _<_}
 use native.Mathlib.Omega.{arith}
 use mathlib.Core.List.{List, [], _∷_, _++_}
 use lib.ListN.{length}
@@ -20,7 +20,7 @@ use Rattle.sizes.specs.SizesLaws.{lent-size}
 use Rattle.entries.specs.Entry.{offsetIn, sizeIn}
 use Rattle.index.specs.Slots.{entryAt, kept}
 use Rattle.index.specs.SlotsLaws.{made-kept}
-use Rattle.record.specs.Form.{Fields, parsed, parse, encode}
+use Rattle.record.specs.Form.{Fields, fields, parsed, parse, encode}
 use Rattle.record.specs.FormLaws.{Sized, parse-canonical}
 use Rattle.record.specs.Check.{entryFor, checkOf}
 use Rattle.record.specs.CheckLaws.{Accepted, check-means}
@@ -35,29 +35,30 @@ use Rattle.settle.specs.SettleLaws.{named-commitment, named-offset, named-size}
 use Rattle.demands.specs.Settles.{Settles}
 use Rattle.demands.specs.Chains.{Beside, settles-beside}
 
--- the record built from an entry that was made from fields has those fields
-made-fields : (deal : LentDeal) (x : Fields) → Sized x → x .segmentPath ≡ segmentPathOf deal (x .offset) (x .size)
-    → x .entryPath ≡ entryPathOf deal (x .place) → fieldsFor deal (entryFor x) (x .place) ≡ x
+-- the record built with a number from an entry that was made from fields has those fields
+made-fields : (deal : LentDeal) (number : ℕ) (x : Fields) → Sized x → x .number ≡ number
+    → x .segmentPath ≡ segmentPathOf deal (x .offset) (x .size) → x .entryPath ≡ entryPathOf deal (x .place)
+    → fieldsFor deal number (entryFor x) (x .place) ≡ x
 unfolding fieldsFor
-made-fields deal x h s e =
+made-fields deal number x h n s e =
     let k = named-commitment x h in
     let o = named-offset x h in
     let z = named-size x h in
     let p : segmentPathOf deal (offsetIn (entryFor x)) (sizeIn (entryFor x)) ≡ x .segmentPath =
     ap₂ (segmentPathOf deal) o z ∙ sym s in
-    λ i. record { commitment = k i; offset = o i; size = z i; place = x .place; segmentPath = p i; entryPath = sym e i }
+    λ i. fields (k i) (o i) (z i) (x .place) (p i) (sym e i) (sym n i)
 
 module _ (deal : LentDeal) (t : IsTree (deal .nodes) (deal .bytes) (dealLevel (dealSize deal)))
     (bd : Bytes (deal .bytes)) (lent : lentSizeAllowed (dealSize deal) ≡ true)
-    (clean : noStrayBits (deal .bytes) ≡ true) (sized : deal .treeSized ≡ true) where
-  module _ (x : Fields) (h : Sized x) (a : Accepted (termsOf deal) x) where
+    (clean : noStrayBits (deal .bytes) ≡ true) (sized : deal .treeSized ≡ true) (number : ℕ) where
+  module _ (x : Fields) (h : Sized x) (a : Accepted (termsOf deal number) x) where
     w : InDeal (dealSize deal) (x .place) (x .offset) (x .size)
     w =
         in-deal (dealSize deal) (x .place) (x .offset) (x .size) lent (a .place-allowed) (a .size-allowed)
         (a .offset-allowed)
 
     -- the deal's own strings are chains from its commitment
-    beside : Beside (termsOf deal) x (dealEntryStrings deal x) (dealSegmentStrings deal x)
+    beside : Beside (termsOf deal number) x (dealEntryStrings deal x) (dealSegmentStrings deal x)
     beside =
         let e = entryAt (deal .bytes) (x .place) in
         record {
@@ -91,29 +92,29 @@ module _ (deal : LentDeal) (t : IsTree (deal .nodes) (deal .bytes) (dealLevel (d
 
     -- so building writes it
     same-builds : (r : List ℕ) → encode x ≡ r → entryStrings (dealSize deal) x ≡ dealEntryStrings deal x
-        → segmentStrings (dealSize deal) x ≡ dealSegmentStrings deal x → recordAt deal (x .place) ≡ built r
+        → segmentStrings (dealSize deal) x ≡ dealSegmentStrings deal x → recordAt deal number (x .place) ≡ built r
     same-builds r en e g =
         let d = dealSize deal in
         let f = same-entry e in
         let k = same-segment g in
-        means-build deal (x .place) r lent clean sized (a .place-allowed)
+        means-build deal number (x .place) r lent clean sized (a .place-allowed)
         (subst (λ (s : List ℕ). kept (deal .nodes) d s ≡ true) (f .1)
         (made-kept d (x .commitment) (x .offset) (x .size) (h .commitment-32) (h .offset-8) (h .size-8) (deal .nodes)
         (a .size-allowed) (a .offset-allowed) (sym (k .1))))
-        (subst (λ (s : List ℕ). encode (fieldsFor deal s (x .place)) ≡ r) (f .1)
-        (ap encode (made-fields deal x h (k .0) (f .0)) ∙ en))
+        (subst (λ (s : List ℕ). encode (fieldsFor deal number s (x .place)) ≡ r) (f .1)
+        (ap encode (made-fields deal number x h (a .number-same) (k .0) (f .0)) ∙ en))
 
   -- the strings of a record that was built are the deal's
-  built-strings : (p : ℕ) (r : List ℕ) → Builds deal p r
-      → let y = fieldsFor deal (entryAt (deal .bytes) p) p in stringsOf (dealSize deal) y ≡ dealStrings deal y
+  built-strings : (p : ℕ) (r : List ℕ) → Builds deal number p r
+      → let y = fieldsFor deal number (entryAt (deal .bytes) p) p in stringsOf (dealSize deal) y ≡ dealStrings deal y
   unfolding entryStrings segmentStrings fieldsFor
   built-strings p r b =
       let d = dealSize deal in
       let e = entryAt (deal .bytes) p in
       let o = offsetIn (entryAt (deal .bytes) p) in
       let z = sizeIn (entryAt (deal .bytes) p) in
-      let v = built-in-deal deal t bd p r b in
-      let q = built-valid deal t bd p r b in
+      let v = built-in-deal deal t bd number p r b in
+      let q = built-valid deal t bd number p r b in
       let n = ap nodeHash q ∙ place-node deal t p o z v in
       ap₂ _++_
       ((λ i. stringsFrom (entryStart d p) (n i) (entryPathOf deal p) (q i ∷ []))
@@ -122,30 +123,32 @@ module _ (deal : LentDeal) (t : IsTree (deal .nodes) (deal .bytes) (dealLevel (d
       ∙ own-strings (deal .nodes) (deal .bytes) _ t _ (segment-start v) [])
 
   -- for any source that is a tree over the deal
-  pub settles-deal : (r : List ℕ) → Bytes r → checkOf (termsOf deal) r ≡ 0
-      → Settles (recordAt deal (placeIn (parse r)) ≡ built r) (settleWithDeal deal r)
+  pub settles-deal : (r : List ℕ) → Bytes r → checkOf (termsOf deal number) r ≡ 0
+      → Settles (recordAt deal number (placeIn (parse r)) ≡ built r) (settleWithDeal deal number r)
   unfolding settleWithDeal
   settles-deal r br cr =
-      let m = check-means (termsOf deal) r cr in
+      let m = check-means (termsOf deal number) r cr in
       let x = m .0 in
       let px : parse r ≡ parsed x = m .1 in
       let k = parse-canonical r x br px in
+      let bound : number < 2 ^ 64 = omega (arith, m .2 .number-same, k .1 .number-8) in
       rw (none-refusal deal lent clean sized, cr, px)
-      (settles-beside (termsOf deal) x (k .1) (m .2) (dealEntryStrings deal x) (dealSegmentStrings deal x)
+      (settles-beside (termsOf deal number) x (k .1) (m .2) (dealEntryStrings deal x) (dealSegmentStrings deal x)
       (beside x (k .1) (m .2))
-      (recordAt deal (x .place) ≡ built r)
+      (recordAt deal number (x .place) ≡ built r)
       (same-builds x (k .1) (m .2) r (k .0))
       (λ e.
-      let b = build-means deal (x .place) r e in
-      let y = fieldsFor deal (entryAt (deal .bytes) (x .place)) (x .place) in
-      let q : parsed x ≡ parsed y = sym px ∙ built-parses deal t bd (x .place) r b in
+      let b = build-means deal number (x .place) r e in
+      let y = fieldsFor deal number (entryAt (deal .bytes) (x .place)) (x .place) in
+      let q : parsed x ≡ parsed y = sym px ∙ built-parses deal t bd number (x .place) r b bound in
       let j : x ≡ y = cc in
       subst (λ (z : Fields). stringsOf (dealSize deal) z ≡ dealStrings deal z) (sym j) (built-strings (x .place) r b)))
 
 -- for the nodes worked out from the deal's bytes
-pub with-deal : (deal r : List ℕ) → Bytes deal → lentSizeAllowed (length deal) ≡ true → noStrayBits deal ≡ true
-    → Bytes r → checkOf (termsOf (lentDeal deal)) r ≡ 0
-    → Settles (recordAt (lentDeal deal) (placeIn (parse r)) ≡ built r) (settleWithDeal (lentDeal deal) r)
-with-deal deal r bd l c b k =
+pub with-deal : (deal : List ℕ) (number : ℕ) (r : List ℕ) → Bytes deal → lentSizeAllowed (length deal) ≡ true
+    → noStrayBits deal ≡ true → Bytes r → checkOf (termsOf (lentDeal deal) number) r ≡ 0
+    → Settles (recordAt (lentDeal deal) number (placeIn (parse r)) ≡ built r)
+    (settleWithDeal (lentDeal deal) number r)
+with-deal deal number r bd l c b k =
     let tree = run-tree deal (dealLevel (length deal)) (lent-size (length deal) l .deal .is-power) in
-    settles-deal (lentDeal deal) tree bd l c refl r b k
+    settles-deal (lentDeal deal) tree bd l c refl number r b k

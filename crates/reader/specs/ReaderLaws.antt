@@ -51,7 +51,8 @@ contents-from (f ∷ fs) bytes at =
     (fieldAt (now bytes) at) refl
 
 -- reading all fields through the reader is the plain parse
-pub reader-parses : (bytes : RefT (List ℕ)) → parsedBy (now bytes) (handedOut 6 (readerAt bytes 0)) ≡ parse (now bytes)
+pub reader-parses : (bytes : RefT (List ℕ))
+    → parsedBy (now bytes) (handedOut (length layout) (readerAt bytes 0)) ≡ parse (now bytes)
 unfolding parse
 reader-parses bytes = ap fieldsIn (contents-from layout bytes 0)
 

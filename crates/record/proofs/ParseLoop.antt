@@ -1,5 +1,6 @@
 -- Parsing row by row: what was read so far, what is left of the table, and the answer at the end.
-use mathlib.Core.Path.{_≡_, refl, sym, ap, ap₂, _∙_}
+use mathlib.Core.Path.{_≡_, refl, sym, ap, ap₂, subst, _∙_}
+use mathlib.Core.Bool.{true}
 use Prim.Native.Nat.{ℕ, suc, _+_, _≤_, _<_}
 use native.Mathlib.Omega.{arith}
 use mathlib.Core.List.{List, [], append-nil}
@@ -8,15 +9,23 @@ use lib.Seq.{take-suc-set, take-all}
 use borrow.Author.Tests.{eqb-true, le-leb, lt-leb}
 use Rattle.octets.specs.LittleEndian.{numberOf}
 use Rattle.octets.specs.Splice.{part}
+use Rattle.fields.specs.Table.{lengthAllowed}
 use Rattle.fields.specs.FieldAt.{fieldFor}
 use Rattle.fields.specs.Spans.{Spans, spans, misplaced, before, spansFrom}
 use Rattle.fields.specs.SpansLaws.{before-one, spans-step, spans-refused, span-lies}
+use Rattle.fields.specs.declared.LengthRule.{LengthRule}
+use Rattle.fields.specs.declared.LengthRule.the-variants.{Exactly}
+use Rattle.fields.specs.declared.FieldRule.{FieldRule}
 use Rattle.fields.specs.declared.Field.the-variants.{Content, Refused}
 use Rattle.record.specs.Form.{layout, tableRow}
-use Rattle.record.specs.ParsedRecord.{unread, readAt, parsedRecord}
+use Rattle.record.specs.ParsedRecord.{unread, contentAt, readAt, parsedRecord}
 use Rattle.record.specs.declared.ParsedRecord.{ParsedRecord}
 
 module _ (r : List ℕ) where
+  -- the row that is answered for an index past the table
+  abbrev past : FieldRule
+  past = tableRow (length layout)
+
   -- up to row i, the first starts and lengths are those of the table, and the others are read from a place on
   abbrev pub UpTo : List ℕ → List ℕ → ℕ → ℕ → Type 0
   UpTo starts lengths at i = spansFrom layout r 0
@@ -30,11 +39,11 @@ module _ (r : List ℕ) where
   no-rows starts lengths = none-before (spansFrom layout r 0)
 
   pub next-row : (starts lengths : List ℕ) (at i j : ℕ) {tag start n next : ℕ} → UpTo starts lengths at i → j ≡ suc i
-      → i < 6 → length starts ≡ 6 → length lengths ≡ 6
+      → i < length layout → length starts ≡ length layout → length lengths ≡ length layout
       → fieldFor (tableRow i) r at ≡ Content tag start n next → UpTo (set starts i start) (set lengths i n) next j
   next-row starts lengths at i j {start = start} {n} {next} u e h s l f =
       u
-      ∙ ap (before (take i starts) (take i lengths)) (spans-step layout r (tableRow 6) i at h f)
+      ∙ ap (before (take i starts) (take i lengths)) (spans-step layout r past i at h f)
       ∙ before-one (take i starts) (take i lengths) start n (spansFrom (drop (suc i) layout) r next)
       ∙ ap₂ (λ (x y : List ℕ). before x y (spansFrom (drop (suc i) layout) r next))
       (sym (take-suc-set starts i start (omega arith)))
@@ -44,16 +53,17 @@ module _ (r : List ℕ) where
 
   -- a row that is not there
   pub no-row : {answer : ParsedRecord} (starts lengths : List ℕ) (at i : ℕ) → answer ≡ unread 3
-      → UpTo starts lengths at i → i < 6 → fieldFor (tableRow i) r at ≡ Refused
+      → UpTo starts lengths at i → i < length layout → fieldFor (tableRow i) r at ≡ Refused
       → answer ≡ parsedRecord r
   unfolding parsedRecord
   no-row starts lengths at i a u h f =
       a ∙ sym (ap (readAt r) (u ∙ ap (before (take i starts) (take i lengths))
-      (spans-refused layout r (tableRow 6) i at h f)))
+      (spans-refused layout r past i at h f)))
 
   -- all rows, and nothing after them or something
-  module _ (starts lengths : List ℕ) (at i : ℕ) (u : UpTo starts lengths at i) (e : i ≡ 6) where
-    at-end : spansFrom layout r 0 ≡ before (take 6 starts) (take 6 lengths) (spansFrom [] r at)
+  module _ (starts lengths : List ℕ) (at i : ℕ) (u : UpTo starts lengths at i) (e : i ≡ length layout) where
+    at-end : spansFrom layout r 0
+        ≡ before (take (length layout) starts) (take (length layout) lengths) (spansFrom [] r at)
     at-end = u ∙ ap (λ (k : ℕ). before (take k starts) (take k lengths) (spansFrom (drop k layout) r at)) e
 
     pub more-after : {answer : ParsedRecord} → answer ≡ unread 3 → at < length r → answer ≡ parsedRecord r
@@ -62,52 +72,34 @@ module _ (r : List ℕ) where
         let m : spansFrom layout r 0 ≡ misplaced = at-end ∙ rw (lt-leb (length r) at h) in
         a ∙ sym (ap (readAt r) m)
 
-    pub all-rows : length starts ≡ 6 → length lengths ≡ 6 → length r ≤ at → spansFrom layout r 0 ≡ spans starts lengths
+    pub all-rows : length starts ≡ length layout → length lengths ≡ length layout → length r ≤ at
+        → spansFrom layout r 0 ≡ spans starts lengths
     unfolding spansFrom
     all-rows s l h =
         at-end
         ∙ rw (le-leb (length r) at h)
-        (ap₂ spans (append-nil (take 6 starts) ∙ take-all 6 starts (omega arith))
-        (append-nil (take 6 lengths) ∙ take-all 6 lengths (omega arith)))
+        (ap₂ spans (append-nil (take (length layout) starts) ∙ take-all (length layout) starts (omega arith))
+        (append-nil (take (length layout) lengths) ∙ take-all (length layout) lengths (omega arith)))
 
   -- with the starts and the lengths of a record
   module _ (starts lengths : List ℕ) (e : spansFrom layout r 0 ≡ spans starts lengths) where
-    fixed : (i n : ℕ) → getD starts i 0 + getD lengths i 0 ≤ length r → getD lengths i 0 ≡ n
-        → getD starts i 0 + n ≤ length r
-    fixed i n h l = omega arith
+    -- a row whose content has one length
+    module _ (i n : ℕ) (h : i < length layout) (f : tableRow i .length ≡ Exactly n) where
+      row-length : getD lengths i 0 ≡ n
+      row-length = eqb-true (getD lengths i 0) n
+          (subst (λ (l : LengthRule). lengthAllowed l (getD lengths i 0) ≡ true) f
+          (span-lies layout r past 0 starts lengths e i h .allowed))
 
-    commitment-length : getD lengths 0 0 ≡ 32
-    commitment-length = eqb-true (getD lengths 0 0) 32
-        (span-lies layout r (tableRow 6) 0 starts lengths e 0 (omega arith) .allowed)
+      pub row-fits : getD starts i 0 + n ≤ length r
+      row-fits = let w = span-lies layout r past 0 starts lengths e i h .within in let l = row-length in omega arith
 
-    offset-length : getD lengths 1 0 ≡ 8
-    offset-length = eqb-true (getD lengths 1 0) 8
-        (span-lies layout r (tableRow 6) 0 starts lengths e 1 (omega arith) .allowed)
+      content-there : part r (getD starts i 0) n ≡ contentAt r starts lengths i
+      content-there = ap (part r (getD starts i 0)) (sym row-length)
 
-    size-length : getD lengths 2 0 ≡ 8
-    size-length = eqb-true (getD lengths 2 0) 8
-        (span-lies layout r (tableRow 6) 0 starts lengths e 2 (omega arith) .allowed)
-
-    place-length : getD lengths 3 0 ≡ 8
-    place-length = eqb-true (getD lengths 3 0) 8
-        (span-lies layout r (tableRow 6) 0 starts lengths e 3 (omega arith) .allowed)
-
-    pub commitment-fits : getD starts 0 0 + 32 ≤ length r
-    commitment-fits = fixed 0 32 (span-lies layout r (tableRow 6) 0 starts lengths e 0
-        (omega arith) .within) commitment-length
-
-    pub offset-fits : getD starts 1 0 + 8 ≤ length r
-    offset-fits = fixed 1 8 (span-lies layout r (tableRow 6) 0 starts lengths e 1 (omega arith) .within) offset-length
-
-    pub size-fits : getD starts 2 0 + 8 ≤ length r
-    size-fits = fixed 2 8 (span-lies layout r (tableRow 6) 0 starts lengths e 2 (omega arith) .within) size-length
-
-    pub place-fits : getD starts 3 0 + 8 ≤ length r
-    place-fits = fixed 3 8 (span-lies layout r (tableRow 6) 0 starts lengths e 3 (omega arith) .within) place-length
-
-    pub fields-there : {commitment : List ℕ} {offset size place : ℕ} → commitment ≡ part r (getD starts 0 0) 32
+    pub fields-there : {commitment : List ℕ} {offset size place number : ℕ} → commitment ≡ part r (getD starts 0 0) 32
         → offset ≡ numberOf (part r (getD starts 1 0) 8)
         → size ≡ numberOf (part r (getD starts 2 0) 8) → place ≡ numberOf (part r (getD starts 3 0) 8)
+        → number ≡ numberOf (part r (getD starts 6 0) 8)
         → _≡_ {A = ParsedRecord}
         (record {
           code = 0;
@@ -119,17 +111,19 @@ module _ (r : List ℕ) where
           «segment_path_length» = getD lengths 4 0;
           «entry_path» = getD starts 5 0;
           «entry_path_length» = getD lengths 5 0;
+          number = number;
         })
         (readAt r (spans starts lengths))
-    fields-there c o s p =
+    fields-there c o s p n =
         λ i. record {
           code = 0;
-          commitment = (c ∙ ap (part r (getD starts 0 0)) (sym commitment-length)) i;
-          offset = (o ∙ ap (λ (n : ℕ). numberOf (part r (getD starts 1 0) n)) (sym offset-length)) i;
-          size = (s ∙ ap (λ (n : ℕ). numberOf (part r (getD starts 2 0) n)) (sym size-length)) i;
-          place = (p ∙ ap (λ (n : ℕ). numberOf (part r (getD starts 3 0) n)) (sym place-length)) i;
+          commitment = (c ∙ content-there 0 32 (omega arith) refl) i;
+          offset = (o ∙ ap numberOf (content-there 1 8 (omega arith) refl)) i;
+          size = (s ∙ ap numberOf (content-there 2 8 (omega arith) refl)) i;
+          place = (p ∙ ap numberOf (content-there 3 8 (omega arith) refl)) i;
           «segment_path» = getD starts 4 0;
           «segment_path_length» = getD lengths 4 0;
           «entry_path» = getD starts 5 0;
           «entry_path_length» = getD lengths 5 0;
+          number = (n ∙ ap numberOf (content-there 6 8 (omega arith) refl)) i;
         }

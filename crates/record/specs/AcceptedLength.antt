@@ -1,5 +1,5 @@
--- Document 01, "Numbers that bound the work": "A record that is accepted: 202 to 1,962 bytes." For every deal size to 2
--- ^ 36.
+-- Document 01, "Numbers that bound the work", with the field of document 02, request (ix): a record that is accepted
+-- has 213 to 1,973 bytes. For every deal size to 2 ^ 36.
 use mathlib.Core.Path.{_≡_, sym, ap, ap₂, _∙_}
 use Prim.Native.Nat.{ℕ, _≤_}
 use native.Mathlib.Omega.{arith}
@@ -15,9 +15,9 @@ use Rattle.record.specs.FieldsOfLaws.{accepted-fields, accepted-encodes,
 use Rattle.record.specs.Check.{DealTerms, checkOf}
 use Rattle.record.specs.CheckLaws.{check-terms}
 
--- the length of a record in a deal is from 202 to 1,962 bytes
+-- the length of a record in a deal is from 213 to 1,973 bytes
 pub length-range : (d size : ℕ) → DealSize d → SegmentSize d size
-    → (202 ≤ recordLength d size) × (recordLength d size ≤ 1962)
+    → (213 ≤ recordLength d size) × (recordLength d size ≤ 1973)
 unfolding recordLength
 length-range d size t s = (omega arith, omega arith)
 
@@ -31,7 +31,7 @@ module _ (terms : DealTerms) (r : List ℕ) (b : Bytes r) (e : checkOf terms r �
       ∙ encode-length (fieldsOf r) (accepted-sized r terms e b .commitment-32)
       ∙ ap₂ (λ (m n : ℕ). tableLength layout (m ∷ n ∷ [])) (a .segment-path-length) (a .entry-path-length)
 
-  pub accepted-range : (202 ≤ length r) × (length r ≤ 1962)
+  pub accepted-range : (213 ≤ length r) × (length r ≤ 1973)
   accepted-range =
       let t = deal-size (terms .size) (check-terms terms r e .1) in
       let s = segment-size (terms .size) (fieldsOf r .size) t (accepted-fields r terms e .size-allowed) in

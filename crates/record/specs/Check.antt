@@ -1,5 +1,5 @@
 -- The check of a record (document 01, "Codes and their order": check, 1 to 10 as numbered; document 02, request (v): 19
--- after 8).
+-- after 8, request (ix): 21 after 3).
 use mathlib.Core.Bool.{Bool, true, false, _&&_}
 use Prim.Native.Nat.{ℕ, _*_}
 use mathlib.Core.List.{List, [], _∷_}
@@ -15,13 +15,14 @@ use Rattle.sizes.specs.Sizes.{entryPathLevels, segmentPosition, entryPosition}
 use Rattle.entries.specs.Entry.{entryOf}
 use Rattle.record.specs.Form.{Fields, Parsed, parsed, broken, parse}
 
--- what a record is checked against: a deal's commitment and its size D
+-- what a record is checked against: a deal's commitment, its size D and its number
 pub record DealTerms : Type 0 where
   pub commitment : List ℕ
   pub size : ℕ
+  pub number : ℕ
 
-abbrev pub dealTerms : List ℕ → ℕ → DealTerms
-dealTerms commitment size = record { commitment = commitment; size = size }
+abbrev pub dealTerms : List ℕ → ℕ → ℕ → DealTerms
+dealTerms commitment size number = record { commitment = commitment; size = size; number = number }
 
 -- the entry that a record names, rebuilt from tags 1 to 3
 abbrev pub entryFor : Fields → List ℕ
@@ -52,7 +53,8 @@ wellFormed broken = false
 abbrev pub judgement : DealTerms → Parsed → List Rule
 judgement terms broken = []
 judgement terms (parsed x) =
-    rule (segmentSizeAllowed (terms .size) (x .size)) 4
+    rule (eqb (x .number) (terms .number)) 21
+    ∷ rule (segmentSizeAllowed (terms .size) (x .size)) 4
     ∷ rule (offsetAllowed (terms .size) (x .offset) (x .size)) 5
     ∷ rule (placeAllowed (terms .size) (x .place)) 6
     ∷ rule (pathsSized (terms .size) x) 7

@@ -18,6 +18,7 @@ use Rattle.record.specs.Check.{DealTerms, wellFormed, segmentPathRoot, e
 
 -- all that the demands use of a record that is accepted
 pub record Accepted (terms : DealTerms) (x : Fields) : Type 0 where
+  pub number-same : x .number ≡ terms .number
   pub size-allowed : segmentSizeAllowed (terms .size) (x .size) ≡ true
   pub offset-allowed : offsetAllowed (terms .size) (x .offset) (x .size) ≡ true
   pub place-allowed : placeAllowed (terms .size) (x .place) ≡ true
@@ -34,59 +35,50 @@ codes terms x = (
   omega arith,
   (
     omega arith,
-    (omega arith, (omega arith, (omega arith, (omega arith, (omega arith, (omega arith, tt)))))),
+    (omega arith, (omega arith, (omega arith, (omega arith, (omega arith, (omega arith, (omega arith, tt))))))),
   ),
 )
 
 judged : (terms : DealTerms) (x : Fields) → firstRefusal (judgement terms (parsed x)) ≡ 0 → Accepted terms x
 judged terms x e =
     let a = none-refused (judgement terms (parsed x)) (codes terms x) e in
+    let b = a .1 in
     let u = eqb (length (x .segmentPath)) (32 * segmentPathLevels (terms .size) (x .size)) in
     let v = eqb (length (x .entryPath)) (32 * entryPathLevels (terms .size)) in
     record {
-      size-allowed = a .0;
-      offset-allowed = a .1 .0;
-      place-allowed = a .1 .1 .0;
+      number-same = eqb-true (x .number) (terms .number) (a .0);
+      size-allowed = b .0;
+      offset-allowed = b .1 .0;
+      place-allowed = b .1 .1 .0;
       segment-path-length = eqb-true (length (x .segmentPath)) (32 * segmentPathLevels (terms .size) (x .size))
-          (and-left u v (a .1 .1 .1 .0));
+          (and-left u v (b .1 .1 .1 .0));
       entry-path-length = eqb-true (length (x .entryPath)) (32 * entryPathLevels (terms .size))
-          (and-right u v (a .1 .1 .1 .0));
-      commitment-clear = a .1 .1 .1 .1 .0;
-      segment-path-clear = and-left (noStrayBits (x .segmentPath)) (noStrayBits (x .entryPath)) (a .1 .1 .1 .1 .1 .0);
-      entry-path-clear = and-right (noStrayBits (x .segmentPath)) (noStrayBits (x .entryPath)) (a .1 .1 .1 .1 .1 .0);
-      segment-path-leads = same-true (segmentPathRoot (terms .size) x) (terms .commitment) (a .1 .1 .1 .1 .1 .1 .0);
-      entry-path-leads = same-true (entryPathRoot (terms .size) x) (terms .commitment) (a .1 .1 .1 .1 .1 .1 .1 .0);
+          (and-right u v (b .1 .1 .1 .0));
+      commitment-clear = b .1 .1 .1 .1 .0;
+      segment-path-clear = and-left (noStrayBits (x .segmentPath)) (noStrayBits (x .entryPath)) (b .1 .1 .1 .1 .1 .0);
+      entry-path-clear = and-right (noStrayBits (x .segmentPath)) (noStrayBits (x .entryPath)) (b .1 .1 .1 .1 .1 .0);
+      segment-path-leads = same-true (segmentPathRoot (terms .size) x) (terms .commitment) (b .1 .1 .1 .1 .1 .1 .0);
+      entry-path-leads = same-true (entryPathRoot (terms .size) x) (terms .commitment) (b .1 .1 .1 .1 .1 .1 .1 .0);
     }
 
 judges : (terms : DealTerms) (x : Fields) → Accepted terms x → firstRefusal (judgement terms (parsed x)) ≡ 0
 judges terms x a =
     let u = eqb (length (x .segmentPath)) (32 * segmentPathLevels (terms .size) (x .size)) in
     let v = eqb (length (x .entryPath)) (32 * entryPathLevels (terms .size)) in
+    let sized = and-both u v
+    (eq-eqb (length (x .segmentPath)) (32 * segmentPathLevels (terms .size) (x .size)) (a .segment-path-length))
+    (eq-eqb (length (x .entryPath)) (32 * entryPathLevels (terms .size)) (a .entry-path-length)) in
+    let clear = and-both (noStrayBits (x .segmentPath)) (noStrayBits (x .entryPath)) (a .segment-path-clear)
+    (a .entry-path-clear) in
+    let segment-leads = same-of (segmentPathRoot (terms .size) x) (terms .commitment) (a .segment-path-leads) in
+    let entry-leads = same-of (entryPathRoot (terms .size) x) (terms .commitment) (a .entry-path-leads) in
     all-passed (judgement terms (parsed x)) (
-      a .size-allowed,
+      eq-eqb (x .number) (terms .number) (a .number-same),
       (
-        a .offset-allowed,
+        a .size-allowed,
         (
-          a .place-allowed,
-          (
-            and-both u v (eq-eqb (length (x .segmentPath)) (32 * segmentPathLevels (terms .size) (x .size))
-                (a .segment-path-length)) (eq-eqb (length (x .entryPath)) (32 * entryPathLevels (terms .size))
-                (a .entry-path-length)),
-            (
-              a .commitment-clear,
-              (
-                and-both (noStrayBits (x .segmentPath)) (noStrayBits (x .entryPath)) (a .segment-path-clear)
-                    (a .entry-path-clear),
-                (
-                  same-of (segmentPathRoot (terms .size) x) (terms .commitment) (a .segment-path-leads),
-                  (
-                    same-of (entryPathRoot (terms .size) x) (terms .commitment) (a .entry-path-leads),
-                    tt,
-                  ),
-                ),
-              ),
-            ),
-          ),
+          a .offset-allowed,
+          (a .place-allowed, (sized, (a .commitment-clear, (clear, (segment-leads, (entry-leads, tt)))))),
         ),
       ),
     )

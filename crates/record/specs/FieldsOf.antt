@@ -8,7 +8,7 @@ use Rattle.record.specs.Form.{Fields, fields, Parsed, parsed, broken, pa
 
 abbrev pub parsedFields : Parsed → Fields
 parsedFields (parsed x) = x
-parsedFields broken = fields (replicate 32 0) 0 0 0 [] []
+parsedFields broken = fields (replicate 32 0) 0 0 0 [] [] 0
 
 unfoldable pub fieldsOf : List ℕ → Fields
 fieldsOf r = parsedFields (parse r)

@@ -1,5 +1,5 @@
--- The form of a record (document 01, "The record"): its table, its fields, reading and writing. It depends on the
--- record's bytes alone.
+-- The form of a record (document 01, "The record"; document 02, request (ix): tag 7): its table, its fields, reading
+-- and writing. It depends on the record's bytes alone.
 use Prim.Native.Nat.{ℕ, _*_}
 use mathlib.Core.List.{List, [], _∷_}
 use lib.ListN.{getD}
@@ -14,7 +14,7 @@ use Rattle.fields.specs.declared.FieldRule.{FieldRule}
 abbrev pub wholeNodes : LengthRule
 wholeNodes = MultipleOf 32
 
--- the table: segment commitment, segment offset, segment size, entry place, segment path, entry path
+-- the table: segment commitment, segment offset, segment size, entry place, segment path, entry path, deal number
 abbrev pub layout : List FieldRule
 layout =
     fieldRule 1 (Exactly 32)
@@ -23,6 +23,7 @@ layout =
     ∷ fieldRule 4 (Exactly 8)
     ∷ fieldRule 5 wholeNodes
     ∷ fieldRule 6 wholeNodes
+    ∷ fieldRule 7 (Exactly 8)
     ∷ []
 
 -- a row of the table, from 0
@@ -37,10 +38,11 @@ pub record Fields : Type 0 where
   pub place : ℕ
   pub segmentPath : List ℕ
   pub entryPath : List ℕ
+  pub number : ℕ
 
 -- fields, named in the order of the table
-abbrev pub fields : List ℕ → ℕ → ℕ → ℕ → List ℕ → List ℕ → Fields
-fields commitment offset size place segmentPath entryPath =
+abbrev pub fields : List ℕ → ℕ → ℕ → ℕ → List ℕ → List ℕ → ℕ → Fields
+fields commitment offset size place segmentPath entryPath number =
     record {
       commitment = commitment;
       offset = offset;
@@ -48,6 +50,7 @@ fields commitment offset size place segmentPath entryPath =
       place = place;
       segmentPath = segmentPath;
       entryPath = entryPath;
+      number = number;
     }
 
 pub data Parsed : Type 0 where
@@ -63,6 +66,7 @@ fieldsIn (contents cs) =
       place = numberOf (getD cs 3 []);
       segmentPath = getD cs 4 [];
       entryPath = getD cs 5 [];
+      number = numberOf (getD cs 6 []);
     })
 fieldsIn malformed = broken
 
@@ -73,7 +77,7 @@ parse r = fieldsIn (readContents layout r)
 -- the contents of a record's fields, in the order of the table
 abbrev pub contentsOf : Fields → List (List ℕ)
 contentsOf x = x .commitment ∷ bytesOf 8 (x .offset) ∷ bytesOf 8 (x .size) ∷ bytesOf 8 (x .place) ∷ x .segmentPath
-    ∷ x .entryPath ∷ []
+    ∷ x .entryPath ∷ bytesOf 8 (x .number) ∷ []
 
 -- the record with these fields
 unfoldable pub encode : Fields → List ℕ

@@ -12,7 +12,8 @@ use Rattle.octets.specs.LittleEndianLaws.{length-bytesOf, number-of-bytes, byte
 use Rattle.fields.specs.Table.{lengthAllowed, Contents, contents, malformed, readContents, writeContents, tableLength}
 use Rattle.fields.specs.TableLaws.{Fits, AllBytes, contents-back, contents-canonical, written-length}
 use Rattle.fields.specs.declared.LengthRule.the-variants.{Exactly}
-use Rattle.record.specs.Form.{wholeNodes, layout, Fields, parsed, broken, fieldsIn, parse, contentsOf, encode}
+use Rattle.record.specs.Form.{wholeNodes, layout, Fields, fields, parsed, broken, fieldsIn, parse, contentsOf}
+use Rattle.record.specs.Form.{encode}
 
 never-parsed : {A : Type 0} {x : Fields} → broken ≡ parsed x → A
 never-parsed e = let z : _≡_ {A = ℕ} 0 1 = cc in absurd (omega arith)
@@ -27,6 +28,7 @@ pub record Sized (x : Fields) : Type 0 where
   pub segment-path-short : length (x .segmentPath) < 65536
   pub entry-path-nodes : lengthAllowed wholeNodes (length (x .entryPath)) ≡ true
   pub entry-path-short : length (x .entryPath) < 65536
+  pub number-8 : x .number < 256 ^ 8
 
 sized-fits : (x : Fields) → Sized x → Fits layout (contentsOf x)
 sized-fits x h =
@@ -44,7 +46,11 @@ sized-fits x h =
           (
             l8 (x .place),
             s8 (x .place),
-            (h .segment-path-nodes, h .segment-path-short, (h .entry-path-nodes, h .entry-path-short, tt)),
+            (
+              h .segment-path-nodes,
+              h .segment-path-short,
+              (h .entry-path-nodes, h .entry-path-short, (l8 (x .number), s8 (x .number), tt)),
+            ),
           ),
         ),
       ),
@@ -58,8 +64,8 @@ parse-encode x h =
     (rw (
       number-of-bytes 8 (x .offset) (h .offset-8),
       number-of-bytes 8 (x .size) (h .size-8),
-      number-of-bytes 8
-          (x .place) (h .place-8),
+      number-of-bytes 8 (x .place) (h .place-8),
+      number-of-bytes 8 (x .number) (h .number-8),
     ))
 
 -- a record that was read is the one that its fields write
@@ -67,34 +73,29 @@ pub parse-canonical : (r : List ℕ) (x : Fields) → Bytes r → parse r ≡ pa
 unfolding parse encode
 parse-canonical r x h e = go (readContents layout r) refl e
   where
-    six : (cs : List (List ℕ)) → readContents layout r ≡ contents cs → fieldsIn (contents cs) ≡ parsed x
+    rows : (cs : List (List ℕ)) → readContents layout r ≡ contents cs → fieldsIn (contents cs) ≡ parsed x
         → Fits layout cs → AllBytes cs → (writeContents layout (contentsOf x) ≡ r) × Sized x
-    six [] p q f b = absurd f
-    six (c ∷ []) p q f b = absurd (f .2)
-    six (c ∷ o ∷ []) p q f b = absurd (f .2 .2)
-    six (c ∷ o ∷ s ∷ []) p q f b = absurd (f .2 .2 .2)
-    six (c ∷ o ∷ s ∷ a ∷ []) p q f b = absurd (f .2 .2 .2 .2)
-    six (c ∷ o ∷ s ∷ a ∷ u ∷ []) p q f b = absurd (f .2 .2 .2 .2 .2)
-    six (c ∷ o ∷ s ∷ a ∷ u ∷ v ∷ w ∷ ws) p q f b = absurd (f .2 .2 .2 .2 .2 .2)
-    six (c ∷ o ∷ s ∷ a ∷ u ∷ v ∷ []) p q f b =
-        let m = contents-canonical layout r (c ∷ o ∷ s ∷ a ∷ u ∷ v ∷ []) h p in
+    rows [] p q f b = absurd f
+    rows (c ∷ []) p q f b = absurd (f .2)
+    rows (c ∷ o ∷ []) p q f b = absurd (f .2 .2)
+    rows (c ∷ o ∷ s ∷ []) p q f b = absurd (f .2 .2 .2)
+    rows (c ∷ o ∷ s ∷ a ∷ []) p q f b = absurd (f .2 .2 .2 .2)
+    rows (c ∷ o ∷ s ∷ a ∷ u ∷ []) p q f b = absurd (f .2 .2 .2 .2 .2)
+    rows (c ∷ o ∷ s ∷ a ∷ u ∷ v ∷ []) p q f b = absurd (f .2 .2 .2 .2 .2 .2)
+    rows (c ∷ o ∷ s ∷ a ∷ u ∷ v ∷ n ∷ w ∷ ws) p q f b = absurd (f .2 .2 .2 .2 .2 .2 .2)
+    rows (c ∷ o ∷ s ∷ a ∷ u ∷ v ∷ n ∷ []) p q f b =
+        let m = contents-canonical layout r (c ∷ o ∷ s ∷ a ∷ u ∷ v ∷ n ∷ []) h p in
         let lo : length o ≡ 8 = eqb-true (length o) 8 (f .2 .0) in
         let ls : length s ≡ 8 = eqb-true (length s) 8 (f .2 .2 .0) in
         let la : length a ≡ 8 = eqb-true (length a) 8 (f .2 .2 .2 .0) in
-        let y : Fields = record {
-          commitment = c;
-          offset = numberOf o;
-          size = numberOf s;
-          place =
-              numberOf a;
-          segmentPath = u;
-          entryPath = v;
-        } in
+        let ln : length n ≡ 8 = eqb-true (length n) 8 (f .2 .2 .2 .2 .2 .2 .0) in
+        let bn = b .1 .1 .1 .1 .1 .1 .0 in
+        let y : Fields = fields c (numberOf o) (numberOf s) (numberOf a) u v (numberOf n) in
         let j : y ≡ x = cc in
         subst (λ (z : Fields). (writeContents layout (contentsOf z) ≡ r) × Sized z) j (
           (λ i. writeContents layout
               (c ∷ bytes-of-number 8 o lo (b .1 .0) i ∷ bytes-of-number 8 s ls (b .1 .1 .0) i ∷ bytes-of-number 8 a la
-              (b .1 .1 .1 .0) i ∷ u ∷ v ∷ [])) ∙ m .0,
+              (b .1 .1 .1 .0) i ∷ u ∷ v ∷ bytes-of-number 8 n ln bn i ∷ [])) ∙ m .0,
           record {
             commitment-32 = eqb-true (length c) 32 (f .0);
             offset-8 = number-bound 8 o lo (b .1 .0);
@@ -104,18 +105,27 @@ parse-canonical r x h e = go (readContents layout r) refl e
             segment-path-short = f .2 .2 .2 .2 .1;
             entry-path-nodes = f .2 .2 .2 .2 .2 .0;
             entry-path-short = f .2 .2 .2 .2 .2 .1;
+            number-8 = number-bound 8 n ln bn;
           },
         )
 
     go : (k : Contents) → readContents layout r ≡ k → fieldsIn k ≡ parsed x
         → (writeContents layout (contentsOf x) ≡ r) × Sized x
     go malformed p q = never-parsed q
-    go (contents cs) p q = let m = contents-canonical layout r cs h p in six cs p q (m .1) (m .2)
+    go (contents cs) p q = let m = contents-canonical layout r cs h p in rows cs p q (m .1) (m .2)
 
 -- the length of what is written is the table's
 pub encode-length : (x : Fields) → length (x .commitment) ≡ 32
     → length (encode x) ≡ tableLength layout (length (x .segmentPath) ∷ length (x .entryPath) ∷ [])
 unfolding encode
 encode-length x l =
-    written-length layout (contentsOf x)
-    (l, (length-bytesOf 8 (x .offset), (length-bytesOf 8 (x .size), (length-bytesOf 8 (x .place), (tt, (tt, tt))))))
+    written-length layout (contentsOf x) (
+      l,
+      (
+        length-bytesOf 8 (x .offset),
+        (
+          length-bytesOf 8 (x .size),
+          (length-bytesOf 8 (x .place), (tt, (tt, (length-bytesOf 8 (x .number), tt)))),
+        ),
+      ),
+    )

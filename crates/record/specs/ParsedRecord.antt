@@ -21,6 +21,7 @@ unread code =
       «segment_path_length» = 0;
       «entry_path» = 0;
       «entry_path_length» = 0;
+      number = 0;
     }
 
 -- the content of a row, where the contents have these starts and lengths
@@ -40,6 +41,7 @@ readAt r (spans starts lengths) =
       «segment_path_length» = getD lengths 4 0;
       «entry_path» = getD starts 5 0;
       «entry_path_length» = getD lengths 5 0;
+      number = numberOf (contentAt r starts lengths 6);
     }
 readAt r misplaced = unread 3
 

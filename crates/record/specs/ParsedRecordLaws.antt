@@ -18,7 +18,7 @@ use Rattle.record.specs.declared.ParsedRecord.{ParsedRecord}
 abbrev pub fieldsAt : List ℕ → ParsedRecord → Fields
 fieldsAt r x =
     fields (x .commitment) (x .offset) (x .size) (x .place) (part r (x .«segment_path») (x .«segment_path_length»))
-    (part r (x .«entry_path») (x .«entry_path_length»))
+    (part r (x .«entry_path») (x .«entry_path_length»)) (x .number)
 
 -- the paths lie within the record
 pub record Within (r : List ℕ) (x : ParsedRecord) : Type 0 where
@@ -30,8 +30,8 @@ module _ (r : List ℕ) where
   rows-read : (ss ns : List ℕ) → spansFrom layout r 0 ≡ spans ss ns
       → fieldsIn (contents (partsOf r ss ns)) ≡ parsed (fieldsAt r (readAt r (spans ss ns)))
   rows-read ss ns q =
-      let l : length ss ≡ 6 = spans-counted layout r 0 ss ns q .0 in
-      let at : (i : ℕ) → i < 6 → getD (partsOf r ss ns) i [] ≡ part r (getD ss i 0) (getD ns i 0) =
+      let l : length ss ≡ length layout = spans-counted layout r 0 ss ns q .0 in
+      let at : (i : ℕ) → i < length layout → getD (partsOf r ss ns) i [] ≡ part r (getD ss i 0) (getD ns i 0) =
       λ i h. parts-at r ss ns i (omega arith) in
       λ i. parsed (fields
       (at 0 (omega arith) i)
@@ -39,7 +39,8 @@ module _ (r : List ℕ) where
       (numberOf (at 2 (omega arith) i))
       (numberOf (at 3 (omega arith) i))
       (at 4 (omega arith) i)
-      (at 5 (omega arith) i))
+      (at 5 (omega arith) i)
+      (numberOf (at 6 (omega arith) i)))
 
   -- with code 0 the bytes are a record, and the answer names its fields
   pub record-read : parsedRecord r .code ≡ 0 → parse r ≡ parsed (fieldsAt r (parsedRecord r))

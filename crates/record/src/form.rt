@@ -2,6 +2,7 @@
 use crate::ParsedRecord;
 use crate::layout::COMMITMENT;
 use crate::layout::ENTRY_PATH;
+use crate::layout::NUMBER;
 use crate::layout::OFFSET;
 use crate::layout::PLACE;
 use crate::layout::ROWS;
@@ -28,6 +29,7 @@ fn unread_with(code: u8) -> ParsedRecord
         segment_path_length: 0,
         entry_path: 0,
         entry_path_length: 0,
+        number: 0,
     }
 }
 
@@ -40,6 +42,7 @@ fn read_at(record: &[u8], starts: [usize; ROWS], lengths: [usize; ROWS]) -> Pars
     let offset = octets::read_u64(record, starts[OFFSET]);
     let size = octets::read_u64(record, starts[SIZE]);
     let place = octets::read_u64(record, starts[PLACE]);
+    let number = octets::read_u64(record, starts[NUMBER]);
     ParsedRecord {
         code: 0,
         commitment,
@@ -50,6 +53,7 @@ fn read_at(record: &[u8], starts: [usize; ROWS], lengths: [usize; ROWS]) -> Pars
         segment_path_length: lengths[SEGMENT_PATH],
         entry_path: starts[ENTRY_PATH],
         entry_path_length: lengths[ENTRY_PATH],
+        number,
     }
 }
 

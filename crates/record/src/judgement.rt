@@ -1,4 +1,5 @@
 // The judgement over the fields of a well-formed record.
+use crate::ParsedRecord;
 ghost use mathlib.Core.Path.{_≡_};
 ghost use mathlib.Core.Bool.{true, _&&_};
 ghost use Prim.Native.Nat.{_*_, _/_};
@@ -40,45 +41,48 @@ fn leads_to(commitment: &[u8], node: [u8; 32], position: u64, path: &[u8]) -> bo
     octets::same(&root, commitment)
 }
 
-// The code of the fields of a well-formed record: 4 to 8 as numbered, 19, 9, 10.
+// The code of the fields of a well-formed record: 21, 4 to 8 as numbered, 19, 9, 10.
 pub(crate) fn judge(
     commitment: &[u8],
     d: u64,
-    segment: [u8; 32],
-    offset: u64,
-    size: u64,
-    place: u64,
+    number: u64,
+    x: ParsedRecord,
     segment_path: &[u8],
     entry_path: &[u8],
 ) -> u8
     requires { ⌜ dealSizeAllowed d ≡ true ⌝ }
-    ensures { λ r. ⌜ r ≡ firstRefusal (judgement (dealTerms (now (commitment .entry)) d)
-        (parsed (fields segment offset size place (now («segment_path» .entry)) (now («entry_path» .entry))))) ⌝ }
+    ensures { λ r. ⌜ r ≡ firstRefusal (judgement (dealTerms (now (commitment .entry)) d number)
+        (parsed (fields (x .commitment) (x .offset) (x .size) (x .place) (now («segment_path» .entry))
+        (now («entry_path» .entry)) (x .number)))) ⌝ }
 {
-    if !sizes::segment_size_allowed(d, size) {
+    if x.number != number {
+        return 21;
+    }
+    if !sizes::segment_size_allowed(d, x.size) {
         return 4;
     }
-    if !sizes::offset_allowed(d, offset, size) {
+    if !sizes::offset_allowed(d, x.offset, x.size) {
         return 5;
     }
-    if !sizes::place_allowed(d, place) {
+    if !sizes::place_allowed(d, x.place) {
         return 6;
     }
-    if !paths_sized(d, size, segment_path.len(), entry_path.len()) {
+    if !paths_sized(d, x.size, segment_path.len(), entry_path.len()) {
         return 7;
     }
+    let segment = x.commitment;
     if segment[31] >= 64 {
         return 8;
     }
     if !paths_clear(segment_path, entry_path) {
         return 19;
     }
-    let position = sizes::segment_position(offset, size);
+    let position = sizes::segment_position(x.offset, x.size);
     if !leads_to(commitment, segment, position, segment_path) {
         return 9;
     }
-    let entry = entries::entry_of(segment, offset, size);
-    if !leads_to(commitment, node::node_hash(entry), place / 64, entry_path) {
+    let entry = entries::entry_of(segment, x.offset, x.size);
+    if !leads_to(commitment, node::node_hash(entry), x.place / 64, entry_path) {
         return 10;
     }
     0

@@ -3,9 +3,10 @@ use fields::FieldRule;
 use fields::LengthRule;
 ghost use mathlib.Core.Path.{_≡_};
 ghost use Prim.Native.Nat.{_<_};
+ghost use lib.ListN.{length};
 ghost use Rattle.fields.specs.Table.{fieldRule};
 ghost use Rattle.fields.specs.declared.LengthRule.the-variants.{Exactly};
-ghost use Rattle.record.specs.Form.{wholeNodes, tableRow};
+ghost use Rattle.record.specs.Form.{wholeNodes, layout, tableRow};
 
 // The rows of the table, in its order, and how many they are.
 pub const COMMITMENT: usize = 0;
@@ -20,10 +21,12 @@ pub const SEGMENT_PATH: usize = 4;
 
 pub const ENTRY_PATH: usize = 5;
 
-pub const ROWS: usize = 6;
+pub const NUMBER: usize = 6;
 
-// The bytes of a record beside its two paths: a head for each row, the commitment and three numbers.
-pub const FIXED_LENGTH: usize = 3 * ROWS + 32 + 3 * 8;
+pub const ROWS: usize = 7;
+
+// The bytes of a record beside its two paths: a head for each row, the commitment and four numbers.
+pub const FIXED_LENGTH: usize = 3 * ROWS + 32 + 4 * 8;
 
 // A row whose content has one length.
 fn fixed(tag: u8, length: usize) -> FieldRule
@@ -46,16 +49,17 @@ fn nodes(tag: u8) -> FieldRule
 }
 
 // A row of the table.
-pub fn row(number: usize) -> FieldRule
-    requires { ⌜ number < 6 ⌝ }
-    ensures { λ r. ⌜ r ≡ tableRow number ⌝ }
+pub fn row(index: usize) -> FieldRule
+    requires { ⌜ index < length layout ⌝ }
+    ensures { λ r. ⌜ r ≡ tableRow index ⌝ }
 {
-    match number {
+    match index {
         COMMITMENT => fixed(1, 32),
         OFFSET => fixed(2, 8),
         SIZE => fixed(3, 8),
         PLACE => fixed(4, 8),
         SEGMENT_PATH => nodes(5),
-        _ => nodes(6),
+        ENTRY_PATH => nodes(6),
+        _ => fixed(7, 8),
     }
 }

@@ -1,12 +1,13 @@
 // Inclusion records: their fields, and the check.
 mod form; // form.rt: the fields of a record, from its bytes alone
-mod judgement; // judgement.rt: the judgement over the fields, codes 4 to 10 and 19
+mod judgement; // judgement.rt: the judgement over the fields, codes 21, 4 to 10 and 19
 mod layout; // layout.rt: the table of a record's fields
 
 pub use form::parse;
 pub use layout::COMMITMENT;
 pub use layout::ENTRY_PATH;
 pub use layout::FIXED_LENGTH;
+pub use layout::NUMBER;
 pub use layout::OFFSET;
 pub use layout::PLACE;
 pub use layout::SEGMENT_PATH;
@@ -27,12 +28,13 @@ pub struct ParsedRecord {
     pub segment_path_length: usize,
     pub entry_path: usize,
     pub entry_path_length: usize,
+    pub number: u64,
 }
 
-// The code of the check of a record against a deal's commitment and size: 1 to 8 as numbered, 19, 9, 10; 0 for a
-// record that is accepted.
-pub fn check(commitment: &[u8], size: u64, record: &[u8]) -> u8
-    ensures { λ r. ⌜ r ≡ checkOf (dealTerms (now (commitment .entry)) size) (now («record» .entry)) ⌝ }
+// The code of the check of a record against a deal's commitment, size and number: 1 to 3 as numbered, 21, 4 to 8 as
+// numbered, 19, 9, 10; 0 for a record that is accepted.
+pub fn check(commitment: &[u8], size: u64, number: u64, record: &[u8]) -> u8
+    ensures { λ r. ⌜ r ≡ checkOf (dealTerms (now (commitment .entry)) size number) (now («record» .entry)) ⌝ }
 {
     if commitment.len() != 32 {
         return 1;
@@ -44,7 +46,6 @@ pub fn check(commitment: &[u8], size: u64, record: &[u8]) -> u8
     if parsed.code != 0 {
         return parsed.code;
     }
-    let segment = parsed.commitment;
     let segment_path = parsed.segment_path;
     let segment_path_end = segment_path + parsed.segment_path_length;
     let entry_path = parsed.entry_path;
@@ -52,10 +53,8 @@ pub fn check(commitment: &[u8], size: u64, record: &[u8]) -> u8
     judgement::judge(
         commitment,
         size,
-        segment,
-        parsed.offset,
-        parsed.size,
-        parsed.place,
+        number,
+        parsed,
         &record[segment_path..segment_path_end],
         &record[entry_path..entry_path_end],
     )

@@ -1,5 +1,5 @@
 -- The ways through settling a record with a deal, one law for each answer of the code. The deal's nodes may be any.
-use mathlib.Core.Path.{_≡_, sym, _∙_}
+use mathlib.Core.Path.{_≡_, sym, _∙_, subst}
 use mathlib.Core.Bool.{true, false}
 use Prim.Native.Nat.{ℕ, _/_}
 use native.Mathlib.Omega.{arith}
@@ -33,22 +33,29 @@ use Rattle.settle.specs.AcceptedRecordLaws.{parses, accepted}
 use Rattle.settle.specs.Comparing.{entryWithDeal, segmentWithDeal}
 use Rattle.settle.proofs.Answers.{refused-with, entries-decide, segments-decide}
 
-module _ (deal : LentDeal) (r : List ℕ) where
-  pub deal-refused : {code : ℕ} → code ≡ dealRefusal deal → (code ≡ 0 → ⊥) → notSettled code ≡ settleWithDeal deal r
+module _ (deal : LentDeal) (number : ℕ) (r : List ℕ) where
+  pub deal-refused : {code : ℕ} → code ≡ dealRefusal deal → (code ≡ 0 → ⊥)
+      → notSettled code ≡ settleWithDeal deal number r
   unfolding settleWithDeal
   deal-refused {code} e h = rw (← e) (refused-with code notSettled _ h)
 
-  pub check-refused : dealRefusal deal ≡ 0 → {code : ℕ} → code ≡ checkOf (termsOf deal) r → (code ≡ 0 → ⊥)
-      → notSettled code ≡ settleWithDeal deal r
+  pub check-refused : dealRefusal deal ≡ 0 → {code : ℕ} → code ≡ checkOf (termsOf deal number) r → (code ≡ 0 → ⊥)
+      → notSettled code ≡ settleWithDeal deal number r
   unfolding settleWithDeal
   check-refused fine {code} e h = rw (fine, ← e) (refused-with code notSettled _ h)
+
+-- an accepted record's number is the deal's
+pub own-number : (deal : LentDeal) {number : ℕ} {r : List ℕ} {x : ParsedRecord}
+    → AcceptedRecord (termsOf deal number) r x → AcceptedRecord (termsOf deal (x .number)) r x
+own-number deal {number} {r} {x} a =
+    subst (λ (n : ℕ). AcceptedRecord (termsOf deal n) r x) (sym (accepted a .number-same)) a
 
 module _ (deal : LentDeal) (fine : dealRefusal deal ≡ 0) where
   pub lent : lentSizeAllowed (dealSize deal) ≡ true
   lent = refusal-none deal fine .0
 
   -- the fields of an accepted record in the deal
-  module _ {x : Fields} (a : Accepted (termsOf deal) x) where
+  module _ {number : ℕ} {x : Fields} (a : Accepted (termsOf deal number) x) where
     pub inside : InDeal (dealSize deal) (x .place) (x .offset) (x .size)
     inside =
         in-deal (dealSize deal) (x .place) (x .offset) (x .size) lent (a .place-allowed) (a .size-allowed)
@@ -96,10 +103,10 @@ module _ (deal : LentDeal) (fine : dealRefusal deal ≡ 0) where
         ∙ sym (pairs-length (deal .nodes) start (entryAt (deal .bytes) (x .place) ∷ []))
 
   -- the answer from the two parts
-  module _ {r : List ℕ} {x : ParsedRecord} (a : AcceptedRecord (termsOf deal) r x) where
+  module _ {number : ℕ} {r : List ℕ} {x : ParsedRecord} (a : AcceptedRecord (termsOf deal number) r x) where
     settled-is :
         let X = fieldsAt r x in
-        settledFrom (orCompared (entryWithDeal deal X) (segmentWithDeal deal X)) ≡ settleWithDeal deal r
+        settledFrom (orCompared (entryWithDeal deal X) (segmentWithDeal deal X)) ≡ settleWithDeal deal number r
     unfolding settleWithDeal
     settled-is =
         let d = dealSize deal in
@@ -110,10 +117,10 @@ module _ (deal : LentDeal) (fine : dealRefusal deal ≡ 0) where
         (one-length (accepted a))))
 
     module _ (found : Compared) (e : found ≡ entryWithDeal deal (fieldsAt r x)) where
-      pub entries-differ : found .differs ≡ true → settledFrom found ≡ settleWithDeal deal r
+      pub entries-differ : found .differs ≡ true → settledFrom found ≡ settleWithDeal deal number r
       entries-differ d = entries-decide _ _ _ settled-is found e d
 
       pub entries-same : found .differs ≡ false
           → {rest : Compared} → rest ≡ segmentWithDeal deal (fieldsAt r x)
-          → settledFrom rest ≡ settleWithDeal deal r
+          → settledFrom rest ≡ settleWithDeal deal number r
       entries-same d q = segments-decide _ _ _ settled-is found e d q

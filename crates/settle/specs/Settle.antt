@@ -1,5 +1,5 @@
 -- Settling (document 01, "Booking, finding, building, settling": settle; document 02, request (vii): the deal may have
--- a tree beside it).
+-- a tree beside it; request (ix): the check takes the deal's number, which is no part of any string).
 use Prim.Native.Nat.{ℕ}
 use mathlib.Core.List.{List, [], _∷_, _++_}
 use lib.ListN.{replicate}
@@ -68,10 +68,10 @@ abbrev pub dealStringsIn : LentDeal → Parsed → List (List ℕ)
 dealStringsIn deal (parsed x) = dealStrings deal x
 dealStringsIn deal broken = []
 
--- a record with a deal: 2, 11, 12 for the tree beside the deal, the check against the deal's own commitment and length,
--- then 0 or 17
-unfoldable pub settleWithDeal : LentDeal → List ℕ → Settled
-settleWithDeal deal r =
+-- a record with a deal: 2, 11, 12 for the tree beside the deal, the check against the deal's own commitment and length
+-- and its number, then 0 or 17
+unfoldable pub settleWithDeal : LentDeal → ℕ → List ℕ → Settled
+settleWithDeal deal number r =
     unlessRefused (dealRefusal deal) notSettled
-    (unlessRefused (checkOf (termsOf deal) r) notSettled
+    (unlessRefused (checkOf (termsOf deal number) r) notSettled
     (settledBy (firstDifference (stringsIn (dealSize deal) (parse r)) (dealStringsIn deal (parse r)))))

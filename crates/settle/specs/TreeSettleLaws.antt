@@ -47,14 +47,14 @@ module _ (bytes tree : List ℕ) (f : FilledFor bytes tree) where
   size = length bytes
 
   -- a deal of an allowed size
-  module _ (lent : lentSizeAllowed size ≡ true) where
+  module _ (number : ℕ) (lent : lentSizeAllowed size ≡ true) where
     -- its own pairs of nodes
     filled-pairs : (start : PathStart) → InTree (dealLevel size) start → (ws : List (List ℕ))
         → pairsFrom (treeNodes bytes tree) start ws ≡ pairsFrom (nodeAt bytes) start ws
     filled-pairs = same-pairs (treeNodes bytes tree) (nodeAt bytes) (dealLevel size) (filled-nodes bytes tree f lent)
 
     -- its strings along the paths of an accepted record
-    filled-strings : (x : Fields) → Accepted (termsOf (lentDeal bytes)) x
+    filled-strings : (x : Fields) → Accepted (termsOf (lentDeal bytes) number) x
         → dealStrings (treeDeal bytes tree) x ≡ dealStrings (lentDeal bytes) x
     filled-strings x a =
         let w = in-deal size (x .place) (x .offset) (x .size) lent (a .place-allowed) (a .size-allowed)
@@ -63,27 +63,28 @@ module _ (bytes tree : List ℕ) (f : FilledFor bytes tree) where
         (filled-pairs (entryStart size (x .place)) (entry-start w) (entryAt bytes (x .place) ∷ []))
         (filled-pairs (segmentStart size (x .offset) (x .size)) (segment-start w) [])
 
-    same-strings : (r : List ℕ) → checkOf (termsOf (lentDeal bytes)) r ≡ 0
+    same-strings : (r : List ℕ) → checkOf (termsOf (lentDeal bytes) number) r ≡ 0
         → settledStrings (treeDeal bytes tree) r ≡ settledStrings (lentDeal bytes) r
     same-strings r e =
-        let m = check-means (termsOf (lentDeal bytes)) r e in
+        let m = check-means (termsOf (lentDeal bytes) number) r e in
         let x = m .0 in
         rw (m .1)
         (ap (λ (ws : List (List ℕ)). settledBy (firstDifference (stringsOf size x) ws)) (filled-strings x (m .2)))
 
     same-checked : (r : List ℕ)
-        → checkedAnswer (treeDeal bytes tree) r (termsOf (treeDeal bytes tree))
-        ≡ checkedAnswer (lentDeal bytes) r (termsOf (lentDeal bytes))
+        → checkedAnswer (treeDeal bytes tree) r (termsOf (treeDeal bytes tree) number)
+        ≡ checkedAnswer (lentDeal bytes) r (termsOf (lentDeal bytes) number)
     same-checked r =
-        ap (checkedAnswer (treeDeal bytes tree) r) (filled-terms bytes tree f lent)
-        ∙ unless-same (checkOf (termsOf (lentDeal bytes)) r) (settledStrings (treeDeal bytes tree) r)
+        ap (checkedAnswer (treeDeal bytes tree) r) (filled-terms bytes tree f lent number)
+        ∙ unless-same (checkOf (termsOf (lentDeal bytes) number) r) (settledStrings (treeDeal bytes tree) r)
         (settledStrings (lentDeal bytes) r) (same-strings r)
 
-  pub filled-settled : (r : List ℕ) → settleWithDeal (treeDeal bytes tree) r ≡ settleWithDeal (lentDeal bytes) r
+  pub filled-settled : (number : ℕ) (r : List ℕ)
+      → settleWithDeal (treeDeal bytes tree) number r ≡ settleWithDeal (lentDeal bytes) number r
   unfolding settleWithDeal
-  filled-settled r =
-      let own = checkedAnswer (treeDeal bytes tree) r (termsOf (treeDeal bytes tree)) in
-      let plain = checkedAnswer (lentDeal bytes) r (termsOf (lentDeal bytes)) in
+  filled-settled number r =
+      let own = checkedAnswer (treeDeal bytes tree) r (termsOf (treeDeal bytes tree) number) in
+      let plain = checkedAnswer (lentDeal bytes) r (termsOf (lentDeal bytes) number) in
       ap (λ (code : ℕ). unlessRefused code notSettled own) (filled-refusal bytes tree f)
       ∙ unless-same (dealRefusal (lentDeal bytes)) own plain
-      (λ e. same-checked (refusal-none (lentDeal bytes) e .0) r)
+      (λ e. same-checked number (refusal-none (lentDeal bytes) e .0) r)

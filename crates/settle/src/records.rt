@@ -48,17 +48,24 @@ fn settle_accepted(first: &[u8], x: ParsedRecord, second: &[u8], y: ParsedRecord
     ))
 }
 
-// Settles two records against a deal's commitment and its size: the first one's refusal, the second one's, 18 for
-// different entry places, then 0 where no string differs, else 17 and the two strings at the first difference.
-pub fn settle_records(commitment: &[u8], size: u64, first: &[u8], second: &[u8]) -> Settled
+// Settles two records against a deal's commitment, its size and its number: the first one's refusal, the second one's,
+// 18 for different entry places, then 0 where no string differs, else 17 and the two strings at the first difference.
+pub fn settle_records(
+    commitment: &[u8],
+    size: u64,
+    number: u64,
+    first: &[u8],
+    second: &[u8],
+) -> Settled
     ensures { λ r. ⌜ r
-        ≡ settleRecords (dealTerms (now (commitment .entry)) size) (now (first .entry)) (now (second .entry)) ⌝ }
+        ≡ settleRecords (dealTerms (now (commitment .entry)) size number) (now (first .entry))
+        (now (second .entry)) ⌝ }
 {
-    let refusal = record::check(commitment, size, first);
+    let refusal = record::check(commitment, size, number, first);
     if refusal != 0 {
         return not_settled(refusal);
     }
-    let refusal = record::check(commitment, size, second);
+    let refusal = record::check(commitment, size, number, second);
     if refusal != 0 {
         return not_settled(refusal);
     }

@@ -17,7 +17,7 @@ ghost use Rattle.sizes.specs.Sizes.{segmentLevel, segmentPosition};
 ghost use Rattle.record.specs.ParsedRecordLaws.{fieldsAt};
 ghost use Rattle.lent.specs.LentDeal.{lentWith, lentDeal, treeDeal, dealRefusal};
 ghost use Rattle.lent.specs.Usable.{Usable};
-ghost use Rattle.builder.specs.Build.{termsOf, segmentPathOf, entryPathOf};
+ghost use Rattle.builder.specs.Build.{dealCommitment, termsOf, segmentPathOf, entryPathOf};
 ghost use Rattle.builder.specs.BuildLaws.{InDeal};
 ghost use Rattle.settle.specs.Settle.{settleWithDeal};
 ghost use Rattle.settle.specs.AcceptedRecord.{AcceptedRecord};
@@ -79,7 +79,7 @@ fn write_own(
     requires { ⌜ node
         ≡ lentWith «has_tree» (now deal) (now tree) .nodes (segmentLevel size) (segmentPosition offset size) ⌝ }
     requires { ⌜ length (now out) ≡ 1120 ⌝ }
-    ensures { λ r. ⌜ (r ≡ termsOf (lentWith «has_tree» (now (deal .entry)) (now (tree .entry))) .commitment)
+    ensures { λ r. ⌜ (r ≡ dealCommitment (lentWith «has_tree» (now (deal .entry)) (now (tree .entry))))
         × (now (out .exit)
         ≡ ownPaths (lentWith «has_tree» (now (deal .entry)) (now (tree .entry))) offset size place
         (now (out .entry))) ⌝ }
@@ -115,7 +115,7 @@ fn compare_deal_entry(
     x: ParsedRecord,
 ) -> Compared
     requires { ⌜ (dealRefusal (lentWith «has_tree» (now deal) (now tree)) ≡ 0)
-        × AcceptedRecord (termsOf (lentWith «has_tree» (now deal) (now tree))) (now «record») x
+        × AcceptedRecord (termsOf (lentWith «has_tree» (now deal) (now tree)) (x .number)) (now «record») x
         × (now «own_path» ≡ entryPathOf (lentWith «has_tree» (now deal) (now tree)) (x .place)) ⌝ }
     ensures { λ r. ⌜ r
         ≡ entryWithDeal (lentWith «has_tree» (now (deal .entry)) (now (tree .entry)))
@@ -155,7 +155,7 @@ fn compare_deal_segment(
     x: ParsedRecord,
 ) -> Compared
     requires { ⌜ (dealRefusal (lentWith «has_tree» (now deal) (now tree)) ≡ 0)
-        × AcceptedRecord (termsOf (lentWith «has_tree» (now deal) (now tree))) (now «record») x
+        × AcceptedRecord (termsOf (lentWith «has_tree» (now deal) (now tree)) (x .number)) (now «record») x
         × («own_node»
         ≡ lentWith «has_tree» (now deal) (now tree) .nodes (segmentLevel (x .size))
         (segmentPosition (x .offset) (x .size)))
@@ -186,9 +186,10 @@ fn compare_deal_segment(
 
 // Settling over a lent deal with a tree beside it or without one. The deal's own two paths are written in one pass;
 // they lead to the commitment, and for an accepted record they are the ones to compare.
-fn settle_in(deal: &[u8], tree: &[u8], has_tree: bool, record: &[u8]) -> Settled
+fn settle_in(deal: &[u8], tree: &[u8], has_tree: bool, number: u64, record: &[u8]) -> Settled
     ensures { λ r. ⌜ r
-        ≡ settleWithDeal (lentWith «has_tree» (now (deal .entry)) (now (tree .entry))) (now («record» .entry)) ⌝ }
+        ≡ settleWithDeal (lentWith «has_tree» (now (deal .entry)) (now (tree .entry))) number
+        (now («record» .entry)) ⌝ }
 {
     let refusal = lent::refusal_with(deal, tree, has_tree);
     if refusal != 0 {
@@ -202,7 +203,7 @@ fn settle_in(deal: &[u8], tree: &[u8], has_tree: bool, record: &[u8]) -> Settled
     let node = index::segment_node(deal, tree, has_tree, offset, size);
     let mut own = [0u8; LONGEST_PATHS];
     let commitment = write_own(deal, tree, has_tree, offset, size, node, place, &mut own);
-    let refusal = record::check(&commitment, d, record);
+    let refusal = record::check(&commitment, d, number, record);
     if refusal != 0 {
         return not_settled(refusal);
     }
@@ -217,19 +218,19 @@ fn settle_in(deal: &[u8], tree: &[u8], has_tree: bool, record: &[u8]) -> Settled
 }
 
 // Settles a record with a deal: 2 for a deal size that is not allowed, 11 for a deal with stray bits, the refusal of
-// the check against the deal's own commitment and length, then 0 where no string differs, else 17 and the two strings
-// at the first difference.
-pub fn settle_with_deal(deal: &[u8], record: &[u8]) -> Settled
-    ensures { λ r. ⌜ r ≡ settleWithDeal (lentDeal (now (deal .entry))) (now («record» .entry)) ⌝ }
+// the check against the deal's own commitment and length and its number, then 0 where no string differs, else 17 and
+// the two strings at the first difference.
+pub fn settle_with_deal(deal: &[u8], number: u64, record: &[u8]) -> Settled
+    ensures { λ r. ⌜ r ≡ settleWithDeal (lentDeal (now (deal .entry))) number (now («record» .entry)) ⌝ }
 {
-    settle_in(deal, deal, false, record)
+    settle_in(deal, deal, false, number, record)
 }
 
 // The same with the tree beside the deal: every inner node is taken as it stands there, the deal's commitment, which is
 // its last node, included. 12 for a tree of another length than the deal asks comes after 11.
-pub fn settle_with_tree(deal: &[u8], tree: &[u8], record: &[u8]) -> Settled
+pub fn settle_with_tree(deal: &[u8], tree: &[u8], number: u64, record: &[u8]) -> Settled
     ensures { λ r. ⌜ r
-        ≡ settleWithDeal (treeDeal (now (deal .entry)) (now (tree .entry))) (now («record» .entry)) ⌝ }
+        ≡ settleWithDeal (treeDeal (now (deal .entry)) (now (tree .entry))) number (now («record» .entry)) ⌝ }
 {
-    settle_in(deal, tree, true, record)
+    settle_in(deal, tree, true, number, record)
 }

@@ -172,13 +172,13 @@ fn written(code: u8, length: usize, out: &[u8]) {
     show::digest(out);
 }
 
-fn build(deal: &[u8], place: u64, out: &mut [u8]) {
-    let answer = builder::build(deal, place, out);
+fn build(deal: &[u8], number: u64, place: u64, out: &mut [u8]) {
+    let answer = builder::build(deal, number, place, out);
     written(answer.code, answer.length, out);
 }
 
-fn build_with_tree(deal: &[u8], tree: &[u8], place: u64, out: &mut [u8]) {
-    let answer = builder::build_with_tree(deal, tree, place, out);
+fn build_with_tree(deal: &[u8], tree: &[u8], number: u64, place: u64, out: &mut [u8]) {
+    let answer = builder::build_with_tree(deal, tree, number, place, out);
     written(answer.code, answer.length, out);
 }
 
@@ -262,15 +262,15 @@ fn answer_reading(operation: u64, a: &[u8], b: &[u8], c: &[u8], x: u64, y: u64) 
         4 => make_entry(a, x, y),
         5 => read_entry(a),
         6 => find(a, b),
-        9 => show::code(record::check(b, x, a)),
-        10 => settled(settle::settle_records(c, x, a, b)),
-        11 => settled(settle::settle_with_deal(a, b)),
+        9 => show::code(record::check(b, x, y, a)),
+        10 => settled(settle::settle_records(c, x, y, a, b)),
+        11 => settled(settle::settle_with_deal(a, y, b)),
         12 => fields(a),
         13 => show::code(check_input::check_input(a)),
         15 => compare(x, a, b),
         16 => stream(a, b),
         19 => tally(a),
-        23 => settled(settle::settle_with_tree(a, c, b)),
+        23 => settled(settle::settle_with_tree(a, c, y, b)),
         _ => {}
     }
 }
@@ -286,7 +286,7 @@ fn answer_with_tree(operation: u64, a: &mut [u8], b: &mut [u8], c: &mut [u8], x:
         return;
     }
     if operation == 22 {
-        build_with_tree(a, c, x, b);
+        build_with_tree(a, c, y, x, b);
         return;
     }
     if operation == 25 {
@@ -307,7 +307,7 @@ fn answer_any(operation: u64, a: &mut [u8], b: &mut [u8], c: &mut [u8], x: u64, 
         return;
     }
     if operation == 8 {
-        build(a, x, b);
+        build(a, y, x, b);
         return;
     }
     if operation == 17 {

@@ -8,16 +8,23 @@ ghost use Rattle.lent.specs.LentDeal.{lentDeal, treeDeal};
 ghost use Rattle.builder.specs.Build.{buildAnswer, buildOutput};
 ghost use Rattle.vizhuthamen.specs.Export.{lentOutput, fieldTag, fieldStart, fieldLength, fieldNext};
 
-// Builds the record of the kept entry at a place of a deal.
+// Builds the record of the kept entry at a place of a deal with a number.
 #[no_mangle]
-pub extern "C" fn vz_build(deal: &[u8], place: u64, record: &mut [u8], length: &mut u64) -> u32
-    ensures { λ r. ⌜ r ≡ buildAnswer (lentDeal (now (deal .entry))) place (now («record» .entry)) .code ⌝ }
-    ensures { λ r. ⌜ now («record» .exit) ≡ buildOutput (lentDeal (now (deal .entry))) place (now («record» .entry)) ⌝ }
+pub extern "C" fn vz_build(
+    deal: &[u8],
+    number: u64,
+    place: u64,
+    record: &mut [u8],
+    length: &mut u64,
+) -> u32
+    ensures { λ r. ⌜ r ≡ buildAnswer (lentDeal (now (deal .entry))) number place (now («record» .entry)) .code ⌝ }
+    ensures { λ r. ⌜ now («record» .exit)
+        ≡ buildOutput (lentDeal (now (deal .entry))) number place (now («record» .entry)) ⌝ }
     ensures { λ r. ⌜ now (length .exit)
-        ≡ lentOutput r (buildAnswer (lentDeal (now (deal .entry))) place (now («record» .entry)) .length)
+        ≡ lentOutput r (buildAnswer (lentDeal (now (deal .entry))) number place (now («record» .entry)) .length)
         (now (length .entry)) ⌝ }
 {
-    let answer = builder::build(deal, place, record);
+    let answer = builder::build(deal, number, place, record);
     write_length(answer.code, answer.length, length)
 }
 
@@ -26,28 +33,29 @@ pub extern "C" fn vz_build(deal: &[u8], place: u64, record: &mut [u8], length: &
 pub extern "C" fn vz_build_with_tree(
     deal: &[u8],
     tree: &[u8],
+    number: u64,
     place: u64,
     record: &mut [u8],
     length: &mut u64,
 ) -> u32
     ensures { λ r. ⌜ r
-        ≡ buildAnswer (treeDeal (now (deal .entry)) (now (tree .entry))) place (now («record» .entry)) .code ⌝ }
+        ≡ buildAnswer (treeDeal (now (deal .entry)) (now (tree .entry))) number place (now («record» .entry)) .code ⌝ }
     ensures { λ r. ⌜ now («record» .exit)
-        ≡ buildOutput (treeDeal (now (deal .entry)) (now (tree .entry))) place (now («record» .entry)) ⌝ }
+        ≡ buildOutput (treeDeal (now (deal .entry)) (now (tree .entry))) number place (now («record» .entry)) ⌝ }
     ensures { λ r. ⌜ now (length .exit) ≡ lentOutput r
-        (buildAnswer (treeDeal (now (deal .entry)) (now (tree .entry))) place (now («record» .entry)) .length)
+        (buildAnswer (treeDeal (now (deal .entry)) (now (tree .entry))) number place (now («record» .entry)) .length)
         (now (length .entry)) ⌝ }
 {
-    let answer = builder::build_with_tree(deal, tree, place, record);
+    let answer = builder::build_with_tree(deal, tree, number, place, record);
     write_length(answer.code, answer.length, length)
 }
 
-// The code of the check of a record against a deal's commitment and size.
+// The code of the check of a record against a deal's commitment, size and number.
 #[no_mangle]
-pub extern "C" fn vz_check(commitment: &[u8], size: u64, record: &[u8]) -> u32
-    ensures { λ r. ⌜ r ≡ checkOf (dealTerms (now (commitment .entry)) size) (now («record» .entry)) ⌝ }
+pub extern "C" fn vz_check(commitment: &[u8], size: u64, number: u64, record: &[u8]) -> u32
+    ensures { λ r. ⌜ r ≡ checkOf (dealTerms (now (commitment .entry)) size number) (now («record» .entry)) ⌝ }
 {
-    record::check(commitment, size, record) as u32
+    record::check(commitment, size, number, record) as u32
 }
 
 // The field at a place of a record.

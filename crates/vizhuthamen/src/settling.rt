@@ -29,45 +29,48 @@ fn write_settled(answer: Settled, left: &mut [u8], right: &mut [u8]) -> u32
     answer.code as u32
 }
 
-// Settles two records for one deal commitment and size.
+// Settles two records for one deal commitment, size and number.
 #[no_mangle]
 pub extern "C" fn vz_settle_records(
     commitment: &[u8],
     size: u64,
+    number: u64,
     first: &[u8],
     second: &[u8],
     left: &mut [u8],
     right: &mut [u8],
 ) -> u32
     ensures { λ r. ⌜ r ≡ lentPairCode (now (left .entry)) (now (right .entry))
-        (settleRecords (dealTerms (now (commitment .entry)) size) (now (first .entry)) (now (second .entry)) .code) ⌝ }
+        (settleRecords (dealTerms (now (commitment .entry)) size number) (now (first .entry))
+        (now (second .entry)) .code) ⌝ }
     ensures { λ r. ⌜ now (left .exit) ≡ lentOutputOr 17 r
-        (settleRecords (dealTerms (now (commitment .entry)) size) (now (first .entry)) (now (second .entry)) .left)
-        (now (left .entry)) ⌝ }
+        (settleRecords (dealTerms (now (commitment .entry)) size number) (now (first .entry))
+        (now (second .entry)) .left) (now (left .entry)) ⌝ }
     ensures { λ r. ⌜ now (right .exit) ≡ lentOutputOr 17 r
-        (settleRecords (dealTerms (now (commitment .entry)) size) (now (first .entry)) (now (second .entry)) .right)
-        (now (right .entry)) ⌝ }
+        (settleRecords (dealTerms (now (commitment .entry)) size number) (now (first .entry))
+        (now (second .entry)) .right) (now (right .entry)) ⌝ }
 {
-    let answer = settle::settle_records(commitment, size, first, second);
+    let answer = settle::settle_records(commitment, size, number, first, second);
     write_settled(answer, left, right)
 }
 
-// Settles a record with a deal.
+// Settles a record with a deal and its number.
 #[no_mangle]
 pub extern "C" fn vz_settle_with_deal(
     deal: &[u8],
+    number: u64,
     record: &[u8],
     left: &mut [u8],
     right: &mut [u8],
 ) -> u32
     ensures { λ r. ⌜ r ≡ lentPairCode (now (left .entry)) (now (right .entry))
-        (settleWithDeal (lentDeal (now (deal .entry))) (now («record» .entry)) .code) ⌝ }
+        (settleWithDeal (lentDeal (now (deal .entry))) number (now («record» .entry)) .code) ⌝ }
     ensures { λ r. ⌜ now (left .exit) ≡ lentOutputOr 17 r
-        (settleWithDeal (lentDeal (now (deal .entry))) (now («record» .entry)) .left) (now (left .entry)) ⌝ }
+        (settleWithDeal (lentDeal (now (deal .entry))) number (now («record» .entry)) .left) (now (left .entry)) ⌝ }
     ensures { λ r. ⌜ now (right .exit) ≡ lentOutputOr 17 r
-        (settleWithDeal (lentDeal (now (deal .entry))) (now («record» .entry)) .right) (now (right .entry)) ⌝ }
+        (settleWithDeal (lentDeal (now (deal .entry))) number (now («record» .entry)) .right) (now (right .entry)) ⌝ }
 {
-    let answer = settle::settle_with_deal(deal, record);
+    let answer = settle::settle_with_deal(deal, number, record);
     write_settled(answer, left, right)
 }
 
@@ -76,19 +79,20 @@ pub extern "C" fn vz_settle_with_deal(
 pub extern "C" fn vz_settle_with_tree(
     deal: &[u8],
     tree: &[u8],
+    number: u64,
     record: &[u8],
     left: &mut [u8],
     right: &mut [u8],
 ) -> u32
     ensures { λ r. ⌜ r ≡ lentPairCode (now (left .entry)) (now (right .entry))
-        (settleWithDeal (treeDeal (now (deal .entry)) (now (tree .entry))) (now («record» .entry)) .code) ⌝ }
+        (settleWithDeal (treeDeal (now (deal .entry)) (now (tree .entry))) number (now («record» .entry)) .code) ⌝ }
     ensures { λ r. ⌜ now (left .exit) ≡ lentOutputOr 17 r
-        (settleWithDeal (treeDeal (now (deal .entry)) (now (tree .entry))) (now («record» .entry)) .left)
+        (settleWithDeal (treeDeal (now (deal .entry)) (now (tree .entry))) number (now («record» .entry)) .left)
         (now (left .entry)) ⌝ }
     ensures { λ r. ⌜ now (right .exit) ≡ lentOutputOr 17 r
-        (settleWithDeal (treeDeal (now (deal .entry)) (now (tree .entry))) (now («record» .entry)) .right)
+        (settleWithDeal (treeDeal (now (deal .entry)) (now (tree .entry))) number (now («record» .entry)) .right)
         (now (right .entry)) ⌝ }
 {
-    let answer = settle::settle_with_tree(deal, tree, record);
+    let answer = settle::settle_with_tree(deal, tree, number, record);
     write_settled(answer, left, right)
 }

@@ -57,10 +57,10 @@ pub fn answer(case: &mut Case) -> Answer {
         Operation::Read => read_entry(a),
         Operation::Find => find(a, b),
         Operation::Book => book(a, None, b),
-        Operation::Build => build(a, None, x, b),
-        Operation::Check => check(b, x, a),
-        Operation::Settle => settle_records(c, x, a, b),
-        Operation::SettleDeal => settle_with_deal(a, None, b),
+        Operation::Build => build(a, None, y, x, b),
+        Operation::Check => check(b, x, y, a),
+        Operation::Settle => settle_records(c, x, y, a, b),
+        Operation::SettleDeal => settle_with_deal(a, None, y, b),
         Operation::Fields => fields(a),
         Operation::Inspect => inspect(a, x),
         Operation::Stream => stream(a, b),
@@ -69,8 +69,8 @@ pub fn answer(case: &mut Case) -> Answer {
         Operation::Tally => tally(a),
         Operation::TreeFill => tree_fill(a, c),
         Operation::BookWithTree => Ok(book(a, Some(c), b)?.bytes(&digest(c)?)),
-        Operation::BuildWithTree => build(a, Some(c), x, b),
-        Operation::SettleWithTree => settle_with_deal(a, Some(c), b),
+        Operation::BuildWithTree => build(a, Some(c), y, x, b),
+        Operation::SettleWithTree => settle_with_deal(a, Some(c), y, b),
         Operation::Cancel => cancel(a, None, x),
         Operation::CancelWithTree => Ok(cancel(a, Some(c), x)?.bytes(&digest(c)?)),
         Operation::Collect => collect(a, b, None),
@@ -190,12 +190,12 @@ fn collect(deal: &[u8], second: &mut [u8], tree: Option<&mut [u8]>) -> Answer {
     Ok(Line::code(code).bytes(&digest(second)?))
 }
 
-fn build(deal: &[u8], tree: Option<&[u8]>, place: u64, output: &mut [u8]) -> Answer {
+fn build(deal: &[u8], tree: Option<&[u8]>, number: u64, place: u64, output: &mut [u8]) -> Answer {
     let mut length = NUMBER;
     let (d, n, o, m) = (deal.as_ptr(), deal.len(), output.as_mut_ptr(), output.len());
     let code = match tree {
-        None => unsafe { ffi::vz_build(d, n, place, o, m, &mut length) },
-        Some(t) => unsafe { ffi::vz_build_with_tree(d, n, t.as_ptr(), t.len(), place, o, m, &mut length) },
+        None => unsafe { ffi::vz_build(d, n, number, place, o, m, &mut length) },
+        Some(t) => unsafe { ffi::vz_build_with_tree(d, n, t.as_ptr(), t.len(), number, place, o, m, &mut length) },
     };
     let line = Written::new(code, &[0]).number(length).done()?;
     Ok(line.bytes(&digest(output)?))
@@ -218,28 +218,28 @@ fn unpad(raw_length: u64, segment: &[u8], output: &mut [u8]) -> Answer {
     Ok(line.bytes(&digest(output)?))
 }
 
-fn check(c: &[u8], size: u64, record: &[u8]) -> Answer {
-    let code = unsafe { ffi::vz_check(c.as_ptr(), c.len(), size, record.as_ptr(), record.len()) };
+fn check(c: &[u8], size: u64, number: u64, record: &[u8]) -> Answer {
+    let code = unsafe { ffi::vz_check(c.as_ptr(), c.len(), size, number, record.as_ptr(), record.len()) };
     Ok(Line::code(code))
 }
 
-fn settle_records(c: &[u8], size: u64, first: &[u8], second: &[u8]) -> Answer {
+fn settle_records(c: &[u8], size: u64, number: u64, first: &[u8], second: &[u8]) -> Answer {
     let (mut left, mut right) = ([PATTERN; 64], [PATTERN; 64]);
     let code = unsafe {
         let (l, r) = (left.as_mut_ptr(), right.as_mut_ptr());
         let (p, q) = (first.as_ptr(), second.as_ptr());
-        ffi::vz_settle_records(c.as_ptr(), c.len(), size, p, first.len(), q, second.len(), l, 64, r, 64)
+        ffi::vz_settle_records(c.as_ptr(), c.len(), size, number, p, first.len(), q, second.len(), l, 64, r, 64)
     };
     Written::new(code, &[0, 17]).bytes(left).bytes(right).done()
 }
 
-fn settle_with_deal(deal: &[u8], tree: Option<&[u8]>, record: &[u8]) -> Answer {
+fn settle_with_deal(deal: &[u8], tree: Option<&[u8]>, number: u64, record: &[u8]) -> Answer {
     let (mut left, mut right) = ([PATTERN; 64], [PATTERN; 64]);
     let (d, n, p, m) = (deal.as_ptr(), deal.len(), record.as_ptr(), record.len());
     let (l, r) = (left.as_mut_ptr(), right.as_mut_ptr());
     let code = match tree {
-        None => unsafe { ffi::vz_settle_with_deal(d, n, p, m, l, 64, r, 64) },
-        Some(t) => unsafe { ffi::vz_settle_with_tree(d, n, t.as_ptr(), t.len(), p, m, l, 64, r, 64) },
+        None => unsafe { ffi::vz_settle_with_deal(d, n, number, p, m, l, 64, r, 64) },
+        Some(t) => unsafe { ffi::vz_settle_with_tree(d, n, t.as_ptr(), t.len(), number, p, m, l, 64, r, 64) },
     };
     Written::new(code, &[0, 17]).bytes(left).bytes(right).done()
 }

@@ -18,10 +18,10 @@ pub fn answer(case: Case) -> Answer {
         Operation::Read => Ok(read_entry(&a)),
         Operation::Find => find(&a, &b),
         Operation::Book => book(&mut a, None, &b),
-        Operation::Build => build(&a, None, x, b),
-        Operation::Check => Ok(code(vz::check(&b, x, &a))),
-        Operation::Settle => Ok(settled(vz::settle_records(&c, x, &a, &b))),
-        Operation::SettleDeal => Ok(settled(vz::settle_with_deal(&a, None, &b))),
+        Operation::Build => build(&a, None, y, x, b),
+        Operation::Check => Ok(code(vz::check(&b, x, y, &a))),
+        Operation::Settle => Ok(settled(vz::settle_records(&c, x, y, &a, &b))),
+        Operation::SettleDeal => Ok(settled(vz::settle_with_deal(&a, None, y, &b))),
         Operation::Fields => fields(&a),
         Operation::Inspect => Ok(inspect(&a, x)),
         Operation::Stream => Ok(stream(&a, &b)),
@@ -30,8 +30,8 @@ pub fn answer(case: Case) -> Answer {
         Operation::Tally => Ok(tally(&a)),
         Operation::TreeFill => tree_fill(&a, &mut c),
         Operation::BookWithTree => Ok(book(&mut a, Some(&mut c), &b)?.bytes(&digest(&c)?)),
-        Operation::BuildWithTree => build(&a, Some(&c), x, b),
-        Operation::SettleWithTree => Ok(settled(vz::settle_with_deal(&a, Some(&c), &b))),
+        Operation::BuildWithTree => build(&a, Some(&c), y, x, b),
+        Operation::SettleWithTree => Ok(settled(vz::settle_with_deal(&a, Some(&c), y, &b))),
         Operation::Cancel => cancel(&mut a, None, x),
         Operation::CancelWithTree => Ok(cancel(&mut a, Some(&mut c), x)?.bytes(&digest(&c)?)),
         Operation::Collect => collect(&a, &mut b, None),
@@ -137,8 +137,8 @@ fn written(result: Result<usize, Refusal>, output: &[u8]) -> Answer {
     Ok(code(result.map(drop)).add(result.unwrap_or(0)).bytes(&digest(output)?))
 }
 
-fn build(deal: &[u8], tree: Option<&[u8]>, place: u64, mut output: Vec<u8>) -> Answer {
-    written(vz::build_into(deal, tree, place, &mut output), &output)
+fn build(deal: &[u8], tree: Option<&[u8]>, number: u64, place: u64, mut output: Vec<u8>) -> Answer {
+    written(vz::build_into(deal, tree, number, place, &mut output), &output)
 }
 
 fn pad(raw: &[u8], mut output: Vec<u8>) -> Answer {

@@ -102,6 +102,15 @@ impl Answer {
     }
 }
 
+/// Asserts that an answer is this refusal, with these lines after it in text and these members in JSON.
+#[cfg(test)]
+pub fn assert_refused(answer: &Answer, refusal: Refusal, lines: &str, members: &str) {
+    let (code, meaning) = (refusal.code(), refusal.meaning());
+    assert_eq!(answer.to_text(), format!("code {code}: {meaning}\n{lines}"));
+    assert_eq!(answer.to_json(), format!("{{\"code\":{code},\"meaning\":\"{meaning}\"{members}}}\n"));
+    assert_eq!(u32::from(answer.status()), code);
+}
+
 #[cfg(test)]
 mod tests {
     use super::*;
@@ -124,7 +133,6 @@ mod tests {
     fn a_refusal_shows_its_code_and_then_its_values() {
         let answer = Answer::refused(Refusal::ALREADY_KEPT).with_value("offset", Json::Number(0));
         assert_eq!(answer.to_text(), "code 15: the segment is kept already\noffset 0\n");
-        assert_eq!(answer.to_json(), "{\"code\":15,\"meaning\":\"the segment is kept already\",\"offset\":0}\n");
-        assert_eq!(answer.status(), 15);
+        assert_refused(&answer, Refusal::ALREADY_KEPT, "offset 0\n", ",\"offset\":0");
     }
 }

@@ -24,24 +24,32 @@ pub enum InHand {
     Commitment(Vec<u8>),
 }
 
+/// A number that a deal gets, and the one that it has until then where it has one.
+#[derive(Clone, Copy, Debug, PartialEq, Eq)]
+pub struct SetNumber {
+    pub number: u64,
+    pub instead_of: Option<u64>,
+}
+
 /// A command with what it is given.
 #[derive(Debug, PartialEq, Eq)]
 pub enum Command {
-    New { deal: Stream, size: u64 },
+    New { deal: Stream, size: u64, number: Option<u64> },
+    Number { deal: Stream, set: Option<SetNumber>, wait: bool },
     Commit { file: Stream },
     CommitStream { file: Stream, raw: bool, state: Option<Place>, progress: bool },
     Pad { raw: Stream, output: Option<Stream> },
     Unpad { raw_length: u64, segment: Stream, output: Option<Stream> },
     Book { deal: Stream, segment: Stream, force: bool, access: Access },
     Cancel { deal: Stream, place: u64, commitment: Option<Vec<u8>>, access: Access },
-    Collect { deal: Stream, new: Stream, force: bool, wait: bool },
+    Collect { deal: Stream, new: Stream, number: Option<u64>, force: bool, wait: bool },
     List { deal: Stream },
     Tally { deal: Stream },
     Find { deal: Stream, commitment: Vec<u8>, output: Option<Stream> },
-    Build { deal: Stream, place: u64, output: Option<Stream> },
-    Check { commitment: Vec<u8>, size: u64, record: Stream },
-    Settle { commitment: Vec<u8>, size: u64, first: Stream, second: Stream },
-    SettleDeal { deal: Stream, record: Stream },
+    Build { deal: Stream, number: Option<u64>, place: u64, output: Option<Stream> },
+    Check { commitment: Vec<u8>, size: u64, number: u64, record: Stream },
+    Settle { commitment: Vec<u8>, size: u64, number: u64, first: Stream, second: Stream },
+    SettleDeal { deal: Stream, number: Option<u64>, record: Stream },
     Show { record: Stream },
     Fsck { deal: Stream, wait: bool },
     Repair { deal: Stream, in_hand: Option<InHand>, place: Option<u64>, access: Access },
@@ -96,6 +104,25 @@ impl Options {
 
     fn access(&self) -> Access {
         Access { wait: self.wait(), new_owner: self.has("new-owner") }
+    }
+
+    fn number(&self) -> Result<Option<u64>, Failure> {
+        self.value("number").map(number).transpose()
+    }
+
+    /// The number of a deal that is not in hand.
+    fn needed_number(&self) -> Result<u64, Failure> {
+        self.number()?.ok_or_else(|| usage("the deal's number is missing: give --number N"))
+    }
+
+    /// The number that a deal gets, if one is given.
+    fn set_number(&self, given: Option<&OsString>) -> Result<Option<SetNumber>, Failure> {
+        let instead_of = self.value("instead-of").map(number).transpose()?;
+        match given {
+            Some(word) => Ok(Some(SetNumber { number: number(word)?, instead_of })),
+            None if instead_of.is_some() => Err(usage("--instead-of needs the new number, before it")),
+            None => Ok(None),
+        }
     }
 
     fn commitment(&self) -> Result<Option<Vec<u8>>, Failure> {
@@ -206,7 +233,7 @@ fn command(topic: &Topic, operands: &[OsString], options: &Options) -> Result<Co
     }
     // The archive that --raw names is the operand.
     let named = usize::from(topic.name == "stream" && options.has("raw"));
-    if operands.len() + named != topic.operands.len() {
+    if !help::counts(topic).contains(&(operands.len() + named)) {
         return Err(usage(format!("wrong number of words; the call is: vizhuthamen {}", help::call(topic))));
     }
     let command = operands_of(topic.name, operands, options)?;
@@ -220,7 +247,10 @@ fn command(topic: &Topic, operands: &[OsString], options: &Options) -> Result<Co
 fn operands_of(name: &str, words: &[OsString], options: &Options) -> Result<Command, Failure> {
     let output = options.output()?;
     Ok(match (name, words) {
-        ("new", [deal, size]) => Command::New { deal: stream(deal)?, size: number(size)? },
+        ("new", [deal, size]) => Command::New { deal: stream(deal)?, size: number(size)?, number: options.number()? },
+        ("number", [deal, set @ ..]) => {
+            Command::Number { deal: stream(deal)?, set: options.set_number(set.first())?, wait: options.wait() }
+        }
         ("commit", [file]) => Command::Commit { file: stream(file)? },
         ("stream", words) => Command::CommitStream {
             file: stream(options.value("raw").or(words.first().map(OsString::as_os_str)).unwrap_or_default())?,
@@ -243,23 +273,31 @@ fn operands_of(name: &str, words: &[OsString], options: &Options) -> Result<Comm
             access: options.access(),
         },
         ("collect", [deal, new]) => {
-            let (deal, new) = (stream(deal)?, stream(new)?);
-            Command::Collect { deal, new, force: options.has("force"), wait: options.wait() }
+            let (deal, new, number) = (stream(deal)?, stream(new)?, options.number()?);
+            Command::Collect { deal, new, number, force: options.has("force"), wait: options.wait() }
         }
         ("list", [deal]) => Command::List { deal: stream(deal)? },
         ("tally", [deal]) => Command::Tally { deal: stream(deal)? },
         ("find", [deal, node]) => Command::Find { deal: stream(deal)?, commitment: bytes(node)?, output },
-        ("build", [deal, place]) => Command::Build { deal: stream(deal)?, place: number(place)?, output },
-        ("check", [node, size, record]) => {
-            Command::Check { commitment: bytes(node)?, size: number(size)?, record: stream(record)? }
+        ("build", [deal, place]) => {
+            Command::Build { deal: stream(deal)?, number: options.number()?, place: number(place)?, output }
         }
+        ("check", [node, size, record]) => Command::Check {
+            commitment: bytes(node)?,
+            size: number(size)?,
+            number: options.needed_number()?,
+            record: stream(record)?,
+        },
         ("settle", [node, size, first, second]) => Command::Settle {
             commitment: bytes(node)?,
             size: number(size)?,
+            number: options.needed_number()?,
             first: stream(first)?,
             second: stream(second)?,
         },
-        ("settle-deal", [deal, record]) => Command::SettleDeal { deal: stream(deal)?, record: stream(record)? },
+        ("settle-deal", [deal, record]) => {
+            Command::SettleDeal { deal: stream(deal)?, number: options.number()?, record: stream(record)? }
+        }
         ("show", [record]) => Command::Show { record: stream(record)? },
         ("fsck", [deal]) => Command::Fsck { deal: stream(deal)?, wait: options.wait() },
         ("repair", [deal]) => Command::Repair {
@@ -278,7 +316,7 @@ fn operands_of(name: &str, words: &[OsString], options: &Options) -> Result<Comm
 /// How many operands of a command are read from standard input.
 fn standard_inputs(command: &Command) -> usize {
     let read: &[&Stream] = match command {
-        Command::New { .. } => &[],
+        Command::New { .. } | Command::Number { .. } => &[],
         Command::Commit { file } | Command::CommitStream { file, .. } => &[file],
         Command::Pad { raw, .. } => &[raw],
         Command::Unpad { segment, .. } => &[segment],
@@ -288,7 +326,7 @@ fn standard_inputs(command: &Command) -> usize {
         Command::Find { deal, .. } | Command::Build { deal, .. } => &[deal],
         Command::Check { record, .. } | Command::Show { record } => &[record],
         Command::Settle { first, second, .. } => &[first, second],
-        Command::SettleDeal { deal, record } => &[deal, record],
+        Command::SettleDeal { deal, record, .. } => &[deal, record],
         Command::Fsck { deal, .. } | Command::Salvage { deal, .. } => &[deal],
         Command::Repair { deal, in_hand: Some(InHand::Segment(file) | InHand::Raw(file)), .. } => &[deal, file],
         Command::Repair { deal, .. } => &[deal],
@@ -315,11 +353,13 @@ fn stream(word: &OsStr) -> Result<Stream, Failure> {
 }
 
 /// A decimal number, of digits alone.
+pub fn decimal(text: &str) -> Option<u64> {
+    text.bytes().all(|byte| byte.is_ascii_digit()).then(|| text.parse().ok())?
+}
+
 fn number(word: &OsStr) -> Result<u64, Failure> {
-    let digits = word.to_str().filter(|text| !text.is_empty() && text.bytes().all(|b| b.is_ascii_digit()));
-    digits
-        .and_then(|text| text.parse().ok())
-        .ok_or_else(|| usage(format!("not a decimal number below 2^64: {}", shown(word))))
+    let number = word.to_str().and_then(decimal);
+    number.ok_or_else(|| usage(format!("not a decimal number below 2^64: {}", shown(word))))
 }
 
 /// The bytes of a commitment in hex, however many there are: the library judges their number.
@@ -350,8 +390,10 @@ mod tests {
         assert_eq!(parsed("cancel d 256"), Ok(Request::Run { command: cancel(None), json: false }));
         let meant = Request::Run { command: cancel(Some(vec![0xab])), json: true };
         assert_eq!(parsed("cancel --commitment AB d 256 --json"), Ok(meant));
-        let collect = Command::Collect { deal: file("d"), new: file("n"), force: true, wait: false };
-        assert_eq!(parsed("collect d n --force --no-wait"), Ok(Request::Run { command: collect, json: false }));
+        let collect = |number| Command::Collect { deal: file("d"), new: file("n"), number, force: true, wait: false };
+        assert_eq!(parsed("collect d n --force --no-wait"), Ok(Request::Run { command: collect(None), json: false }));
+        let numbered = Request::Run { command: collect(Some(7)), json: false };
+        assert_eq!(parsed("collect d n --number 7 --force --no-wait"), Ok(numbered));
         let in_hand = Some(InHand::Raw(file("r")));
         let repair = Command::Repair { deal: file("d"), in_hand, place: Some(256), access };
         assert_eq!(parsed("repair d --raw=r --place 256"), Ok(Request::Run { command: repair, json: false }));
@@ -371,14 +413,39 @@ mod tests {
         assert_eq!(parsed("pad r -o -"), Ok(Request::Run { command: pad, json: false }));
         let unpad = Command::Unpad { raw_length: 127, segment: file("s"), output: None };
         assert_eq!(parsed("unpad 127 s --json"), Ok(Request::Run { command: unpad, json: true }));
-        let check = Command::Check { commitment: vec![0xab, 1], size: 512, record: file("-r") };
-        assert_eq!(parsed("--json check AB01 512 -- -r"), Ok(Request::Run { command: check, json: true }));
+        let check = Command::Check { commitment: vec![0xab, 1], size: 512, number: u64::MAX, record: file("-r") };
+        let line = "--json check AB01 512 --number 18446744073709551615 -- -r";
+        assert_eq!(parsed(line), Ok(Request::Run { command: check, json: true }));
+    }
+
+    #[test]
+    fn numbers() {
+        let run = |command| Ok(Request::Run { command, json: false });
+        let shown = Command::Number { deal: file("d"), set: None, wait: true };
+        assert_eq!(parsed("number d"), run(shown));
+        for (line, instead_of, wait) in
+            [("number d 0", None, true), ("number --instead-of=9 d 0 --no-wait", Some(9), false)]
+        {
+            let set = Some(SetNumber { number: 0, instead_of });
+            assert_eq!(parsed(line), run(Command::Number { deal: file("d"), set, wait }));
+        }
+        for (option, number) in [("", None), (" --number 0", Some(0)), (" --number=007", Some(7))] {
+            let new = Command::New { deal: file("d"), size: 512, number };
+            assert_eq!(parsed(&format!("new d 512{option}")), run(new));
+            let build = Command::Build { deal: file("d"), number, place: 256, output: None };
+            assert_eq!(parsed(&format!("build{option} d 256")), run(build));
+            let settle = Command::SettleDeal { deal: file("d"), number, record: file("r") };
+            assert_eq!(parsed(&format!("settle-deal d r{option}")), run(settle));
+        }
+        let settle =
+            Command::Settle { commitment: vec![0xab], size: 512, number: 7, first: file("r"), second: file("s") };
+        assert_eq!(parsed("settle ab 512 r s --number 7"), run(settle));
     }
 
     #[test]
     fn output_in_three_spellings() {
         for option in ["--output f", "--output=f", "-o f"] {
-            let build = Command::Build { deal: file("d"), place: 256, output: Some(file("f")) };
+            let build = Command::Build { deal: file("d"), number: None, place: 256, output: Some(file("f")) };
             assert_eq!(parsed(&format!("build d {option} 256")), Ok(Request::Run { command: build, json: false }));
         }
     }
@@ -438,8 +505,25 @@ mod tests {
             "unpad s 127",
             "unpad 127 s r",
             "unpad 127 s -o - --json",
-            "settle ab 512 - -",
+            "check ab 512 r",
+            "check ab 512 r --number",
+            "check ab 512 r --number x",
+            "check ab 512 r --number -1",
+            "check ab 512 r --number 0x7",
+            "check ab 512 r --number 18446744073709551616",
+            "check ab 512 r --number 7 --number 7",
+            "settle ab 512 r s",
+            "settle ab 512 - - --number 7",
             "settle-deal - -",
+            "settle-deal - - --number 7",
+            "new d 512 --number=",
+            "number",
+            "number d 7 8",
+            "number d x",
+            "number d --number 7",
+            "number d --instead-of 7",
+            "number d 8 --instead-of x",
+            "book d s --number 7",
             "book - -",
             "help nothing",
             "nothing --help",

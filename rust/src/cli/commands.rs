@@ -4,6 +4,7 @@ mod cancel;
 mod collect;
 mod fsck;
 mod list;
+mod number;
 mod repair;
 mod salvage;
 mod stream;
@@ -23,7 +24,9 @@ use vizhuthamen::{hex, Entry, Field, Node, Refusal, Settled, MAX_DEAL, MAX_RAW};
 /// Runs a command.
 pub fn run(command: Command) -> Result<Answer, Failure> {
     match command {
-        Command::New { deal, size } => new(&deal, size),
+        Command::New { deal, size, number } => new(&deal, size, number),
+        Command::Number { deal, set: None, .. } => number::show(&deal),
+        Command::Number { deal, set: Some(set), wait } => number::keep(&deal, set, wait),
         Command::Commit { file } => commit(&file),
         Command::CommitStream { file, raw, state, progress } => stream::stream(&file, raw, state.as_ref(), progress),
         Command::Pad { raw, output } => pad(&raw, output),
@@ -32,14 +35,16 @@ pub fn run(command: Command) -> Result<Answer, Failure> {
         Command::Cancel { deal, place, commitment, access } => {
             cancel::cancel(&deal, place, commitment.as_deref(), access)
         }
-        Command::Collect { deal, new, force, wait } => collect::collect(&deal, &new, force, wait),
+        Command::Collect { deal, new, number, force, wait } => collect::collect(&deal, &new, number, force, wait),
         Command::List { deal } => list::list(&deal),
         Command::Tally { deal } => tally(&deal),
         Command::Find { deal, commitment, output } => find(&deal, &commitment, output),
-        Command::Build { deal, place, output } => build(&deal, place, output),
-        Command::Check { commitment, size, record } => check(&commitment, size, &record),
-        Command::Settle { commitment, size, first, second } => settle(&commitment, size, &first, &second),
-        Command::SettleDeal { deal, record } => settle_deal(&deal, &record),
+        Command::Build { deal, number, place, output } => build(&deal, number, place, output),
+        Command::Check { commitment, size, number, record } => check(&commitment, size, number, &record),
+        Command::Settle { commitment, size, number, first, second } => {
+            settle(&commitment, size, number, &first, &second)
+        }
+        Command::SettleDeal { deal, number, record } => settle_deal(&deal, number, &record),
         Command::Show { record } => show(&record),
         Command::Fsck { deal, wait } => fsck::fsck(&deal, wait),
         Command::Repair { deal, in_hand, place, access } => repair::repair(&deal, in_hand.as_ref(), place, access),
@@ -94,7 +99,7 @@ fn path_of(deal: &Stream) -> Result<&Path, Failure> {
     }
 }
 
-fn new(deal: &Stream, size: u64) -> Result<Answer, Failure> {
+fn new(deal: &Stream, size: u64, number: Option<u64>) -> Result<Answer, Failure> {
     let numbers = match vizhuthamen::index_numbers(size) {
         Ok(numbers) if size <= MAX_DEAL as u64 => numbers,
         _ => {
@@ -102,12 +107,13 @@ fn new(deal: &Stream, size: u64) -> Result<Answer, Failure> {
             return Ok(Answer::refused(Refusal::SIZE).with_note(note));
         }
     };
-    let note = store::create(path_of(deal)?, Fill::Zeros(size), Attributes::NEW)?;
+    let note = store::create(path_of(deal)?, Fill::Zeros(size), number, Attributes::NEW)?;
     let answer = note.into_iter().fold(Answer::done("done").writing(), Answer::with_note);
-    Ok(answer
+    let answer = answer
         .with_value("size", Json::Number(size))
         .with_value("entries", Json::Number(numbers.entries))
-        .with_value("start", Json::Number(numbers.start)))
+        .with_value("start", Json::Number(numbers.start));
+    Ok(number.into_iter().fold(answer, |answer, number| answer.with_value("number", Json::Number(number))))
 }
 
 fn commit(file: &Stream) -> Result<Answer, Failure> {
@@ -139,7 +145,7 @@ fn pad(raw: &Stream, output: Option<Stream>) -> Result<Answer, Failure> {
             return Ok(Answer::refused(refusal).with_note(note));
         }
     };
-    put_or_show("segment", output, &segment, &raw)
+    put_or_show("segment", vec![], output, &segment, &raw)
 }
 
 fn unpad(raw_length: u64, segment: &Stream, output: Option<Stream>) -> Result<Answer, Failure> {
@@ -150,7 +156,7 @@ fn unpad(raw_length: u64, segment: &Stream, output: Option<Stream>) -> Result<An
         Ok(raw) => raw,
         Err(refusal) => return Ok(unpad_refused(refusal, raw_length, &segment)),
     };
-    put_or_show("raw", output, &raw, &segment)
+    put_or_show("raw", vec![], output, &raw, &segment)
 }
 
 /// A refusal to unpad, with a note on the lengths.
@@ -192,23 +198,33 @@ fn find(deal: &Stream, commitment: &[u8], output: Option<Stream>) -> Result<Answ
     put(answer, output, found.segment, &deal)
 }
 
-fn build(deal: &Stream, place: u64, output: Option<Stream>) -> Result<Answer, Failure> {
-    let deal = files::read_deal(deal)?;
-    let record = match Progress::during("building", deal.bytes.len(), || vizhuthamen::build(&deal.bytes, None, place)) {
+fn build(deal: &Stream, number: Option<u64>, place: u64, output: Option<Stream>) -> Result<Answer, Failure> {
+    let (deal, number) = number::read_with_number(deal, number)?;
+    let build = || vizhuthamen::build(&deal.bytes, None, number, place);
+    let record = match Progress::during("building", deal.bytes.len(), build) {
         Ok(record) => record,
         Err(refusal) => return Ok(refused(refusal, &deal)),
     };
-    put_or_show("record", output, &record, &deal)
+    put_or_show("record", vec![("number", Json::Number(number))], output, &record, &deal)
 }
 
-/// Writes bytes to the output and gives their length; shows them in hex where there is no output.
-fn put_or_show(name: &'static str, output: Option<Stream>, bytes: &[u8], read: &Content) -> Result<Answer, Failure> {
-    let length = ("length", Json::Number(bytes.len() as u64));
+/// Writes bytes to the output and gives their length, and what else is to be told of them; shows them in hex where there
+/// is no output.
+fn put_or_show(
+    name: &'static str,
+    told: Vec<(&'static str, Json)>,
+    output: Option<Stream>,
+    bytes: &[u8],
+    read: &Content,
+) -> Result<Answer, Failure> {
+    let values = [vec![("length", Json::Number(bytes.len() as u64))], told].concat();
     let answer = match output {
-        Some(_) => Answer::done("done").with_value(length.0, length.1),
+        Some(_) => {
+            values.into_iter().fold(Answer::done("done"), |answer, (name, value)| answer.with_value(name, value))
+        }
         None => {
             let digits = hex::encode(bytes);
-            Answer::done("done").with_text(format!("{digits}\n"), vec![length, (name, text(digits))])
+            Answer::done("done").with_text(format!("{digits}\n"), [values, vec![(name, text(digits))]].concat())
         }
     };
     put(answer, output, bytes, read)
@@ -223,36 +239,36 @@ fn put(answer: Answer, output: Option<Stream>, bytes: &[u8], read: &Content) -> 
     }
 }
 
-fn check(commitment: &[u8], size: u64, record: &Stream) -> Result<Answer, Failure> {
+fn check(commitment: &[u8], size: u64, number: u64, record: &Stream) -> Result<Answer, Failure> {
     let record = files::read(record)?;
-    Ok(match vizhuthamen::check(commitment, size, &record.bytes) {
-        Ok(()) => Answer::done("the record is accepted"),
-        Err(refusal) => Answer::refused(refusal),
+    Ok(match vizhuthamen::check(commitment, size, number, &record.bytes) {
+        Ok(()) => number::with_number(Answer::done("the record is accepted"), number),
+        Err(refusal) => number::refused_records(refusal, number, &[&record]),
     })
 }
 
-fn settle(commitment: &[u8], size: u64, first: &Stream, second: &Stream) -> Result<Answer, Failure> {
+fn settle(commitment: &[u8], size: u64, number: u64, first: &Stream, second: &Stream) -> Result<Answer, Failure> {
     let (first, second) = (files::read(first)?, files::read(second)?);
-    let settled = vizhuthamen::settle_records(commitment, size, &first.bytes, &second.bytes);
-    Ok(settled_answer(settled, "the two records are the same"))
+    let settled = vizhuthamen::settle_records(commitment, size, number, &first.bytes, &second.bytes);
+    Ok(settled_answer(settled, "the two records are the same", number, &[&first, &second]))
 }
 
-fn settle_deal(deal: &Stream, record: &Stream) -> Result<Answer, Failure> {
-    let (deal, record) = (files::read_deal(deal)?, files::read(record)?);
+fn settle_deal(deal: &Stream, number: Option<u64>, record: &Stream) -> Result<Answer, Failure> {
+    let ((deal, number), record) = (number::read_with_number(deal, number)?, files::read(record)?);
     let _progress = Progress::start("settling", deal.bytes.len());
-    match vizhuthamen::settle_with_deal(&deal.bytes, None, &record.bytes) {
-        Err(refusal) => Ok(refused(refusal, &deal)),
-        settled => Ok(settled_answer(settled, "the record is the one that the deal gives")),
+    match vizhuthamen::settle_with_deal(&deal.bytes, None, number, &record.bytes) {
+        Err(refusal) if refusal != Refusal::DEAL_NUMBER => Ok(number::with_number(refused(refusal, &deal), number)),
+        settled => Ok(settled_answer(settled, "the record is the one that the deal gives", number, &[&record])),
     }
 }
 
-fn settled_answer(settled: Result<Settled, Refusal>, same: &'static str) -> Answer {
+fn settled_answer(settled: Result<Settled, Refusal>, same: &'static str, number: u64, records: &[&Content]) -> Answer {
     match settled {
-        Ok(Settled::Same) => Answer::done(same),
-        Ok(Settled::Collision { left, right }) => Answer::refused(Refusal::COLLISION)
+        Ok(Settled::Same) => number::with_number(Answer::done(same), number),
+        Ok(Settled::Collision { left, right }) => number::with_number(Answer::refused(Refusal::COLLISION), number)
             .with_value("left", text(hex::encode(&left)))
             .with_value("right", text(hex::encode(&right))),
-        Err(refusal) => Answer::refused(refusal),
+        Err(refusal) => number::refused_records(refusal, number, records),
     }
 }
 
@@ -270,8 +286,8 @@ fn show(record: &Stream) -> Result<Answer, Failure> {
         Column("length", true),
         Column("content", false),
     ];
-    // The form depends on the record alone, so any commitment and size show whether it is right.
-    let answer = match vizhuthamen::check(Node::default().as_ref(), 512, &record) {
+    // The form depends on the record alone, so any commitment, size and number show whether it is right.
+    let answer = match vizhuthamen::check(Node::default().as_ref(), 512, 0, &record) {
         Err(Refusal::FORM) => Answer::refused(Refusal::FORM),
         _ => Answer::done("the record is well formed"),
     };
@@ -292,10 +308,11 @@ fn add_field(field: &Field, rows: &mut Vec<Vec<String>>, fields: &mut Vec<Json>)
         4 => "entry place",
         5 => "segment path",
         6 => "entry path",
+        7 => "deal number",
         _ => "unknown",
     };
     let number = match (field.tag, <[u8; 8]>::try_from(field.content)) {
-        (2..=4, Ok(bytes)) => Some(u64::from_le_bytes(bytes)),
+        (2..=4 | 7, Ok(bytes)) => Some(u64::from_le_bytes(bytes)),
         _ => None,
     };
     let mut lines: Vec<String> = match number {
@@ -319,23 +336,23 @@ fn add_field(field: &Field, rows: &mut Vec<Vec<String>>, fields: &mut Vec<Json>)
 
 #[cfg(test)]
 mod tests {
+    use super::super::answer::assert_refused;
     use super::*;
 
     /// The library shows code 17 only to a caller that holds a collision of SHA-256, so its printing is tested alone.
     #[test]
     fn a_collision_is_printed_with_its_pair() {
-        let answer = settled_answer(Ok(Settled::Collision { left: [0x11; 64], right: [0x22; 64] }), "same");
+        let collision = Settled::Collision { left: [0x11; 64], right: [0x22; 64] };
+        let answer = settled_answer(Ok(collision), "same", 7, &[]);
         let (left, right) = ("11".repeat(64), "22".repeat(64));
-        let meaning = Refusal::COLLISION.meaning();
-        assert_eq!(answer.to_text(), format!("code 17: {meaning}\nleft {left}\nright {right}\n"));
-        let json = format!("{{\"code\":17,\"meaning\":\"{meaning}\",\"left\":\"{left}\",\"right\":\"{right}\"}}\n");
-        assert_eq!(answer.to_json(), json);
-        assert_eq!(answer.status(), 17);
+        let members = format!(",\"number\":7,\"left\":\"{left}\",\"right\":\"{right}\"");
+        assert_refused(&answer, Refusal::COLLISION, &format!("left {left}\nright {right}\n"), &members);
     }
 
     #[test]
     fn the_fields_of_a_record_in_a_table() {
-        let record = [&[2, 8, 0, 1, 1, 0, 0, 0, 0, 0, 0][..], &[5, 33, 0], &[0xab; 33], &[9, 0, 0]].concat();
+        let number = [7, 8, 0, 255, 255, 255, 255, 255, 255, 255, 255];
+        let record = [&[2, 8, 0, 1, 1, 0, 0, 0, 0, 0, 0][..], &[5, 33, 0], &[0xab; 33], &number, &[9, 0, 0]].concat();
         let (mut rows, mut fields) = (vec![], vec![]);
         for field in vizhuthamen::fields(&record) {
             add_field(&field, &mut rows, &mut fields);
@@ -343,7 +360,8 @@ mod tests {
         assert_eq!(rows[0], ["2", "segment offset", "3", "8", "257"]);
         assert_eq!(rows[1], ["5", "segment path", "14", "33", &"ab".repeat(32)]);
         assert_eq!(rows[2], ["", "", "", "", "ab"]);
-        assert_eq!(rows[3], ["9", "unknown", "50", "0", "-"]);
-        assert_eq!(fields.len(), 3);
+        assert_eq!(rows[3], ["7", "deal number", "50", "8", "18446744073709551615"]);
+        assert_eq!(rows[4], ["9", "unknown", "61", "0", "-"]);
+        assert_eq!(fields.len(), 4);
     }
 }

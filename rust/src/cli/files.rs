@@ -4,12 +4,12 @@ use super::failure::{self, Failure};
 use super::store::aside::{remove_dead, Aside, Fill};
 use super::store::change::{self, Part};
 use super::store::names::{shown, Home};
-use super::store::{self, system, Attributes, DealFile, Held, Keep};
+use super::store::{self, system, Attributes, DealFile, Held, Keep, Known};
 use std::fs::{self, File, Metadata, OpenOptions};
 use std::io::{self, ErrorKind, Read, Write};
 use std::os::fd::AsFd;
 use std::os::unix::fs::MetadataExt;
-use std::path::Path;
+use std::path::{Path, PathBuf};
 use vizhuthamen::MAX_DEAL;
 
 /// What was read: the bytes (of a longer file the first 2^24 + 1), the name for messages, and which file it is.
@@ -71,8 +71,21 @@ pub fn read_open(file: &File, name: String) -> Result<Content, Failure> {
 /// Reads a deal, which must have the size that is known of it.
 pub fn read_deal(stream: &Stream) -> Result<Content, Failure> {
     let content = read(stream)?;
-    compare(stream, content.length())?;
+    known(stream, content.length())?;
     Ok(content)
+}
+
+/// Reads a deal, which must have the size that is known of it, and the number that is kept of it. It was kept while the
+/// deal was read: where it has changed meanwhile, both are read again.
+pub fn read_numbered(stream: &Stream) -> Result<(Content, Option<u64>), Failure> {
+    loop {
+        let before = real(stream).and_then(|path| store::number(&path));
+        let content = read(stream)?;
+        let number = known(stream, content.length())?.and_then(|known| known.number);
+        if number == before {
+            return Ok((content, number));
+        }
+    }
 }
 
 /// A deal that is read, under its lock where it is a file: then nobody changes it as long as this is there.
@@ -84,9 +97,13 @@ pub enum Source {
 impl Source {
     /// Reads a deal, and waits for its lock unless that is not wanted.
     pub fn open(deal: &Stream, wait: bool) -> Result<Source, Failure> {
-        match deal {
-            Stream::File(path) if path.is_file() => DealFile::open_to_read(path, wait).map(Source::Locked),
-            _ => read(deal).map(Source::Piped),
+        let Stream::File(path) = deal else {
+            return read(deal).map(Source::Piped);
+        };
+        match fs::metadata(path) {
+            Err(error) => Err(cannot("read", &shown(path), error)),
+            Ok(metadata) if metadata.is_file() => DealFile::open_to_read(path, wait).map(Source::Locked),
+            Ok(_) => read(deal).map(Source::Piped),
         }
     }
 
@@ -96,18 +113,38 @@ impl Source {
             Source::Piped(content) => content,
         }
     }
+
+    pub fn into_content(self) -> Content {
+        match self {
+            Source::Locked(file) => file.content,
+            Source::Piped(content) => content,
+        }
+    }
+
+    /// What is known of the deal, which must have the length that is known. Nothing is known of a pipe.
+    pub fn known(&self) -> Result<Option<Known>, Failure> {
+        match self {
+            Source::Locked(file) => store::known(file.path(), file.content.length()),
+            Source::Piped(_) => Ok(None),
+        }
+    }
 }
 
-/// Compares the length of a deal that is read with what is known of it, where it is a file. Nothing is known of a pipe or of a file
-/// without a name, nor where it may not be read.
-pub fn compare(stream: &Stream, length: u64) -> Result<(), Failure> {
-    let real = match stream {
+/// Where a deal lies that is a file.
+fn real(stream: &Stream) -> Option<PathBuf> {
+    match stream {
         Stream::File(path) if path.is_file() => fs::canonicalize(path).ok(),
         _ => None,
-    };
-    match real.map(|real| store::agrees(&real, length)) {
+    }
+}
+
+/// What is known of a deal that is read, which must have the length that is known, where it is a file. Nothing is known of
+/// a pipe or of a file without a name, nor where it may not be read.
+pub fn known(stream: &Stream, length: u64) -> Result<Option<Known>, Failure> {
+    match real(stream).map(|real| store::known(&real, length)) {
         Some(Err(failure)) if failure.status == failure::DATA => Err(failure),
-        _ => Ok(()),
+        Some(Ok(known)) => Ok(known),
+        _ => Ok(None),
     }
 }
 
@@ -187,7 +224,6 @@ mod tests {
     use super::*;
     use crate::cli::store::Access;
     use std::os::unix::fs::PermissionsExt;
-    use std::path::PathBuf;
 
     const ACCESS: Access = Access { wait: true, new_owner: false };
 
@@ -329,12 +365,41 @@ mod tests {
     fn a_file_that_is_there_is_not_made_anew() {
         let folder = folder("new");
         let path = folder.join("deal");
-        assert_eq!(store::create(&path, Fill::Zeros(512), Attributes::NEW).unwrap(), None);
+        let create = |size, number| store::create(&path, Fill::Zeros(size), number, Attributes::NEW);
+        assert_eq!(create(512, Some(7)).unwrap(), None);
         assert_eq!(fs::read(&path).unwrap(), [0; 512]);
         assert_eq!(names(&folder), ["deal", "deal.vz"]);
         fs::write(&path, b"kept").unwrap();
-        assert_eq!(store::create(&path, Fill::Zeros(512), Attributes::NEW).unwrap_err().status, 74);
-        assert_eq!(store::create(&path, Fill::Zeros(1024), Attributes::NEW).unwrap_err().status, 65);
+        assert_eq!(create(512, Some(7)).unwrap_err().status, 74);
+        // What lies beside it is another deal's.
+        for (size, number) in [(1024, Some(7)), (512, Some(8)), (512, None)] {
+            assert_eq!(create(size, number).unwrap_err().status, 65);
+        }
         assert_eq!(fs::read(&path).unwrap(), b"kept");
+    }
+
+    #[test]
+    fn a_number_is_kept_beside_a_deal() {
+        let (folder, path) = old_deal("number");
+        let kept = || {
+            let (content, number) = read_numbered(&Stream::File(path.clone())).unwrap();
+            assert_eq!(content.bytes, b"old");
+            number
+        };
+        assert_eq!(kept(), None);
+        for number in [0, 7, u64::MAX, 7] {
+            let deal = DealFile::open(&path, ACCESS).unwrap();
+            let text = format!("vizhuthamen deal 1\nsize 3\nnumber {number}\n");
+            deal.keep_number(number).unwrap();
+            assert_eq!((kept(), fs::read(folder.join("deal.vz")).unwrap()), (Some(number), text.into_bytes()));
+        }
+        assert_eq!(DealFile::open(&path, ACCESS).unwrap().number(), Some(7));
+        fs::hard_link(folder.join("deal.vz"), folder.join("second")).unwrap();
+        assert_eq!(DealFile::open(&path, ACCESS).unwrap().keep_number(8).unwrap_err().status, 74);
+        fs::remove_file(folder.join("deal.vz")).unwrap();
+        std::os::unix::fs::symlink("second", folder.join("deal.vz")).unwrap();
+        assert_eq!(DealFile::open(&path, ACCESS).unwrap().keep_number(8).unwrap_err().status, 74);
+        assert_eq!(kept(), Some(7));
+        assert_eq!(names(&folder), ["deal", "deal.vz", "second"]);
     }
 }

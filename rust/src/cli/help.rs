@@ -1,10 +1,11 @@
 //! The texts of `--help`, and what each command takes.
+use std::ops::RangeInclusive;
 
 /// A command: its name, its operands, the options that not all take, and the text after its usage line.
 pub struct Topic {
     /// The word that names it.
     pub name: &'static str,
-    /// What follows the name.
+    /// What follows the name; in brackets what may be left out.
     pub operands: &'static [&'static str],
     /// The names of its options.
     pub options: &'static [&'static str],
@@ -22,7 +23,7 @@ pub struct Choice {
 }
 
 /// The options that some commands take.
-pub const OPTIONS: [Choice; 11] = [
+pub const OPTIONS: [Choice; 13] = [
     Choice { name: "output", value: "FILE", summary: "write to FILE, replacing it (also -o)" },
     Choice { name: "force", value: "", summary: "go on where a slot is damaged, or valid and not standing" },
     Choice { name: "no-wait", value: "", summary: "do not wait where another process works on the deal" },
@@ -31,21 +32,39 @@ pub const OPTIONS: [Choice; 11] = [
     Choice { name: "raw", value: "FILE", summary: "a raw archive: the one in hand, or the one that is streamed" },
     Choice { name: "commitment", value: "COMMITMENT", summary: "the commitment in hand (hex)" },
     Choice { name: "place", value: "PLACE", summary: "the entry place that is repaired" },
+    Choice { name: "number", value: "N", summary: "the deal's number, from 0 to 18446744073709551615" },
+    Choice { name: "instead-of", value: "N", summary: "the kept number that is changed" },
     Choice { name: "state", value: "FILE", summary: "keep the state in FILE until the answer is there" },
     Choice { name: "resume", value: "", summary: "go on from the state" },
     Choice { name: "progress", value: "", summary: "show progress also where standard error is no terminal" },
 ];
 
 /// The commands.
-pub const TOPICS: [Topic; 19] = [
+pub const TOPICS: [Topic; 20] = [
     Topic {
         name: "new",
         operands: &["DEAL", "SIZE"],
-        options: &[],
+        options: &["number"],
         summary: "make an all-zero deal file",
         text: "Makes the file DEAL with SIZE zero bytes. SIZE is a power of two from 512 to 16777216.
-A file that is there is never overwritten. Beside it goes DEAL.vz, a small text with the size: a deal that has
-another size than DEAL.vz says is neither read nor changed (exit status 65). DEAL.vz can be done without.",
+A file that is there is never overwritten. Beside it goes DEAL.vz, a small text with the size, and with the deal's
+number where --number gives it: a deal that has another size than DEAL.vz says is neither read nor changed (exit
+status 65). DEAL.vz can be done without; the number is then given to each command that needs it. A DEAL.vz that was
+left by another deal, with another size or number, is refused (65).",
+    },
+    Topic {
+        name: "number",
+        operands: &["DEAL", "[N]"],
+        options: &["instead-of", "no-wait"],
+        summary: "show or keep the number of a deal",
+        text: "Prints the number that is kept of the deal in DEAL.vz; with N it keeps that one, from 0 to
+18446744073709551615. A record names its deal by this number, and the bytes of the deal do not hold it. `build` and
+`settle-deal` take the kept number, and refuse any other that --number gives. Exit status 65: no number is kept.
+With --json a number has up to 20 digits; a program must not round it.
+
+A number that is kept already is changed only with --instead-of and that number, so that of two calls with
+different numbers one is refused (65). Records that were built with the old number get code 21 from then on. DEAL
+is locked as with `book`, and DEAL.vz is replaced as a whole; DEAL itself is not written.",
     },
     Topic {
         name: "commit",
@@ -135,16 +154,17 @@ locked and replaced as with `book`.",
     Topic {
         name: "collect",
         operands: &["DEAL", "NEW"],
-        options: &["force", "no-wait"],
+        options: &["number", "force", "no-wait"],
         summary: "write the segments of a deal without gaps to a new deal file",
         text: "Makes the deal file NEW, of the same size as DEAL, of the segments whose entries stand in DEAL: all bytes of their
 areas, the larger ones first and equal ones by offset, packed from byte 0 on, and their entries from the first slot
 on in that order; all else is zero. For each entry the old and the new place and offset are printed, by new
 places. DEAL is not changed. Records that were built from DEAL belong to its commitment, and not to that of NEW.
 
-NEW is made as by `new`: a file that is there is never overwritten, and NEW.vz goes beside it. It is the caller's,
-and others have no permissions that they have not for DEAL. DEAL is read under its lock, which other readers
-share, until NEW is there; with --no-wait nobody is waited for, nothing is done and the exit status is 75.
+NEW is made as by `new`: a file that is there is never overwritten, and NEW.vz goes beside it. NEW takes the place of
+DEAL and has its number, where one is kept; with --number it has that one. It is the caller's, and others have no
+permissions that they have not for DEAL. DEAL is read under its lock, which other readers share, until NEW is
+there; with --no-wait nobody is waited for, nothing is done and the exit status is 75.
 
 Code 20: two standing entries overlap. They are printed; `fsck` and `list` show which of them are kept, and `cancel`
 takes those away that are to go. A slot that is damaged, or whose entry does not stand, would be left out: where
@@ -182,36 +202,40 @@ With --output FILE the segment's bytes go to FILE.",
     Topic {
         name: "build",
         operands: &["DEAL", "PLACE"],
-        options: &["output"],
+        options: &["number", "output"],
         summary: "build the inclusion record of an entry place",
-        text: "Builds the inclusion record of the kept entry at PLACE, a byte offset in the deal. With --output FILE the
-record's bytes go to FILE; otherwise it is printed in hex. The other commands read records as bytes.",
+        text: "Builds the inclusion record of the kept entry at PLACE, a byte offset in the deal. It names the deal by the
+number that is kept of it (see number), or by the one that --number gives where none is kept. Exit status 65: the
+two differ, or there is neither. With --output FILE the record's bytes go to FILE, and length and number are
+printed; otherwise it is printed in hex. The other commands read records as bytes.",
     },
     Topic {
         name: "check",
         operands: &["COMMITMENT", "SIZE", "RECORD"],
-        options: &[],
-        summary: "check a record against a deal's commitment and size",
-        text: "Checks the record in the file RECORD against the commitment (hex) and the size of a deal, a power of two
-from 512 to 68719476736. Code 0: the record is accepted.",
+        options: &["number"],
+        summary: "check a record against a deal's commitment, size and number",
+        text: "Checks the record in the file RECORD against the commitment (hex), the size, a power of two from 512 to
+68719476736, and the number of a deal. Code 0: the record is accepted. Code 21: it names a deal of another number,
+which is printed (with --json as record_number).",
     },
     Topic {
         name: "settle",
         operands: &["COMMITMENT", "SIZE", "RECORD", "RECORD"],
-        options: &[],
+        options: &["number"],
         summary: "settle two records of one deal",
-        text: "Checks two records against one deal's commitment (hex) and size, and compares them. Code 0: they are the same.
-Code 17: they differ and both are accepted; two different 64-byte strings with one node hash are
-printed in hex, the first record's as left.",
+        text: "Checks two records against one deal's commitment (hex), size and number, and compares them. Code 0: they are
+the same. Code 17: they differ and both are accepted; two different 64-byte strings with one node hash are printed
+in hex, the first record's as left. Code 21: one names a deal of another number, which is printed.",
     },
     Topic {
         name: "settle-deal",
         operands: &["DEAL", "RECORD"],
-        options: &[],
+        options: &["number"],
         summary: "settle a record with the deal in hand",
-        text: "Checks a record against the commitment and the size of the deal itself, and compares it with the deal. Code 0:
-it is the record that the deal gives. Code 17: it is accepted and is another one; two different
-64-byte strings with one node hash are printed in hex, the record's as left.",
+        text: "Checks a record against the commitment, the size and the number of the deal itself, and compares it with the
+deal. The number is chosen as with `build`. Code 0: it is the record that the deal gives. Code 17: it is accepted
+and is another one; two different 64-byte strings with one node hash are printed in hex, the record's as left. Code
+21: it names a deal of another number, which is printed.",
     },
     Topic {
         name: "show",
@@ -262,14 +286,15 @@ those of some are not, and they are named.",
 const ABOUT: &str = "vizhuthamen: deals, segments and inclusion records (FRC-0058), by a proved library";
 
 const CONVENTIONS: &str = "Conventions:
-  Nodes are 64 hex digits; sizes and places are decimal. The file name - is standard input (for --output:
-  standard output, without any other text there). -- ends the options.
+  Nodes are 64 hex digits; sizes, places and deal numbers are decimal. The file name - is standard input (for
+  --output: standard output, without any other text there). -- ends the options.
 
 Exit status:
   0 with code 0; with any other code that code, 1 to 24, and the line `code N: meaning` on standard output (on
   standard error with --output -, where nothing else is written then);
-  64 wrong usage; 65 a deal, or the state of a stream, is damaged or is not what is known of it; 74 reading or
-  writing failed; 75 another process works on the deal and --no-wait is given; each with a message on standard error.
+  64 wrong usage; 65 a deal, or the state of a stream, is damaged or is not what is known of it, or a deal's number is
+  not known; 74 reading or writing failed; 75 another process works on the deal and --no-wait is given; each with a
+  message on standard error.
 ";
 
 /// The command of that name.
@@ -286,7 +311,7 @@ pub fn version() -> String {
 pub fn overall() -> String {
     let mut text = format!("{ABOUT}\n\nUsage: vizhuthamen COMMAND [OPTIONS] ...\n\nCommands:\n");
     for topic in &TOPICS {
-        text.push_str(&format!("  {:<45} {}\n", operands(topic), topic.summary));
+        text.push_str(&format!("  {:<48} {}\n", operands(topic), topic.summary));
     }
     text + "\n" + CONVENTIONS + &options(|_| true)
 }
@@ -302,7 +327,7 @@ fn options(wanted: impl Fn(&Choice) -> bool) -> String {
     let mut text = "\nOptions:\n".to_string();
     let mut add = |name: String, summary| text.push_str(&format!("  {name:<25} {summary}\n"));
     for choice in OPTIONS.iter().filter(|choice| wanted(choice)) {
-        add(format!("--{} {}", choice.name, choice.value), choice.summary);
+        add(spelled(choice), choice.summary);
     }
     add("--json".to_string(), "print one JSON object");
     add("-h, --help".to_string(), "print help, of one command after its name");
@@ -310,19 +335,34 @@ fn options(wanted: impl Fn(&Choice) -> bool) -> String {
     text
 }
 
-/// The command with its operands.
+/// The command with its operands, and with the options that it cannot do without.
 fn operands(topic: &Topic) -> String {
-    format!("{} {}", topic.name, topic.operands.join(" "))
+    let needed = OPTIONS.iter().filter(|choice| needed(topic, choice)).map(|choice| format!(" {}", spelled(choice)));
+    format!("{} {}{}", topic.name, topic.operands.join(" "), needed.collect::<String>())
+}
+
+/// An option with its value.
+fn spelled(choice: &Choice) -> String {
+    format!("--{} {}", choice.name, choice.value).trim_end().to_string()
+}
+
+/// How many operands a command may have.
+pub fn counts(topic: &Topic) -> RangeInclusive<usize> {
+    topic.operands.iter().filter(|operand| !operand.ends_with(']')).count()..=topic.operands.len()
+}
+
+/// Whether a command cannot do without an option: the number of a deal that it has not in hand.
+fn needed(topic: &Topic, choice: &Choice) -> bool {
+    choice.name == "number" && matches!(topic.name, "check" | "settle")
 }
 
 /// The command with its operands and options, by name where they are few.
 pub fn call(topic: &Topic) -> String {
     let among = |choice: &&Choice| topic.operands.iter().any(|word| word.contains(&format!("--{}]", choice.name)));
-    let taken = OPTIONS.iter().filter(|choice| topic.options.contains(&choice.name));
-    let chosen: Vec<&Choice> = taken.filter(|choice| !among(choice)).collect();
-    let named = |choice: &&Choice| format!(" [{}]", format!("--{} {}", choice.name, choice.value).trim_end());
+    let free = |choice: &&Choice| topic.options.contains(&choice.name) && !needed(topic, choice) && !among(choice);
+    let chosen: Vec<&Choice> = OPTIONS.iter().filter(free).collect();
     let options = match chosen.len() {
-        0..=3 => chosen.iter().map(named).collect(),
+        0..=3 => chosen.iter().map(|choice| format!(" [{}]", spelled(choice))).collect(),
         _ => " [OPTIONS]".to_string(),
     };
     operands(topic) + &options

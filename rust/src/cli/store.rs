@@ -23,5 +23,5 @@ pub mod system;
 
 pub use attributes::{Attributes, Keep};
 pub use deal::{create, troubled, Access, DealFile};
-pub use sidecar::agrees;
+pub use sidecar::{known, number, Known};
 pub use signals::Held;

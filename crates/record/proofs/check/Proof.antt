@@ -28,7 +28,7 @@ size-allowed c = passed (c .before .before .deal-size-allowed .ensures) (c .befo
 
 returns : tie.Need-returns
 returns c = let a = c .before .before .before .args in
-    wrong-commitment (now (a .commitment)) (a .size) (now (a .record)) (c .if1 .taken)
+    wrong-commitment (now (a .commitment)) (a .size) (a .number) (now (a .record)) (c .if1 .taken)
 
 deal-size-allowed-requires : tie.Need-deal-size-allowed-requires
 deal-size-allowed-requires c κs = search needs
@@ -36,7 +36,7 @@ deal-size-allowed-requires c κs = search needs
 returns-2 : tie.Need-returns-2
 returns-2 c =
     let a = c .before .before .before .before .before .args in
-    wrong-deal-size (now (a .commitment)) (a .size) (now (a .record)) (c .before .before .if1 .left)
+    wrong-deal-size (now (a .commitment)) (a .size) (a .number) (now (a .record)) (c .before .before .if1 .left)
     (failed (c .before .deal-size-allowed .ensures) (c .if2 .taken))
 
 parse-requires : tie.Need-parse-requires
@@ -46,14 +46,14 @@ returns-3 : tie.Need-returns-3
 returns-3 c =
     let p = c .before .before in
     let a = start p .args in
-    malformed (now (a .commitment)) (a .size) (lent p) (p .before .before .before .if1 .left) (size-allowed p)
-    (p .parse .ensures) (c .if3 .taken)
+    malformed (now (a .commitment)) (a .size) (a .number) (lent p) (p .before .before .before .if1 .left)
+    (size-allowed p) (p .parse .ensures) (c .if3 .taken)
 
 add-segment-path-end : tie.Need-add-segment-path-end
-add-segment-path-end c = let w = within (c .before .before .before .before) in omega arith
+add-segment-path-end c = let w = within (c .before .before .before) in omega arith
 
 add-entry-path-end : tie.Need-add-entry-path-end
-add-entry-path-end c = let w = within (c .before .before .before .before .before) in omega arith
+add-entry-path-end c = let w = within (c .before .before .before .before) in omega arith
 
 sub-judge : tie.Need-sub-judge
 sub-judge c = search needs
@@ -62,7 +62,7 @@ part-judge-start : tie.Need-part-judge-start
 part-judge-start c = search needs
 
 part-judge-end : tie.Need-part-judge-end
-part-judge-end c = within (c .before .before .before .before .before) .segment-path-within
+part-judge-end c = within (c .before .before .before .before) .segment-path-within
 
 sub-judge-2 : tie.Need-sub-judge-2
 sub-judge-2 c = search needs
@@ -71,18 +71,18 @@ part-judge-start-2 : tie.Need-part-judge-start-2
 part-judge-start-2 c = search needs
 
 part-judge-end-2 : tie.Need-part-judge-end-2
-part-judge-end-2 c = within (c .before .before .before .before .before .before) .entry-path-within
+part-judge-end-2 c = within (c .before .before .before .before .before) .entry-path-within
 
 judge-requires : tie.Need-judge-requires
-judge-requires c κs = size-allowed (c .before .before .before .before .before .before .before)
+judge-requires c κs = size-allowed (c .before .before .before .before .before .before)
 
 returns-4 : tie.Need-returns-4
 returns-4 c =
-    let t = c .before .before .before .before .before .before in
+    let t = c .before .before .before .before .before in
     let p = t .before .before in
     let a = start p .args in
-    well-formed (now (a .commitment)) (a .size) (lent p) (p .before .before .before .if1 .left) (size-allowed p)
-    (p .parse .ensures) (t .if3 .left) (c .judge .ensures)
+    well-formed (now (a .commitment)) (a .size) (a .number) (lent p) (p .before .before .before .if1 .left)
+    (size-allowed p) (p .parse .ensures) (t .if3 .left) (c .judge .ensures)
 
 pub check-spec : {M : Type 1} → statement M
 check-spec =

@@ -20,12 +20,13 @@ use std::path::Path;
 use vizhuthamen::{Entry, Refusal};
 
 /// Writes the standing segments of a deal, without gaps, to a new deal file. The deal is not changed, and its lock is held to the
-/// end, so that the new one is the collection of what the deal still is.
-pub fn collect(deal: &Stream, new: &Stream, force: bool, wait: bool) -> Result<Answer, Failure> {
+/// end, so that the new one is the collection of what the deal still is. The new one has the given number, or that of
+/// the deal, whose place it takes.
+pub fn collect(deal: &Stream, new: &Stream, number: Option<u64>, force: bool, wait: bool) -> Result<Answer, Failure> {
     let new = path_of(new)?;
     let source = Source::open(deal, wait)?;
     let old = source.content();
-    files::compare(deal, old.length())?;
+    let kept = source.known()?.and_then(|known| known.number);
     is_another(new, old)?;
     let progress = Progress::start("collecting", old.bytes.len());
     let mut bytes = vec![0; old.bytes.len()];
@@ -38,16 +39,26 @@ pub fn collect(deal: &Stream, new: &Stream, force: bool, wait: bool) -> Result<A
     if !force {
         leaves_nothing(&left, old)?;
     }
-    let note = store::create(new, Fill::Bytes(&bytes), attributes(old))?;
+    let note = store::create(new, Fill::Bytes(&bytes), number.or(kept), attributes(old))?;
     drop(progress);
     let left_out = left.iter().map(|slot| format!("{}, and is left out", slot.described()));
+    let notes = note.into_iter().chain(left_out).chain(notes(&old.name, &shown(new), number, kept));
+    let answer = notes.fold(Answer::done("done"), Answer::with_note);
+    Ok(told(answer.writing(), &moves, &left, bytes.len(), number.or(kept)))
+}
+
+/// What the caller has to know of the new deal's number and of records.
+fn notes(old: &str, new: &str, number: Option<u64>, kept: Option<u64>) -> Vec<String> {
+    let handed_on = kept.filter(|_| number.is_none()).map(|kept| {
+        format!(
+            "{new} has the number {kept} of {old}, whose place it takes; if it is another deal: \
+             vizhuthamen number {new} N --instead-of {kept}"
+        )
+    });
     let records = format!(
-        "records that were built from {} belong to its commitment; those of {} are built anew, at the new places",
-        old.name,
-        shown(new)
+        "records that were built from {old} belong to its commitment; those of {new} are built anew, at the new places"
     );
-    let answer = note.into_iter().chain(left_out).chain([records]).fold(Answer::done("done"), Answer::with_note);
-    Ok(told(answer.writing(), &moves, &left, bytes.len()))
+    handed_on.into_iter().chain([records]).collect()
 }
 
 /// Refuses a new deal that is the old one, by whatever name.
@@ -159,15 +170,14 @@ fn move_members(moved: &Move) -> Json {
     ])
 }
 
-/// Adds where the entries were moved, and the slots that were left out.
-fn told(answer: Answer, moves: &[Move], left: &[Slot], size: usize) -> Answer {
+/// Adds the new deal's size and number, where the entries were moved, and the slots that were left out.
+fn told(answer: Answer, moves: &[Move], left: &[Slot], size: usize, number: Option<u64>) -> Answer {
     let rows: Vec<Vec<String>> = moves.iter().map(move_row).collect();
     let left = left.iter().map(|slot| Json::Object(slot_members(slot, state(slot)))).collect();
-    let members = vec![
-        ("size", Json::Number(size as u64)),
-        ("moved", Json::List(moves.iter().map(move_members).collect())),
-        ("left", Json::List(left)),
-    ];
+    let mut members = vec![("size", Json::Number(size as u64))];
+    members.extend(number.map(|number| ("number", Json::Number(number))));
+    members.push(("moved", Json::List(moves.iter().map(move_members).collect())));
+    members.push(("left", Json::List(left)));
     answer.with_text(table(&MOVE_COLUMNS, &rows), members)
 }
 

@@ -5,7 +5,6 @@ use super::super::failure::Failure;
 use super::super::files::{Content, Source};
 use super::super::json::Json;
 use super::super::progress::Progress;
-use super::super::store;
 use super::super::store::names::shown;
 use super::super::survey::{self, area, Slot, State, Stray, Survey};
 use super::list::slot_members;
@@ -39,13 +38,9 @@ pub fn disagreeing(answer: Answer, disagrees: Option<String>) -> Answer {
 
 /// Reads a deal under its lock where it is a file, and says where it has another size than is known of it.
 pub fn read(deal: &Stream, wait: bool) -> Result<(Content, Option<String>), Failure> {
-    Ok(match Source::open(deal, wait)? {
-        Source::Locked(file) => {
-            let disagrees = store::agrees(file.path(), file.content.length()).err().map(|failure| failure.message);
-            (file.content, disagrees)
-        }
-        Source::Piped(content) => (content, None),
-    })
+    let source = Source::open(deal, wait)?;
+    let disagrees = source.known().err().map(|failure| failure.message);
+    Ok((source.into_content(), disagrees))
 }
 
 /// What is wrong: a line of text for each, and the same for JSON.

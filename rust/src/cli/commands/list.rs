@@ -11,7 +11,7 @@ use super::{refused, text};
 
 /// Lists every slot of the index.
 pub fn list(deal: &Stream) -> Result<Answer, Failure> {
-    let deal = files::read_deal(deal)?;
+    let (deal, number) = files::read_numbered(deal)?;
     // The library judges size and stray bits.
     if let Err(refusal) = vizhuthamen::tally(&deal.bytes) {
         return Ok(refused(refusal, &deal));
@@ -24,8 +24,9 @@ pub fn list(deal: &Stream) -> Result<Answer, Failure> {
     drop(progress);
     let rows: Vec<_> = survey.slots.iter().map(|slot| slot_row(slot, state(slot))).collect();
     let slots = survey.slots.iter().map(|slot| Json::Object(slot_members(slot, state(slot)))).collect();
-    let size = Json::Number(deal.bytes.len() as u64);
-    let members = vec![("size", size), ("start", Json::Number(survey.numbers.start)), ("slots", Json::List(slots))];
+    let mut members = vec![("size", Json::Number(deal.bytes.len() as u64))];
+    members.extend(number.map(|number| ("number", Json::Number(number))));
+    members.extend([("start", Json::Number(survey.numbers.start)), ("slots", Json::List(slots))]);
     Ok(Answer::done("done").with_text(table(&SLOT_COLUMNS, &rows), members))
 }
 

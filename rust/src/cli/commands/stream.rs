@@ -123,7 +123,7 @@ pub fn stream(file: &Stream, raw: bool, place: Option<&Place>, progress: bool) -
     // The size of a regular file is known before its bytes are.
     if let Some(known) = pieces.known {
         if !raw {
-            files::compare(file, known.length)?;
+            files::known(file, known.length)?;
         }
         if !allowed(raw, known.length) {
             return Ok(refused(Refusal::SIZE, raw, &pieces));

@@ -4,7 +4,7 @@ use super::attributes::{Attributes, Keep};
 use super::change::{self, Part, Trouble};
 use super::lock::{self, Share};
 use super::names::{shown, Home};
-use super::sidecar;
+use super::sidecar::{self, Known};
 use super::signals::Held;
 use crate::cli::failure::{self, Failure};
 use crate::cli::files::{self, Content};
@@ -30,7 +30,7 @@ pub struct DealFile {
     path: PathBuf,
     home: Home,
     access: Access,
-    known: bool,
+    known: Option<Known>,
 }
 
 impl DealFile {
@@ -47,7 +47,7 @@ impl DealFile {
                 shown(given)
             )));
         }
-        let known = sidecar::agrees(&deal.path, deal.content.length())?;
+        let known = sidecar::known(&deal.path, deal.content.length())?;
         Ok(DealFile { known, ..deal })
     }
 
@@ -89,7 +89,7 @@ impl DealFile {
             return Ok(None);
         }
         let content = files::read_open(&file, name)?;
-        Ok(Some(DealFile { content, file, path, home, access, known: false }))
+        Ok(Some(DealFile { content, file, path, home, access, known: None }))
     }
 
     /// An error where the deal is not the file that was read any more, or not as it was read: other hands were at it.
@@ -108,15 +108,34 @@ impl DealFile {
     /// or none. What is known of the deal is put beside it where nothing is.
     pub fn replace(&self, bytes: &[u8], others: Vec<Part>) -> Result<(), Failure> {
         let keep = Keep { old: &self.file, new_owner: self.access.new_owner };
-        let text = sidecar::text(bytes.len() as u64);
+        let known = Known::new(bytes.len() as u64, None);
         let mut parts = vec![Part { target: self.path.clone(), bytes, keep: Some(keep) }];
-        if !self.known {
-            // Whoever may read the deal may read what is known of it.
-            let keep = Keep { old: &self.file, new_owner: true };
-            parts.push(Part { target: self.home.sidecar(), bytes: text.as_bytes(), keep: Some(keep) });
+        if self.known.is_none() {
+            parts.push(self.beside(&known, &self.file));
         }
         parts.extend(others);
         change::put(&self.home, &parts, || self.unchanged()).map_err(|trouble| troubled(trouble, &self.content.name))
+    }
+
+    /// Keeps a number beside the deal, in the place of the one that is there.
+    pub fn keep_number(&self, number: u64) -> Result<(), Failure> {
+        let known = self.known.clone().unwrap_or_else(|| Known::new(self.content.length(), None)).with_number(number);
+        let old = self.known.as_ref().map(|_| with_one_name(&self.home.sidecar())).transpose()?;
+        let part = self.beside(&known, old.as_ref().unwrap_or(&self.file));
+        let name = shown(self.home.sidecar());
+        change::put(&self.home, &[part], || self.unchanged()).map_err(|trouble| troubled(trouble, &name))
+    }
+
+    /// The number that is kept of the deal, which was opened for a change.
+    pub fn number(&self) -> Option<u64> {
+        self.known.as_ref()?.number
+    }
+
+    /// The part that puts beside the deal what is known of it. Whoever may read the old file may read this one, though
+    /// its owner may be another.
+    fn beside<'a>(&self, known: &'a Known, old: &'a File) -> Part<'a> {
+        let keep = Keep { old, new_owner: true };
+        Part { target: self.home.sidecar(), bytes: known.text().as_bytes(), keep: Some(keep) }
     }
 
     /// The part that makes a copy of the deal as it was read, beside it: its target is a name that nothing has. None where there is
@@ -144,6 +163,19 @@ impl DealFile {
     }
 }
 
+/// Opens a file that is to be replaced: a regular one with one name.
+fn with_one_name(path: &Path) -> Result<File, Failure> {
+    let failed = |error| files::cannot("replace", &shown(path), error);
+    let metadata = fs::symlink_metadata(path).map_err(failed)?;
+    match metadata.is_file() && metadata.nlink() == 1 {
+        true => File::open(path).map_err(failed),
+        false => Err(failure::io(format!(
+            "cannot replace {}: it is a link, or has several names; make it a file of its own first",
+            shown(path)
+        ))),
+    }
+}
+
 /// The failure of a change, in which it says whether anything is changed.
 pub fn troubled(trouble: Trouble, name: &str) -> Failure {
     failure::io(match trouble {
@@ -152,12 +184,19 @@ pub fn troubled(trouble: Trouble, name: &str) -> Failure {
     })
 }
 
-/// Makes a deal file. A file that is there stays. Says what could not be done beside it.
-pub fn create(given: &Path, fill: Fill, attributes: Attributes) -> Result<Option<String>, Failure> {
+/// Makes a deal file, and keeps its number beside it where it is known. A file that is there stays. Says what could not
+/// be done beside it, and can be done without.
+pub fn create(
+    given: &Path,
+    fill: Fill,
+    number: Option<u64>,
+    attributes: Attributes,
+) -> Result<Option<String>, Failure> {
     let name = shown(given);
     let cannot = |error: String| failure::io(format!("cannot make {name}: {error}"));
     let home = Home::of(given);
-    let known = sidecar::agrees(given, fill.length())?;
+    let known = Known::new(fill.length(), number);
+    let lies_there = sidecar::lies_beside(given, &known)?;
     let exists = || cannot("the file exists, and is never overwritten; give another name".to_string());
     if is_there(given).map_err(cannot)? {
         return Err(exists());
@@ -175,10 +214,16 @@ pub fn create(given: &Path, fill: Fill, attributes: Attributes) -> Result<Option
     // The new deal was locked before it had its name, and is until the end.
     change::flush(&home.folder)
         .map_err(|error| troubled(Trouble::Made(format!("its folder could not be flushed: {error}")), &name))?;
-    let text = (!known).then(|| sidecar::text(fill.length()));
-    Ok(beside_new(&home, text, attributes, aside.file(), &held).err().map(|why| {
-        format!("{} could not be written: {why}; a cut of {name} will not be noticed", shown(home.sidecar()))
-    }))
+    let beside = beside_new(&home, (!lies_there).then_some(&known), attributes, aside.file(), &held);
+    let failed = |why| format!("{} could not be written: {why}", shown(home.sidecar()));
+    match (beside.map_err(failed), number) {
+        (Ok(()), _) => Ok(None),
+        (Err(why), None) => Ok(Some(format!("{why}; a cut of {name} will not be noticed"))),
+        (Err(why), Some(number)) => {
+            let why = format!("{why}; its number is kept by: vizhuthamen number {name} {number}");
+            Err(troubled(Trouble::Made(why), &name))
+        }
+    }
 }
 
 /// Whether something has this name.
@@ -193,14 +238,17 @@ fn is_there(path: &Path) -> Result<bool, String> {
 /// Removes what was left beside an older deal of the same name, and puts what is known of the new one there, where nothing is.
 fn beside_new(
     home: &Home,
-    known: Option<String>,
+    known: Option<&Known>,
     attributes: Attributes,
     deal: &File,
     held: &Held,
 ) -> Result<(), String> {
     change::clear(home, deal)?;
-    if let Some(text) = known {
-        Aside::write(home, 0, Fill::Bytes(text.as_bytes()), attributes, held)?.make(&home.sidecar(), held)?;
+    if let Some(known) = known {
+        let mut aside = Aside::write(home, 0, Fill::Bytes(known.text().as_bytes()), attributes, held)?;
+        if !aside.make(&home.sidecar(), held)? {
+            return Err("another program has made it in the meantime".to_string());
+        }
     }
     change::flush(&home.folder).map_err(|error| error.to_string())
 }

@@ -1,8 +1,10 @@
 //! What is known of a deal beside its bytes, in a small text file `DEAL.vz` that can be done without.
 //!
 //! The first line names the form and its version; every other line is a word and its value. Version 1 knows `size`, the deal's length
-//! in bytes. Words that are not known are left to later versions, and stay.
+//! in bytes, and `number`, the deal's number, once it is told. Words that are not known are left to later versions, and
+//! stay.
 use super::names::{shown, Home};
+use crate::cli::args::decimal;
 use crate::cli::failure::{self, Failure};
 use std::fs;
 use std::io::ErrorKind;
@@ -11,34 +13,65 @@ use std::path::Path;
 const FORM: &str = "vizhuthamen deal ";
 const VERSION: &str = "1";
 
-/// What is read.
-#[derive(Debug, PartialEq, Eq)]
-struct Known {
-    size: u64,
+/// What is known of a deal, and the text that says so.
+#[derive(Clone, Debug, PartialEq, Eq)]
+pub struct Known {
+    /// The deal's length in bytes.
+    pub size: u64,
+    /// The deal's number, once it is known.
+    pub number: Option<u64>,
+    text: String,
 }
 
-/// The text for a deal of this size.
-pub fn text(size: u64) -> String {
-    format!("{FORM}{VERSION}\nsize {size}\n")
-}
-
-/// What a text says, or why it cannot be read.
-fn parse(text: &[u8]) -> Result<Known, &'static str> {
-    let text = std::str::from_utf8(text).map_err(|_| "it is no text")?;
-    let mut lines = text.lines();
-    match lines.next().and_then(|line| line.strip_prefix(FORM)) {
-        Some(VERSION) => {}
-        Some(_) => return Err("it is of a newer version of this program"),
-        None => return Err("its first line is another one"),
+impl Known {
+    /// What is known of a new deal.
+    pub fn new(size: u64, number: Option<u64>) -> Known {
+        let known = Known { size, number: None, text: format!("{FORM}{VERSION}\nsize {size}\n") };
+        number.map_or(known.clone(), |number| known.with_number(number))
     }
-    let sizes: Vec<_> = lines.filter_map(|line| line.strip_prefix("size ")).collect();
-    match sizes.as_slice() {
-        [size] => size.parse().map(|size| Known { size }).map_err(|_| "its size is no number"),
-        _ => Err("it does not have one line for the size"),
+
+    /// The text of the file.
+    pub fn text(&self) -> &str {
+        &self.text
+    }
+
+    /// The same with this number. All other lines stay.
+    pub fn with_number(&self, number: u64) -> Known {
+        let others = self.text.lines().filter(|line| value(line, "number").is_none());
+        let text = others.map(|line| format!("{line}\n")).chain([format!("number {number}\n")]).collect();
+        Known { size: self.size, number: Some(number), text }
+    }
+
+    /// What a text says, or why it cannot be read.
+    fn parse(text: &[u8]) -> Result<Known, &'static str> {
+        let text = std::str::from_utf8(text).map_err(|_| "it is no text")?;
+        let mut lines = text.lines();
+        match lines.next().and_then(|line| line.strip_prefix(FORM)) {
+            Some(VERSION) => {}
+            Some(_) => return Err("it is of a newer version of this program"),
+            None => return Err("its first line is another one"),
+        }
+        let values = |word: &'static str| lines.clone().filter_map(move |line| value(line, word)).collect::<Vec<_>>();
+        let size = match values("size").as_slice() {
+            [size] => decimal(size).ok_or("its size is no number")?,
+            _ => return Err("it does not have one line for the size"),
+        };
+        let number = match values("number").as_slice() {
+            [] => None,
+            [number] => Some(decimal(number).ok_or("its number is no number below 2^64")?),
+            _ => return Err("it has several lines for the number"),
+        };
+        Ok(Known { size, number, text: text.to_string() })
     }
 }
 
-/// What is known of the deal at a path; nothing where there is no such file.
+/// The value of a line that begins with this word.
+fn value<'l>(line: &'l str, word: &str) -> Option<&'l str> {
+    let (first, rest) = line.split_once(' ').unwrap_or((line, ""));
+    (first == word).then_some(rest)
+}
+
+/// What is said beside a deal, whether it is true or not; nothing where there is no such file.
 fn read(home: &Home) -> Result<Option<Known>, Failure> {
     let path = home.sidecar();
     let text = match fs::read(&path) {
@@ -48,16 +81,14 @@ fn read(home: &Home) -> Result<Option<Known>, Failure> {
     };
     let failed =
         |why| failure::data(format!("{} cannot be understood: {why}; without it nothing is compared", shown(&path)));
-    parse(&text).map(Some).map_err(failed)
+    Known::parse(&text).map(Some).map_err(failed)
 }
 
-/// Compares a deal's length with what is known of it. Says whether anything is known.
-pub fn agrees(deal: &Path, length: u64) -> Result<bool, Failure> {
+/// What is known of the deal at a path, which has this length. A deal that is known to have another is refused.
+pub fn known(deal: &Path, length: u64) -> Result<Option<Known>, Failure> {
     let home = Home::of(deal);
     match read(&home)? {
-        None => Ok(false),
-        Some(known) if known.size == length => Ok(true),
-        Some(known) => Err(failure::data(format!(
+        Some(known) if known.size != length => Err(failure::data(format!(
             "{} has {length} bytes, and {} says that it has {}; nothing is done. Bring back the whole deal, \
              or remove {} if the deal is another one now",
             shown(deal),
@@ -65,7 +96,32 @@ pub fn agrees(deal: &Path, length: u64) -> Result<bool, Failure> {
             known.size,
             shown(home.sidecar())
         ))),
+        known => Ok(known),
     }
+}
+
+/// The number that is said beside a deal, if any can be read.
+pub fn number(deal: &Path) -> Option<u64> {
+    read(&Home::of(deal)).ok()??.number
+}
+
+/// Whether that which will be known of a new deal lies beside it already. Whatever else lies there is another deal's,
+/// and refused.
+pub fn lies_beside(deal: &Path, new: &Known) -> Result<bool, Failure> {
+    let there = match known(deal, new.size)? {
+        None => return Ok(false),
+        Some(known) if known.number == new.number => return Ok(true),
+        Some(known) => known,
+    };
+    let said = |number: Option<u64>| number.map_or("no number".to_string(), |number| format!("the number {number}"));
+    Err(failure::data(format!(
+        "{} is there and says {}, and {} is to have {}; nothing is done. Remove {} if it is of another deal",
+        shown(Home::of(deal).sidecar()),
+        said(there.number),
+        shown(deal),
+        said(new.number),
+        shown(Home::of(deal).sidecar())
+    )))
 }
 
 #[cfg(test)]
@@ -74,9 +130,25 @@ mod tests {
 
     #[test]
     fn a_text_reads_back() {
-        assert_eq!(text(1024), "vizhuthamen deal 1\nsize 1024\n");
-        assert_eq!(parse(text(1024).as_bytes()), Ok(Known { size: 1024 }));
-        assert_eq!(parse(b"vizhuthamen deal 1\nnumber 7\nsize 512\n"), Ok(Known { size: 512 }));
+        assert_eq!(Known::new(1024, None).text(), "vizhuthamen deal 1\nsize 1024\n");
+        assert_eq!(
+            Known::new(512, Some(u64::MAX)).text(),
+            "vizhuthamen deal 1\nsize 512\nnumber 18446744073709551615\n"
+        );
+        for known in [Known::new(1024, None), Known::new(1024, Some(0)), Known::new(512, Some(u64::MAX))] {
+            assert_eq!(Known::parse(known.text().as_bytes()), Ok(known));
+        }
+        let known = Known::parse(b"vizhuthamen deal 1\nnumber 7\nsize 512\n").unwrap();
+        assert_eq!((known.size, known.number), (512, Some(7)));
+    }
+
+    #[test]
+    fn a_number_is_changed_and_other_lines_stay() {
+        let known = Known::parse(b"vizhuthamen deal 1\nlater word\nnumber 7\nnumbers 8\nsize 512").unwrap();
+        let changed = known.with_number(9);
+        assert_eq!(changed.text(), "vizhuthamen deal 1\nlater word\nnumbers 8\nsize 512\nnumber 9\n");
+        assert_eq!(Known::parse(changed.text().as_bytes()), Ok(changed.clone()));
+        assert_eq!(changed.with_number(10), known.with_number(10));
     }
 
     #[test]
@@ -84,9 +156,22 @@ mod tests {
         for text in
             ["", "size 512\n", "vizhuthamen deal 2\nsize 512\n", "vizhuthamen deal 1\n", "vizhuthamen deal 1\nsize x\n"]
         {
-            assert!(parse(text.as_bytes()).is_err(), "{text}");
+            assert!(Known::parse(text.as_bytes()).is_err(), "{text}");
         }
-        assert!(parse(b"vizhuthamen deal 1\nsize 512\nsize 1024\n").is_err());
-        assert!(parse(b"\xff").is_err());
+        for lines in [
+            "size 1024",
+            "size",
+            "number",
+            "number ",
+            "number x",
+            "number +7",
+            "number 7 8",
+            "number 0x7",
+            "number 7\nnumber 7",
+        ] {
+            assert!(Known::parse(format!("vizhuthamen deal 1\nsize 512\n{lines}\n").as_bytes()).is_err(), "{lines}");
+        }
+        assert!(Known::parse(b"vizhuthamen deal 1\nsize 512\nnumber 18446744073709551616\n").is_err());
+        assert!(Known::parse(b"\xff").is_err());
     }
 }

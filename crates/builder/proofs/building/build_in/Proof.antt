@@ -4,17 +4,24 @@ use denote.Ref.{now}
 use borrow.Author.Tests.{not-true, not-false}
 use borrow.Author.Needs.{needs}
 use Rattle.sizes.specs.SizesLaws.{entry-place}
-use Rattle.lent.specs.LentDeal.{LentDeal, dealSize, lentWith}
+use Rattle.lent.specs.LentDeal.{dealSize, lentWith}
 use Rattle.lent.specs.LentDealLaws.{usable}
 use Rattle.lent.specs.Usable.{Usable}
 use Rattle.lent.specs.UsableLaws.{usable-size, nodes-sized}
-use Rattle.builder.proofs.Answers.{Passed, KeptHere, kept-here, deal-refused, place-refused}
+use Rattle.builder.proofs.Answers.{Asked, Passed, KeptHere, kept-here, deal-refused, place-refused}
 use Rattle.builder.proofs.Answers.{entry-refused, output-short, record-answered}
 use Rattle.builder.proofs.building.build_in.Statement.{statement}
 use Rattle.builder.proofs.building.build_in.Tie as tie
 
-abbrev deal : tie.Start → LentDeal
-deal s = lentWith (s .args .has-tree) (now (s .args .deal)) (now (s .args .tree))
+-- what is asked
+abbrev asked : tie.Start → Asked
+asked s =
+    record {
+      deal = lentWith (s .args .has-tree) (now (s .args .deal)) (now (s .args .tree));
+      number = s .args .number;
+      place = s .args .place;
+      out = now (s .args .out);
+    }
 
 refusal-with-requires : tie.Need-refusal-with-requires
 refusal-with-requires c κs = search needs
@@ -29,14 +36,12 @@ start c = c .before .before .before .before
 returns : tie.Need-returns
 returns c =
     let k = c .before .before in
-    let s = start k in
-    deal-refused (deal s) (s .args .place) (now (s .args .out)) (c .refused .ensures) (k .refusal-with .ensures)
-    (c .before .if1 .taken)
+    deal-refused (asked (start k)) (c .refused .ensures) (k .refusal-with .ensures) (c .before .if1 .taken)
 
 place-allowed-requires : tie.Need-place-allowed-requires
 place-allowed-requires c κs =
     let k = c .before in
-    usable-size (usable (deal (start k)) (sym (k .refusal-with .ensures) ∙ c .if1 .left)) .allowed
+    usable-size (usable (asked (start k) .deal) (sym (k .refusal-with .ensures) ∙ c .if1 .left)) .allowed
 
 refused-requires-2 : tie.Need-refused-requires-2
 refused-requires-2 c κs = search needs
@@ -45,16 +50,14 @@ returns-2 : tie.Need-returns-2
 returns-2 c =
     let q = c .before .before in
     let k = q .before .before in
-    let s = start k in
-    place-refused (deal s) (s .args .place) (now (s .args .out)) (c .refused2 .ensures)
-    (sym (k .refusal-with .ensures) ∙ q .before .if1 .left)
+    place-refused (asked (start k)) (c .refused2 .ensures) (sym (k .refusal-with .ensures) ∙ q .before .if1 .left)
     (sym (q .place-allowed .ensures) ∙ not-true _ (c .before .if2 .taken))
 
 -- the tests that are passed before the index entry is read
 abbrev entered : tie.Else2 → tie.Start
 entered c = start (c .before .before .before)
 
-tests : (c : tie.Else2) → Passed (deal (entered c)) (entered c .args .place)
+tests : (c : tie.Else2) → Passed (asked (entered c))
 tests c =
     let q = c .before in
     record {
@@ -62,14 +65,14 @@ tests c =
       allowed = sym (q .place-allowed .ensures) ∙ not-false _ (c .if2 .left);
     }
 
-fine : (c : tie.Else2) → Usable (deal (entered c))
-fine c = usable (deal (entered c)) (tests c .none)
+fine : (c : tie.Else2) → Usable (asked (entered c) .deal)
+fine c = usable (asked (entered c) .deal) (tests c .none)
 
 kept-at-requires : tie.Need-kept-at-requires
 kept-at-requires c κs =
     let s = entered c in
     let u = fine c in
-    (u, entry-place (dealSize (deal s)) (s .args .place) (usable-size u .deal) (tests c .allowed) .in-deal)
+    (u, entry-place (dealSize (asked s .deal)) (s .args .place) (usable-size u .deal) (tests c .allowed) .in-deal)
 
 refused-requires-3 : tie.Need-refused-requires-3
 refused-requires-3 c κs = search needs
@@ -77,18 +80,16 @@ refused-requires-3 c κs = search needs
 returns-3 : tie.Need-returns-3
 returns-3 c =
     let k = c .before .before .before in
-    let s = entered (k .before) in
-    entry-refused (deal s) (s .args .place) (now (s .args .out)) (c .refused3 .ensures) (tests (k .before))
-    (k .kept-at .ensures) (not-true _ (c .before .if3 .taken))
+    entry-refused (asked (entered (k .before))) (c .refused3 .ensures) (tests (k .before)) (k .kept-at .ensures)
+    (not-true _ (c .before .if3 .taken))
 
 -- the index entry is kept
-kept : (c : tie.Else3) → KeptHere (deal (entered (c .before .before .before)))
-    (entered (c .before .before .before) .args .place) (c .before .before .kept-at .result)
+kept : (c : tie.Else3) → KeptHere (asked (entered (c .before .before .before))) (c .before .before .kept-at .result)
 kept c =
     let k = c .before .before in
     let s = entered (k .before) in
     let a = s .args in
-    kept-here (deal s) (a .place) (k .kept-at .result)
+    kept-here (asked s) (k .kept-at .result)
     (nodes-sized (a .has-tree) (now (a .deal)) (now (a .tree)) (fine (k .before))) (tests (k .before))
     (k .kept-at .ensures) (not-false _ (c .if3 .left))
 
@@ -101,9 +102,7 @@ refused-requires-4 c κs = search needs
 returns-4 : tie.Need-returns-4
 returns-4 c =
     let r = c .before .before in
-    let k = r .before .before .before in
-    let s = entered (k .before) in
-    output-short (deal s) (s .args .place) (now (s .args .out)) (c .refused4 .ensures) (kept (r .before))
+    output-short _ (c .refused4 .ensures) (kept (r .before))
     (omega (arith, r .record-length .ensures, c .before .if4 .taken))
 
 write-record-requires : tie.Need-write-record-requires
@@ -123,9 +122,7 @@ returns-5 : tie.Need-returns-5
 returns-5 c =
     let w = c .before .before in
     let r = w .before .before .before in
-    let k = r .before .before .before in
-    let s = entered (k .before) in
-    record-answered (deal s) (s .args .place) (now (s .args .out)) (rw (r .record-length .ensures)) (kept (r .before))
+    record-answered _ (rw (r .record-length .ensures)) (kept (r .before))
     (omega (arith, r .record-length .ensures, w .before .before .if4 .left)) (w .write-record .ensures)
 
 pub build-in-spec : {M : Type 1} → statement M

@@ -1,6 +1,6 @@
 -- The two heads, and then the siblings behind each.
-use mathlib.Core.Path.{sym, ap, _∙_}
-use Prim.Native.Nat.{ℕ, _+_, _-_, _*_, _≤_}
+use mathlib.Core.Path.{_≡_, sym, ap, _∙_}
+use Prim.Native.Nat.{ℕ, _+_, _-_, _*_, _^_, _≤_, _<_}
 use native.Mathlib.Omega.{arith}
 use mathlib.Core.List.{[]}
 use lib.ListN.{length}
@@ -52,6 +52,17 @@ level h = h .before .before .before
 abbrev first : tie.After-put-head2 → tie.After-put-head
 first h = h .before .before .before .before .before
 
+abbrev second : tie.After-write-paths → tie.After-put-head2
+second b = b .before .before .before .before
+
+-- the place where the second path ends
+end : (h : tie.After-put-head2)
+    → let l = level (first h) in
+    let n = l .deal-level .result in
+    let a = start l .args in
+    h .put-head2 .result + 32 * (n - 1) ≡ a .at + (3 + 32 * (n - a .level)) + (3 + 32 * (n - 1))
+end h = omega (arith, first h .put-head .ensures .1, h .put-head2 .ensures .1)
+
 deal-level-requires : tie.Need-deal-level-requires
 deal-level-requires c κs = usable-size (c .before .before .before .pre .0) .allowed
 
@@ -72,16 +83,16 @@ put-head-requires c κs =
 row-requires-2 : tie.Need-row-requires-2
 row-requires-2 c κs = search needs
 
+sub-entry-size : tie.Need-sub-entry-size
+sub-entry-size c = omega (arith, high (level (c .before .before .before)))
+
+mul-entry-size : tie.Need-mul-entry-size
+mul-entry-size c = omega (arith, few (level (c .before .before .before)))
+
 add-put-head : tie.Need-add-put-head
 add-put-head c =
     let h = c .before .before .before .before in
     omega (arith, h .put-head .ensures .1, room (level h))
-
-sub-put-head : tie.Need-sub-put-head
-sub-put-head c = omega (arith, high (level (c .before .before .before .before)))
-
-mul-put-head : tie.Need-mul-put-head
-mul-put-head c = omega (arith, few (level (c .before .before .before .before)))
 
 put-head-requires-2 : tie.Need-put-head-requires-2
 put-head-requires-2 c κs =
@@ -120,13 +131,21 @@ write-paths-requires c κs =
       ),
     )
 
+add-result : tie.Need-add-result
+add-result c =
+    let h2 = second (c .before .before) in
+    let l = level (first h2) in
+    let fit : h2 .put-head2 .result + 32 * (l .deal-level .result - 1) < 2 ^ 64 =
+    omega (arith, end h2, room l, start l .good .0) in
+    record { fits = fit }
+
 same-length : tie.Need-same-length
 same-length c = search needs
 
 returns : tie.Need-returns
 returns c =
     let b = c .before .before in
-    let h2 = b .before .before .before .before in
+    let h2 = second b in
     let h = first h2 in
     let l = level h in
     let s = start l in
@@ -136,15 +155,17 @@ returns c =
     let segment-path = siblings (deal s .nodes) (top s - a .level) (a .level) (a .segment .position) in
     let entry-path = siblings (deal s .nodes) (top s - 1) 1 (a .entry-position) in
     let sized = path-length (deal s .nodes) (top s) (each s) in
-    paths-written (now (a .out)) segment-path entry-path (a .at) (h .before .before .row .result .tag)
-    (h2 .before .before .row2 .result .tag) (32 * (n - a .level)) (32 * (n - 1))
-    (sized _ (s .pre .1 .0 .1) ∙ ap (λ (k : ℕ). 32 * (k - a .level)) (sym e))
-    (sized _ (s .pre .1 .1 .1 .0) ∙ ap (λ (k : ℕ). 32 * (k - 1)) (sym e))
-    (room l) (h .put-head .ensures .0) (h .put-head .ensures .1) (h2 .put-head2 .ensures .0) (h2 .put-head2 .ensures .1)
-    (b .write-paths .ensures .1)
-    ∙ (λ j. splice
-    (splice (now (a .out)) (a .at) (putField (h .before .before .row .ensures j .tag) segment-path []))
-    (a .at + (3 + 32 * (e j - a .level))) (putField (h2 .before .before .row2 .ensures j .tag) entry-path []))
+    let sized-segment = sized _ (s .pre .1 .0 .1) ∙ ap (λ (k : ℕ). 32 * (k - a .level)) (sym e) in
+    let sized-entry = sized _ (s .pre .1 .1 .1 .0) ∙ ap (λ (k : ℕ). 32 * (k - 1)) (sym e) in (
+      omega (arith, e, end h2),
+      paths-written (now (a .out)) segment-path entry-path (a .at) (h .before .before .row .result .tag)
+          (h2 .before .before .row2 .result .tag) (32 * (n - a .level)) (32 * (n - 1)) sized-segment sized-entry
+          (room l) (h .put-head .ensures .0) (h .put-head .ensures .1) (h2 .put-head2 .ensures .0)
+          (h2 .put-head2 .ensures .1) (b .write-paths .ensures .1)
+          ∙ (λ j. splice
+          (splice (now (a .out)) (a .at) (putField (h .before .before .row .ensures j .tag) segment-path []))
+          (a .at + (3 + 32 * (e j - a .level))) (putField (h2 .before .before .row2 .ensures j .tag) entry-path [])),
+    )
 
 pub put-paths-spec : {M : Type 1} → statement M
 put-paths-spec =
@@ -156,10 +177,11 @@ put-paths-spec =
     row-requires
     put-head-requires
     row-requires-2
+    sub-entry-size
+    mul-entry-size
     add-put-head
-    sub-put-head
-    mul-put-head
     put-head-requires-2
     write-paths-requires
+    add-result
     same-length
     returns)

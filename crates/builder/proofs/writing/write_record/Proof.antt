@@ -1,72 +1,98 @@
 -- Row by row, each field where the one before it ends.
-use mathlib.Core.Path.{_≡_, refl, sym, _∙_}
-use mathlib.Core.List.{[]}
-use Prim.Native.Nat.{_+_, _*_}
+use mathlib.Core.Path.{_≡_, sym, _∙_}
+use mathlib.Core.List.{List}
+use Prim.Native.Nat.{ℕ, _+_, _*_, _≤_}
 use native.Mathlib.Omega.{arith}
 use lib.ListN.{length}
 use denote.Ref.{now}
-use Rattle.octets.specs.Splice.{splice}
-use Rattle.octets.specs.LittleEndian.{bytesOf}
-use Rattle.octets.specs.LittleEndianLaws.{length-bytesOf}
-use Rattle.fields.specs.Table.{putField}
 use Rattle.fields.specs.WrittenLaws.{wrote-field}
-use Rattle.record.specs.Form.{tableRow, recordLength}
+use Rattle.record.specs.Form.{tableRow}
 use Rattle.lent.specs.LentDeal.{LentDeal, lentWith}
 use Rattle.lent.specs.UsableLaws.{nodes-sized}
 use Rattle.builder.specs.BuildLaws.{entry-start}
-use Rattle.builder.proofs.RecordWritten.{WorkedOut, segment-inside, paths-room, segment-path-sized}
-use Rattle.builder.proofs.RecordWritten.{entry-path-sized, SegmentLevels, EntryLevels, SegmentPath, EntryPath}
-use Rattle.builder.proofs.RecordWritten.{record-written}
+use Rattle.builder.proofs.RecordWritten.{WorkedOut, SegmentLevels, EntryLevels, segment-inside, fields-room}
+use Rattle.builder.proofs.RecordWritten.{wrote-number, wrote-paths, record-written}
 use borrow.Author.Needs.{needs}
 use Rattle.builder.proofs.writing.write_record.Statement.{statement}
 use Rattle.builder.proofs.writing.write_record.Tie as tie
 
--- the field before each, and where the function starts, before the level and the position are worked out
-abbrev three : tie.After-put-number3 → tie.After-put-number2
-three c = c .before .before .before .before .before
+-- from each field to the one before it, and from the first to the start, where the position and the level stand between
+abbrev paths : tie.After-put-number4 → tie.After-put-paths
+paths c = c .before .before .before .before .before
 
-abbrev two : tie.After-put-number2 → tie.After-put-number
-two c = c .before .before .before .before .before
+abbrev place : tie.After-put-paths → tie.After-put-number3
+place c = c .before .before .before .before
 
-abbrev one : tie.After-put-number → tie.After-put-node
-one c = c .before .before .before .before .before
+abbrev size : tie.After-put-number3 → tie.After-put-number2
+size c = c .before .before .before .before .before
 
-abbrev position : tie.After-put-number3 → tie.After-segment-position
-position c = one (two (three c)) .before .before .before .before
+abbrev offset : tie.After-put-number2 → tie.After-put-number
+offset c = c .before .before .before .before .before
 
-abbrev entered : tie.After-segment-position → tie.Start
-entered p = p .before .before .before .before .before
+abbrev commitment : tie.After-put-number → tie.After-put-node
+commitment c = c .before .before .before .before .before
+
+abbrev position : tie.After-put-node → tie.After-segment-position
+position c = c .before .before .before .before
+
+abbrev start : tie.After-segment-position → tie.Start
+start p = p .before .before .before .before .before
 
 abbrev deal : tie.Start → LentDeal
 deal s = lentWith (s .args .has-tree) (now (s .args .deal)) (now (s .args .tree))
 
 -- the level and the position
 worked-out : (p : tie.After-segment-position)
-    → WorkedOut (deal (entered p)) (entered p .args .entry) (entered p .args .place)
-    (p .before .segment-level .result) (p .segment-position .result)
+    → WorkedOut (deal (start p)) (start p .args .entry) (start p .args .place) (p .before .segment-level .result)
+    (p .segment-position .result)
 worked-out p =
     record {
-      each = nodes-sized (entered p .args .has-tree) (now (entered p .args .deal)) (now (entered p .args .tree))
-          (entered p .pre .0);
-      within = entered p .pre .1 .0;
+      each = nodes-sized (start p .args .has-tree) (now (start p .args .deal)) (now (start p .args .tree))
+          (start p .pre .0);
+      within = start p .pre .1 .0;
       level-is = p .before .segment-level .ensures;
       position-is = p .segment-position .ensures;
     }
 
--- after the numbers: the output's length, and the place of the first path
-kept : (c : tie.After-put-number3) → length (c .put-number3 .last .0) ≡ length (now (entered (position c) .args .out))
-kept c = c .put-number3 .kept .0 ∙ three c .put-number2 .kept .0 ∙ two (three c) .put-number .kept .0
-    ∙ one (two (three c)) .put-node .kept .0
+-- the output has room for the fields
+room : (p : tie.After-segment-position)
+    → let w = worked-out p in
+    35 + 3 * 11 + (3 + 32 * SegmentLevels w) + (3 + 32 * EntryLevels w) + 11 ≤ length (now (start p .args .out))
+room p = fields-room (worked-out p) (start p .pre .1 .1 .1)
 
-after-numbers : (c : tie.After-put-number3) → c .put-number3 .result ≡ 68
-after-numbers c =
-    omega (
-      arith,
-      c .put-number3 .ensures .1,
-      three c .put-number2 .ensures .1,
-      two (three c) .put-number .ensures .1,
-      one (two (three c)) .put-node .ensures .1,
-    )
+-- after each field: the output has kept its length, and the next field has the place n
+abbrev Reached : tie.After-segment-position → List ℕ → ℕ → ℕ → Type 0
+Reached p out at n = (length out ≡ length (now (start p .args .out))) × (at ≡ n)
+
+after-commitment : (c : tie.After-put-node) → Reached (position c) (c .put-node .last .0) (c .put-node .result) 35
+after-commitment c = (c .put-node .kept .0, c .put-node .ensures .1)
+
+after-offset : (c : tie.After-put-number)
+    → Reached (position (commitment c)) (c .put-number .last .0) (c .put-number .result) 46
+after-offset c =
+    let b = after-commitment (commitment c) in
+    (c .put-number .kept .0 ∙ b .0, omega (arith, c .put-number .ensures .1, b .1))
+
+after-size : (c : tie.After-put-number2)
+    → Reached (position (commitment (offset c))) (c .put-number2 .last .0) (c .put-number2 .result) 57
+after-size c =
+    let b = after-offset (offset c) in
+    (c .put-number2 .kept .0 ∙ b .0, omega (arith, c .put-number2 .ensures .1, b .1))
+
+after-place : (c : tie.After-put-number3)
+    → Reached (position (commitment (offset (size c)))) (c .put-number3 .last .0) (c .put-number3 .result) 68
+after-place c =
+    let b = after-size (size c) in
+    (c .put-number3 .kept .0 ∙ b .0, omega (arith, c .put-number3 .ensures .1, b .1))
+
+after-paths : (c : tie.After-put-paths)
+    → let p = position (commitment (offset (size (place c)))) in
+    let w = worked-out p in
+    Reached p (c .put-paths .last .0) (c .put-paths .result)
+    (68 + (3 + 32 * SegmentLevels w) + (3 + 32 * EntryLevels w))
+after-paths c =
+    let b = after-place (place c) in
+    (c .put-paths .kept .0 ∙ b .0, omega (arith, c .put-paths .ensures .0, b .1))
 
 segment-level-requires : tie.Need-segment-level-requires
 segment-level-requires c κs = search needs
@@ -78,106 +104,98 @@ row-requires : tie.Need-row-requires
 row-requires c κs = search needs
 
 put-node-requires : tie.Need-put-node-requires
-unfolding recordLength
-put-node-requires c κs = search needs
+put-node-requires c κs = omega (arith, room (c .before .before .before))
 
 row-requires-2 : tie.Need-row-requires-2
 row-requires-2 c κs = search needs
 
 put-number-requires : tie.Need-put-number-requires
-unfolding recordLength
-put-number-requires c κs = search needs
+put-number-requires c κs =
+    let f = c .before .before .before .before in
+    let b = after-commitment f in
+    omega (arith, b .0, b .1, room (position f))
 
 row-requires-3 : tie.Need-row-requires-3
 row-requires-3 c κs = search needs
 
 put-number-requires-2 : tie.Need-put-number-requires-2
-unfolding recordLength
-put-number-requires-2 c κs = search needs
+put-number-requires-2 c κs =
+    let f = c .before .before .before .before in
+    let b = after-offset f in
+    omega (arith, b .0, b .1, room (position (commitment f)))
 
 row-requires-4 : tie.Need-row-requires-4
 row-requires-4 c κs = search needs
 
 put-number-requires-3 : tie.Need-put-number-requires-3
-unfolding recordLength
 put-number-requires-3 c κs =
-    let k = c .before .before .before .before in
-    let first = one (two k) in
-    let p = first .before .before .before .before in
-    let same = k .put-number2 .kept .0 ∙ two k .put-number .kept .0 ∙ first .put-node .kept .0 in
-    omega (
-      arith,
-      same,
-      entered p .pre .1 .1 .1,
-      k .put-number2 .ensures .1,
-      two k .put-number .ensures .1,
-      first .put-node .ensures .1,
-    )
+    let f = c .before .before .before .before in
+    let b = after-size f in
+    omega (arith, b .0, b .1, room (position (commitment (offset f))))
 
 put-paths-requires : tie.Need-put-paths-requires
 put-paths-requires c κs =
-    let k = c .before .before .before in
-    let w = worked-out (position k) in
-    let s = entered (position k) in
+    let f = c .before .before .before in
+    let b = after-place f in
+    let p = position (commitment (offset (size f))) in
+    let w = worked-out p in
+    let s = start p in
     let low = w .within .size-is .level-low in (
       s .pre .0,
       (
         (omega (arith, low, w .level-is), segment-inside w),
         (
           s .pre .1 .1 .0 ∙ (λ j. deal s .nodes (sym (w .level-is) j) (sym (w .position-is) j)),
-          (entry-start (w .within), paths-room w (kept k) (s .pre .1 .1 .1) (after-numbers k)),
+          (entry-start (w .within), omega (arith, b .0, b .1, room p)),
         ),
       ),
     )
 
+row-requires-5 : tie.Need-row-requires-5
+row-requires-5 c κs = search needs
+
+put-number-requires-4 : tie.Need-put-number-requires-4
+put-number-requires-4 c κs =
+    let f = c .before .before .before .before in
+    let b = after-paths f in
+    omega (arith, b .0, b .1, room (position (commitment (offset (size (place f))))))
+
 same-length : tie.Need-same-length
 same-length c =
     let last = c .before .before in
-    last .put-paths .kept .0 ∙ kept (last .before .before .before .before)
+    last .put-number4 .kept .0 ∙ after-paths (paths last) .0
 
 returns : tie.Need-returns
 returns c =
-    let f5 = c .before .before in
-    let f4 = f5 .before .before .before .before in
-    let f3 = three f4 in
-    let f2 = two f3 in
-    let f1 = one f2 in
-    let p = position f4 in
-    let a = entered p .args in
+    let f7 = c .before .before in
+    let f6 = paths f7 in
+    let f4 = place f6 in
+    let f3 = size f4 in
+    let f2 = offset f3 in
+    let f1 = commitment f2 in
+    let p = position f1 in
+    let a = start p .args in
     let w = worked-out p in
-    let size = f1 .put-node .ensures .2 in
-    let at = f4 .put-number3 .result in
-    record-written w (now (a .out)) size (entered p .pre .1 .1 .1) (
+    let sized = f1 .put-node .ensures .2 in
+    record-written w (a .number) (now (a .out)) sized (start p .pre .1 .1 .1) (
       _,
       _,
-      wrote-field (tableRow 0) (a .entry .commitment) (f1 .before .row .ensures) size (f1 .put-node .ensures .0)
+      wrote-field (tableRow 0) (a .entry .commitment) (f1 .before .row .ensures) sized (f1 .put-node .ensures .0)
           (f1 .put-node .ensures .1),
       (
         _,
         _,
-        wrote-field (tableRow 1) (bytesOf 8 (a .entry .offset)) (f2 .before .row2 .ensures)
-            (length-bytesOf 8 (a .entry .offset)) (f2 .put-number .ensures .0) (f2 .put-number .ensures .1),
+        wrote-number (tableRow 1) (a .entry .offset) (f2 .before .row2 .ensures) (f2 .put-number .ensures),
         (
           _,
           _,
-          wrote-field (tableRow 2) (bytesOf 8 (a .entry .size)) (f3 .before .row3 .ensures)
-              (length-bytesOf 8 (a .entry .size)) (f3 .put-number2 .ensures .0) (f3 .put-number2 .ensures .1),
+          wrote-number (tableRow 2) (a .entry .size) (f3 .before .row3 .ensures) (f3 .put-number2 .ensures),
           (
             _,
             _,
-            wrote-field (tableRow 3) (bytesOf 8 (a .place)) (f4 .before .row4 .ensures) (length-bytesOf 8 (a .place))
-                (f4 .put-number3 .ensures .0) (f4 .put-number3 .ensures .1),
-            (
-              splice (f4 .put-number3 .last .0) at (putField (tableRow 4 .tag) (SegmentPath w) []),
-              at + (3 + 32 * SegmentLevels w),
-              wrote-field (tableRow 4) (SegmentPath w) refl (segment-path-sized w) refl refl,
-              (
-                f5 .put-paths .last .0,
-                at + (3 + 32 * SegmentLevels w) + (3 + 32 * EntryLevels w),
-                wrote-field (tableRow 5) (EntryPath w) refl (entry-path-sized w) (f5 .put-paths .ensures) refl,
-                refl,
-              ),
-            ),
+            wrote-number (tableRow 3) (a .place) (f4 .before .row4 .ensures) (f4 .put-number3 .ensures),
+            wrote-paths w (a .number) (f6 .put-paths .ensures)
+                (wrote-number (tableRow 6) (a .number) (f7 .before .row5 .ensures) (f7 .put-number4 .ensures)),
           ),
         ),
       ),
@@ -198,5 +216,7 @@ write-record-spec =
     row-requires-4
     put-number-requires-3
     put-paths-requires
+    row-requires-5
+    put-number-requires-4
     same-length
     returns)

@@ -1,7 +1,8 @@
 -- Row by row: what was read so far, and what is left of the table.
 use mathlib.Core.Path.{_≡_, refl, sym, ap, _∙_}
-use Prim.Native.Nat.{_+_, _-_, _≤_}
+use Prim.Native.Nat.{ℕ, _+_, _-_, _≤_}
 use native.Mathlib.Omega.{arith}
+use mathlib.Core.List.{List}
 use lib.ListN.{length, replicate, length-set}
 use denote.Ref.{now}
 use Rattle.fields.specs.FieldAt.{fieldFor}
@@ -16,13 +17,15 @@ use Rattle.record.proofs.form.parse.Tie as tie
 
 abbrev Inv-loop : tie.InvT-loop
 Inv-loop «record» starts₀ lengths₀ at₀ i₀ starts lengths at i =
-    (i ≤ 6) × (length starts ≡ 6) × (length lengths ≡ 6) × UpTo «record» starts lengths at i
+    (i ≤ length layout) × (length starts ≡ length layout) × (length lengths ≡ length layout)
+    × UpTo «record» starts lengths at i
 
 abbrev μ-loop : tie.MeasureT-loop
-μ-loop «record» starts₀ lengths₀ at₀ i₀ starts lengths at i = 6 - i
+μ-loop «record» starts₀ lengths₀ at₀ i₀ starts lengths at i = length layout - i
 
 loop-holds : tie.Need-loop-holds Inv-loop μ-loop
-loop-holds c = (omega arith, refl, refl, no-rows (now (c .before .args .record)) (replicate 6 0) (replicate 6 0))
+loop-holds c = let zeros : List ℕ = replicate (length layout) 0 in
+    (omega arith, refl, refl, no-rows (now (c .before .args .record)) zeros zeros)
 
 row-requires : tie.Need-row-requires Inv-loop μ-loop
 row-requires c κs = search needs

@@ -1,4 +1,4 @@
--- Each row by its number.
+-- Each row by its index.
 use mathlib.Core.Path.{_≡_, sym, ap, _∙_}
 use native.Mathlib.Omega.{arith}
 use Rattle.record.specs.Form.{tableRow}
@@ -17,6 +17,9 @@ fixed-requires-3 c κs = search needs
 
 fixed-requires-4 : tie.Need-fixed-requires-4
 fixed-requires-4 c κs = search needs
+
+fixed-requires-5 : tie.Need-fixed-requires-5
+fixed-requires-5 c κs = search needs
 
 nodes-requires : tie.Need-nodes-requires
 nodes-requires c κs = search needs
@@ -40,19 +43,23 @@ returns-5 : tie.Need-returns-5
 returns-5 c = c .nodes .ensures ∙ ap tableRow (sym (c .before .match .keys5))
 
 returns-6 : tie.Need-returns-6
-returns-6 c =
+returns-6 c = c .nodes2 .ensures ∙ ap tableRow (sym (c .before .match .keys6))
+
+returns-7 : tie.Need-returns-7
+returns-7 c =
     let none = c .before .match .rest in
-    let number = c .before .before .args .number in
-    let last : number ≡ 5 = omega (
+    let index = c .before .before .args .index in
+    let last : index ≡ 6 = omega (
       arith,
       c .before .before .pre,
+      none .0 .0 .0 .0 .0 .1,
       none .0 .0 .0 .0 .1,
       none .0 .0 .0 .1,
       none .0 .0 .1,
       none .0 .1,
       none .1,
     ) in
-    c .nodes2 .ensures ∙ ap tableRow (sym last)
+    c .fixed5 .ensures ∙ ap tableRow (sym last)
 
 pub row-spec : {M : Type 1} → statement M
 row-spec =
@@ -64,9 +71,11 @@ row-spec =
     fixed-requires-4
     nodes-requires
     nodes-requires-2
+    fixed-requires-5
     returns
     returns-2
     returns-3
     returns-4
     returns-5
-    returns-6)
+    returns-6
+    returns-7)

@@ -12,7 +12,7 @@ use Rattle.settle.proofs.records.settle_records.Tie as tie
 
 -- the deal terms and the two records
 abbrev terms : tie.Start → DealTerms
-terms s = dealTerms (now (s .args .commitment)) (s .args .size)
+terms s = dealTerms (now (s .args .commitment)) (s .args .size) (s .args .number)
 
 abbrev one : tie.Start → List ℕ
 one s = now (s .args .first)

@@ -31,7 +31,7 @@ deal s = lentWith (s .args .has-tree) (now (s .args .deal)) (now (s .args .tree)
 abbrev named : tie.Start → Fields
 named s = fieldsAt (now (s .args .record)) (s .args .x)
 
-taken : (s : tie.Start) → Accepted (termsOf (deal s)) (named s)
+taken : (s : tie.Start) → Accepted (termsOf (deal s) (s .args .x .number)) (named s)
 taken s = accepted (s .pre .1)
 
 abbrev start : tie.After-entry-for → tie.Start

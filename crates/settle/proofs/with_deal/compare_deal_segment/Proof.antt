@@ -30,7 +30,7 @@ deal s = lentWith (s .args .has-tree) (now (s .args .deal)) (now (s .args .tree)
 abbrev named : tie.Start → Fields
 named s = fieldsAt (now (s .args .record)) (s .args .x)
 
-taken : (s : tie.Start) → Accepted (termsOf (deal s)) (named s)
+taken : (s : tie.Start) → Accepted (termsOf (deal s) (s .args .x .number)) (named s)
 taken s = accepted (s .pre .1)
 
 numbers : (s : tie.Start) → let x = named s in InDeal (dealSize (deal s)) (x .place) (x .offset) (x .size)

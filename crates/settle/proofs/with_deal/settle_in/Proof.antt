@@ -25,14 +25,18 @@ use Rattle.settle.specs.AcceptedRecord.{AcceptedRecord}
 use Rattle.settle.specs.AcceptedRecordLaws.{accepted, within}
 use Rattle.settle.specs.OwnPaths.{ownPaths}
 use Rattle.settle.proofs.OwnPath.{paths-room, own-length, own-segment, own-entry}
-use Rattle.settle.proofs.DealCases.{inside, deal-refused, lent, check-refused, entries-differ, entries-same}
+use Rattle.settle.proofs.DealCases.{inside, deal-refused, lent, check-refused, own-number}
+use Rattle.settle.proofs.DealCases.{entries-differ, entries-same}
 use borrow.Author.Needs.{needs}
 use Rattle.settle.proofs.with_deal.settle_in.Statement.{statement}
 use Rattle.settle.proofs.with_deal.settle_in.Tie as tie
 
--- the deal and the record's bytes
+-- the deal, its number and the record's bytes
 abbrev deal : tie.Start → LentDeal
 deal s = lentWith (s .args .has-tree) (now (s .args .deal)) (now (s .args .tree))
+
+abbrev number : tie.Start → ℕ
+number s = s .args .number
 
 abbrev bytes : tie.Start → List ℕ
 bytes s = now (s .args .record)
@@ -90,11 +94,11 @@ node c = node1 (written c)
 
 checked : (c : tie.After-check)
     → let s = start (node c) in
-    c .check .result ≡ checkOf (termsOf (deal s)) (bytes s)
+    c .check .result ≡ checkOf (termsOf (deal s) (number s)) (bytes s)
 checked c =
     let s = start (node c) in
     c .check .ensures
-    ∙ ap (λ (commitment : List ℕ). checkOf (dealTerms commitment (dealSize (deal s))) (bytes s))
+    ∙ ap (λ (commitment : List ℕ). checkOf (dealTerms commitment (dealSize (deal s)) (number s)) (bytes s))
     (written c .write-own .ensures .0)
 
 -- the record is accepted, and its place, size and offset are the ones chosen
@@ -104,8 +108,13 @@ node2 c = node (c .before)
 abbrev x : tie.Else2 → ParsedRecord
 x c = parsed (node2 c) .parse .result
 
-taken : (c : tie.Else2) → let s = start (node2 c) in AcceptedRecord (termsOf (deal s)) (bytes s) (x c)
+taken : (c : tie.Else2) → let s = start (node2 c) in AcceptedRecord (termsOf (deal s) (number s)) (bytes s) (x c)
 taken c = record { parsed-is = parsed (node2 c) .parse .ensures; checked = sym (checked (c .before)) ∙ c .if2 .left }
+
+taken-own : (c : tie.Else2)
+    → let s = start (node2 c) in
+    AcceptedRecord (termsOf (deal s) (x c .number)) (bytes s) (x c)
+taken-own c = own-number (deal (start (node2 c))) (taken c)
 
 place-is : (c : tie.Else2) → place (node2 c) ≡ x c .place
 place-is c = node2 c .before .before .before .allowed-place .ensures .1 (accepted (taken c) .place-allowed)
@@ -192,7 +201,8 @@ returns : tie.Need-returns
 returns c =
     let f = c .before .before in
     let s = f .before .before .before .before in
-    c .not-settled .ensures ∙ deal-refused (deal s) (bytes s) (f .refusal-with .ensures) (c .before .if1 .taken)
+    c .not-settled .ensures
+    ∙ deal-refused (deal s) (number s) (bytes s) (f .refusal-with .ensures) (c .before .if1 .taken)
 
 parse-requires : tie.Need-parse-requires
 parse-requires c κs = search needs
@@ -241,7 +251,7 @@ returns-2 c =
     let k = c .before .before in
     let e = else1 (node k) in
     let s = start1 e in
-    c .not-settled2 .ensures ∙ check-refused (deal s) (bytes s) (fine e) (checked k) (c .before .if2 .taken)
+    c .not-settled2 .ensures ∙ check-refused (deal s) (number s) (bytes s) (fine e) (checked k) (c .before .if2 .taken)
 
 add-end : tie.Need-add-end
 add-end c = omega (arith, paths-fit (c .before), buffer-length (c .before))
@@ -260,7 +270,7 @@ compare-deal-entry-requires c κs =
     let e = c .before .before .before in
     let m = x e .«segment_path_length» in
     let n = x e .«entry_path_length» in
-    (fine (else1 (node2 e)), taken e, part-range (out (written (e .before))) m n ∙ entry-path-is e)
+    (fine (else1 (node2 e)), taken-own e, part-range (out (written (e .before))) m n ∙ entry-path-is e)
 
 settled-from-requires : tie.Need-settled-from-requires
 settled-from-requires c κs = search needs
@@ -288,7 +298,7 @@ compare-deal-segment-requires c κs =
     let n = node2 e in
     let nodes = deal (start n) .nodes in (
       fine (else1 n),
-      taken e,
+      taken-own e,
       n .segment-node .ensures
           ∙ (λ j. nodes (segmentLevel (size-is e j)) (segmentPosition (offset-is e j) (size-is e j))),
       segment-path-is e,
