@@ -1,11 +1,11 @@
--- Bits of little-endian numbers: eight of them from any bit on lie in two bytes.
+-- Bits of little-endian numbers. Eight of them from any bit on lie in two bytes.
 use mathlib.Core.Path.{_≡_, refl, sym, ap, ap₂, _∙_}
 use Prim.Native.Nat.{ℕ, zero, suc, _+_, _-_, _*_, _/_, _%_, _^_, _≤_, _<_}
-use native.Mathlib.Nat.{pow-suc, add-zero, mul-assoc, div-one, zero-div, mod-add-div, add-mul-div-left}
+use native.Mathlib.Nat.{pow-suc, add-zero, mul-assoc, mul-comm, div-one, zero-div, mod-add-div, add-mul-div-left}
 use native.Mathlib.Nat.{add-mul-mod-self-left}
 use native.Mathlib.Omega.{arith}
-use mathlib.Core.List.{List, [], _∷_}
-use lib.ListN.{take, drop, getD}
+use mathlib.Core.List.{List, [], _∷_, _++_}
+use lib.ListN.{length, take, drop, getD}
 use lib.Seq.{getD-drop}
 use lib.Pow.{pow-pos, pow-add, shr-shr}
 use Rattle.octets.specs.Bytes.{Bytes}
@@ -17,21 +17,29 @@ power-of-bytes (suc n) =
     let e : 8 * suc n ≡ 8 * n + 8 = omega arith in
     ap (λ (k : ℕ). 2 ^ k) e ∙ pow-add 2 (8 * n) 8 ∙ ap (λ (x : ℕ). x * 256) (power-of-bytes n) ∙ sym (pow-suc 256 n)
 
--- eight bits from bit s on do not depend on what stands from bit w on
+-- n bits from bit s on do not depend on what stands from bit w on
+pub low-bits-below : (x k w s n : ℕ) → s + n ≤ w → (x + 2 ^ w * k) / 2 ^ s % 2 ^ n ≡ x / 2 ^ s % 2 ^ n
+low-bits-below x k w s n h =
+    let r = w - (s + n) in
+    let e : w ≡ s + (n + r) = omega arith in
+    let p : 2 ^ w ≡ 2 ^ s * (2 ^ n * 2 ^ r) =
+    ap (λ (i : ℕ). 2 ^ i) e ∙ pow-add 2 s (n + r) ∙ ap (λ (y : ℕ). 2 ^ s * y) (pow-add 2 n r) in
+    ap (λ (y : ℕ). (x + y * k) / 2 ^ s % 2 ^ n) p
+    ∙ ap (λ (y : ℕ). (x + y) / 2 ^ s % 2 ^ n) (mul-assoc (2 ^ s) (2 ^ n * 2 ^ r) k)
+    ∙ ap (λ (y : ℕ). y % 2 ^ n) (add-mul-div-left x (2 ^ n * 2 ^ r * k) (pow-pos s))
+    ∙ ap (λ (y : ℕ). (x / 2 ^ s + y) % 2 ^ n) (mul-assoc (2 ^ n) (2 ^ r) k)
+    ∙ add-mul-mod-self-left (x / 2 ^ s) (2 ^ n) (2 ^ r * k)
+
+pub low-bits-kept : (v w s n : ℕ) → s + n ≤ w → v % 2 ^ w / 2 ^ s % 2 ^ n ≡ v / 2 ^ s % 2 ^ n
+low-bits-kept v w s n h =
+    sym (low-bits-below (v % 2 ^ w) (v / 2 ^ w) w s n h) ∙ ap (λ (y : ℕ). y / 2 ^ s % 2 ^ n) (mod-add-div v (2 ^ w))
+
+-- the same of eight bits
 pub bits-below : (x k w s : ℕ) → s + 8 ≤ w → (x + 2 ^ w * k) / 2 ^ s % 256 ≡ x / 2 ^ s % 256
-bits-below x k w s h =
-    let e : w ≡ s + (8 + (w - (s + 8))) = omega arith in
-    let p : 2 ^ w ≡ 2 ^ s * (256 * 2 ^ (w - (s + 8))) =
-    ap (λ (i : ℕ). 2 ^ i) e ∙ pow-add 2 s (8 + (w - (s + 8))) ∙ ap (λ (y : ℕ). 2 ^ s * y) (pow-add 2 8 (w - (s + 8))) in
-    ap (λ (y : ℕ). (x + y * k) / 2 ^ s % 256) p
-    ∙ ap (λ (y : ℕ). (x + y) / 2 ^ s % 256) (mul-assoc (2 ^ s) (256 * 2 ^ (w - (s + 8))) k)
-    ∙ ap (λ (y : ℕ). y % 256) (add-mul-div-left x (256 * 2 ^ (w - (s + 8)) * k) (pow-pos s))
-    ∙ ap (λ (y : ℕ). (x / 2 ^ s + y) % 256) (mul-assoc 256 (2 ^ (w - (s + 8))) k)
-    ∙ add-mul-mod-self-left (x / 2 ^ s) 256 (2 ^ (w - (s + 8)) * k)
+bits-below x k w s h = low-bits-below x k w s 8 h
 
 pub bits-kept : (v w s : ℕ) → s + 8 ≤ w → v % 2 ^ w / 2 ^ s % 256 ≡ v / 2 ^ s % 256
-bits-kept v w s h =
-    sym (bits-below (v % 2 ^ w) (v / 2 ^ w) w s h) ∙ ap (λ (y : ℕ). y / 2 ^ s % 256) (mod-add-div v (2 ^ w))
+bits-kept v w s h = low-bits-kept v w s 8 h
 
 -- the bytes of a number
 pub take-bytesOf : (k n v : ℕ) → k ≤ n → take k (bytesOf n v) ≡ bytesOf k v
@@ -49,6 +57,17 @@ byte-of-number (suc n) v (suc k) h =
     byte-of-number n (v / 256) k (omega arith)
     ∙ ap (λ (y : ℕ). y % 256) (shr-shr v 8 (8 * k))
     ∙ ap (λ (i : ℕ). v / 2 ^ i % 256) e
+
+-- the number of bytes one after the other
+pub number-append : (xs ys : List ℕ) → numberOf (xs ++ ys) ≡ numberOf xs + 256 ^ length xs * numberOf ys
+unfolding numberOf
+number-append [] ys = omega arith
+number-append (x ∷ xs) ys =
+    let p = 256 ^ length xs in
+    let e : 256 ^ suc (length xs) * numberOf ys ≡ 256 * (p * numberOf ys) =
+    ap (λ (q : ℕ). q * numberOf ys) (pow-suc 256 (length xs) ∙ mul-comm p 256) ∙ mul-assoc 256 p (numberOf ys) in
+    let i = number-append xs ys in
+    omega arith
 
 -- the number from byte a on
 pub number-from : (xs : List ℕ) (a : ℕ) → Bytes xs → numberOf xs / 2 ^ (8 * a) ≡ numberOf (drop a xs)

@@ -2,7 +2,7 @@
 -- their segment followed by the segment of the bytes after them is the segment of all of them.
 use mathlib.Core.Path.{_≡_, refl, sym, ap, ap₂, _∙_}
 use Prim.Native.Nat.{ℕ, zero, suc, _+_, _*_, _/_, _%_, _^_, _<_}
-use native.Mathlib.Nat.{pow-suc, mul-assoc, mul-comm, add-mul-div-left, add-mul-mod-self-left}
+use native.Mathlib.Nat.{mul-assoc, mul-comm, add-mul-div-left, add-mul-mod-self-left}
 use native.Mathlib.Omega.{arith}
 use mathlib.Core.List.{List, [], _∷_, _++_, map, append-assoc}
 use lib.ListN.{length, take, length-append}
@@ -11,20 +11,9 @@ use lib.Pow.{pow-pos, pow-add, shr-lt}
 use Rattle.octets.specs.Bytes.{Bytes}
 use Rattle.octets.specs.LittleEndian.{numberOf, bytesOf}
 use Rattle.fr32.specs.Padding.{segmentLength, segmentNodes, nodesOf, padded}
-use Rattle.fr32.specs.BitLaws.{power-of-bytes}
+use Rattle.fr32.specs.BitLaws.{power-of-bytes, number-append}
 use Rattle.fr32.specs.PaddingLaws.{length-nodesOf}
 use Rattle.fr32.specs.CapacityLaws.{number-in-bits}
-
--- the number of bytes one after the other
-number-append : (xs ys : List ℕ) → numberOf (xs ++ ys) ≡ numberOf xs + 256 ^ length xs * numberOf ys
-unfolding numberOf
-number-append [] ys = omega arith
-number-append (x ∷ xs) ys =
-    let p = 256 ^ length xs in
-    let e : 256 ^ suc (length xs) * numberOf ys ≡ 256 * (p * numberOf ys) =
-    ap (λ (q : ℕ). q * numberOf ys) (pow-suc 256 (length xs) ∙ mul-comm p 256) ∙ mul-assoc 256 p (numberOf ys) in
-    let i = number-append xs ys in
-    omega arith
 
 -- a number with another above its 254 m bits: its m nodes, then those of the other
 nodes-append : (m n v w : ℕ) → v < 2 ^ (254 * m) → nodesOf (m + n) (v + 2 ^ (254 * m) * w) ≡ nodesOf m v ++ nodesOf n w

@@ -2,6 +2,10 @@ pub mod Padding
 pub mod BitLaws
 pub mod PaddingLaws
 pub mod UnpaddingLaws
+pub mod Words
+pub mod WordLaws
+pub mod PaddedWordLaws
+pub mod RawWordLaws
 pub mod CapacityLaws
 pub mod InverseLaws
 pub mod Answers

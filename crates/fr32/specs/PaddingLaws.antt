@@ -58,14 +58,14 @@ six-of-eight x = omega arith
 
 -- byte j of node i of a segment: the eight data bits from bit 254 i + 8 j on, of which byte 31 has the first six
 module _ (raw : List ℕ) (i j : ℕ) (within : 32 * i + j < segmentLength (length raw)) (place : j < 32) where
-  from-nodes : getD (padded raw) (32 * i + j) 0 ≡ numberOf raw / 2 ^ (254 * i) % 2 ^ 254 / 2 ^ (8 * j) % 256
+  pub from-nodes : getD (padded raw) (32 * i + j) 0 ≡ numberOf raw / 2 ^ (254 * i) % 2 ^ 254 / 2 ^ (8 * j) % 256
   unfolding padded
   from-nodes =
       let n = length raw in
       getD-take (segmentLength n) (nodesOf (segmentNodes n) (numberOf raw)) (32 * i + j) 0 within
       ∙ nodes-byte (segmentNodes n) (numberOf raw) i j (omega arith) place
 
-  bits : j < 31 → getD (padded raw) (32 * i + j) 0 ≡ numberOf raw / 2 ^ (254 * i + 8 * j) % 256
+  pub bits : j < 31 → getD (padded raw) (32 * i + j) 0 ≡ numberOf raw / 2 ^ (254 * i + 8 * j) % 256
   bits h =
       from-nodes
       ∙ bits-kept (numberOf raw / 2 ^ (254 * i)) 254 (8 * j) (omega arith)

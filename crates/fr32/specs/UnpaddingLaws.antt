@@ -40,6 +40,14 @@ data-from (suc i) (suc m) segment =
     ∙ data-from i m (drop 32 segment)
     ∙ ap₂ (λ (n : ℕ) (l : List ℕ). dataOf n l) k (drop-drop (32 * i) 32 segment ∙ ap (λ (n : ℕ). drop n segment) d)
 
+-- the data from bit b of node i on
+pub data-at : (m : ℕ) (segment : List ℕ) (bit i b : ℕ) → bit ≡ 254 * i + b
+    → dataOf m segment / 2 ^ bit ≡ dataOf (m - i) (drop (32 * i) segment) / 2 ^ b
+data-at m segment bit i b e =
+    ap (λ (k : ℕ). dataOf m segment / 2 ^ k) e
+    ∙ sym (shr-shr (dataOf m segment) (254 * i) b)
+    ∙ ap (λ (y : ℕ). y / 2 ^ b) (data-from i m segment)
+
 -- eight bits of the first node, from bit s of byte a on
 node-bits : (m : ℕ) (segment : List ℕ) (a s : ℕ) → Bytes segment → length segment ≤ 32 * m → 8 * a + s + 8 ≤ 254 → s < 8
     → dataOf m segment / 2 ^ (8 * a + s) % 256 ≡ (getD segment a 0 + 256 * getD segment (a + 1) 0) / 2 ^ s % 256
@@ -114,10 +122,7 @@ module _ (m : ℕ) (segment : List ℕ) (bytes : Bytes segment) (sized : length 
   left = rw length-drop (omega arith)
 
   from-node : dataOf m segment / 2 ^ (8 * p) % 256 ≡ dataOf (m - i) (drop (32 * i) segment) / 2 ^ (8 * a + s) % 256
-  from-node =
-      ap (λ (b : ℕ). dataOf m segment / 2 ^ b % 256) at
-      ∙ ap (λ (y : ℕ). y % 256) (sym (shr-shr (dataOf m segment) (254 * i) (8 * a + s)))
-      ∙ ap (λ (y : ℕ). y / 2 ^ (8 * a + s) % 256) (data-from i m segment)
+  from-node = ap (λ (y : ℕ). y % 256) (data-at m segment (8 * p) i (8 * a + s) at)
 
   next : getD (drop (32 * i) segment) (a + 1) 0 ≡ getD segment (32 * i + a + 1) 0
   next = getD-drop (32 * i) segment (a + 1) 0 ∙ ap (λ (q : ℕ). getD segment q 0) (sym (add-assoc (32 * i) a 1))

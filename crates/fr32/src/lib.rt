@@ -2,6 +2,7 @@
 mod bits; // bits.rt: eight bits across two bytes
 mod padding; // padding.rt: raw bytes to a segment
 mod unpadding; // unpadding.rt: a segment to raw bytes
+mod words; // words.rt: sixty-four bits across two words
 
 pub use padding::pad;
 pub use unpadding::unpad;

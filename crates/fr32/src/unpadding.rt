@@ -6,9 +6,11 @@ use crate::bits::byte_at;
 use crate::raw_length_allowed;
 use crate::refused;
 use crate::segment_length;
+use crate::words::across_node_words;
+use crate::words::across_words;
 ghost use mathlib.Core.Path.{_≡_};
 ghost use Prim.Native.Nat.{_+_, _*_, _/_, _%_, _^_, _≤_};
-ghost use lib.ListN.{length};
+ghost use lib.ListN.{length, take, drop};
 ghost use Rattle.octets.specs.Splice.{splice};
 ghost use Rattle.fr32.specs.Padding.{segmentLength, dataOf, unpadded, onlyRawBits};
 ghost use Rattle.fr32.specs.Answers.{unpadAnswer, unpadOutput};
@@ -39,16 +41,62 @@ fn only_raw_bits(n: usize, segment: &[u8]) -> bool
     stray::no_stray_bits(segment) && raw_byte(segment, n) == 0
 }
 
-// Writes the n raw bytes of a segment into the first bytes of `output`.
-fn write_raw(n: usize, segment: &[u8], output: &mut [u8])
-    requires { ⌜ (n ≤ 8323072) × (length (now segment) ≡ segmentLength n) × (n ≤ length (now output)) ⌝ }
-    ensures { λ _. ⌜ now (output .exit) ≡ splice (now (output .entry)) 0 (unpadded n (now (segment .entry))) ⌝ }
+// Sixty-four data bits of the segment, from bit 64 w on: word w of the raw bytes.
+fn raw_word(segment: &[u8], w: usize) -> u64
+    requires { ⌜ (w ≤ 1040384)
+        × (32 * (64 * w / 254) + 8 * (64 * w % 254 / 64) + 16 ≤ length (now segment)) ⌝ }
+    ensures { λ r. ⌜ r
+        ≡ dataOf ((length (now (segment .entry)) + 31) / 32) (now (segment .entry)) / 2 ^ (64 * w) % 2 ^ 64 ⌝ }
 {
-    let mut p = 0;
+    let bit = 64 * w % 254;
+    let at = 32 * (64 * w / 254) + 8 * (bit / 64);
+    let low = octets::read_u64(segment, at);
+    let high = octets::read_u64(segment, at + 8);
+    let shift = (bit % 64) as u64;
+    if bit < 192 {
+        return across_words(low, high, shift);
+    }
+    across_node_words(low, high, shift)
+}
+
+// Writes the words of the n raw bytes of a segment, all but the last, into the first bytes of `output`, and answers the
+// number of bytes written.
+fn write_raw_words(n: usize, segment: &[u8], output: &mut [u8]) -> usize
+    requires { ⌜ (n ≤ 8323072) × (length (now segment) ≡ segmentLength n) × (n ≤ length (now output)) ⌝ }
+    ensures { λ r. ⌜ (r ≤ n)
+        × (now (output .exit) ≡ splice (now (output .entry)) 0 (take r (unpadded n (now (segment .entry))))) ⌝ }
+{
+    let words = n / 8;
+    let mut w = 0;
+    while w + 1 < words {
+        let word = raw_word(segment, w);
+        octets::put_u64(output, 8 * w, word);
+        w += 1;
+    }
+    8 * w
+}
+
+// Writes the rest of the n raw bytes from byte `first` on.
+fn write_raw_rest(n: usize, segment: &[u8], first: usize, output: &mut [u8])
+    requires { ⌜ (n ≤ 8323072) × (length (now segment) ≡ segmentLength n) × (first ≤ n)
+        × (n ≤ length (now output)) ⌝ }
+    ensures { λ _. ⌜ now (output .exit)
+        ≡ splice (now (output .entry)) first (drop first (unpadded n (now (segment .entry)))) ⌝ }
+{
+    let mut p = first;
     while p < n {
         output[p] = raw_byte(segment, p);
         p += 1;
     }
+}
+
+// Writes the n raw bytes of a segment into the first bytes of `output`: by words, and what is left byte by byte.
+fn write_raw(n: usize, segment: &[u8], output: &mut [u8])
+    requires { ⌜ (n ≤ 8323072) × (length (now segment) ≡ segmentLength n) × (n ≤ length (now output)) ⌝ }
+    ensures { λ _. ⌜ now (output .exit) ≡ splice (now (output .entry)) 0 (unpadded n (now (segment .entry))) ⌝ }
+{
+    let first = write_raw_words(n, segment, output);
+    write_raw_rest(n, segment, first, output);
 }
 
 // Writes the raw bytes of a segment, as many as the caller names, into the first bytes of `output`, and answers their
