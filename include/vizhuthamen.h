@@ -5,10 +5,10 @@
  * and a length; a pointer may be dangling only where its length is 0, and is never NULL. Memory that is written must
  * not overlap any other argument.
  *
- * An output that has one fixed length is refused with 12, before all else, where it has another; a second deal is
- * refused with 12 right after 2, a tree right after 11. Outputs are written with code 0 (numbers also with 15 in the
- * bookings, strings with 17 in the settlings) and left as they were with every other code. A stream's state is written
- * by vz_stream_take with every code but 12.
+ * An output that has one fixed length is refused with 12, before all else, where it has another; a table of owners is
+ * refused with 23 right after 2, a second deal with 12 after that, a tree with 12 right after 11. Outputs are written
+ * with code 0 (numbers also with 15 in the bookings, strings with 17 in the settlings) and left as they were with every
+ * other code. A stream's state is written by vz_stream_take with every code but 12.
  *
  * docs/FORMAT.md has the index, the entry and the record byte by byte.
  */
@@ -24,40 +24,43 @@ extern "C" {
 
 /* The version of this header, as text and as a number: 10000 x first + 100 x second + third. While the first is 0, the
  * second rises where a program has to be changed or compiled anew. */
-#define VZ_VERSION "0.2.0"
-#define VZ_VERSION_NUMBER 200
+#define VZ_VERSION "0.3.0"
+#define VZ_VERSION_NUMBER 300
 
 /* Lengths in bytes. */
 #define VZ_MAX_DEAL 16777216                /* the largest deal that is lent, 2^24; so too run and message */
+#define VZ_MAX_TABLE 128                    /* the longest table of owners, that of a deal of 2^24 */
 #define VZ_MAX_RECORD 1973                  /* the longest record that is accepted, and so the longest that is built */
 #define VZ_MAX_RAW 8323072                  /* the longest raw archive; its segment has 2^23 */
 #define VZ_MAX_STREAM UINT64_C(68719476736) /* the most that a stream takes, 2^36; so too the size of a deal */
 #define VZ_STREAM_STATE 1072                /* a stream's state */
 
-/* Every code: its number, its name, its meaning. Some numbers between them are no codes. */
-#define VZ_CODES(code)                                                                                        \
-  code(0, VZ_OK, "done, accepted, or both records the same")                                                  \
-  code(1, VZ_COMMITMENT_LENGTH, "a commitment is not 32 bytes long")                                          \
-  code(2, VZ_SIZE, "a deal, run, stream, message, raw archive or entry size is not allowed")                  \
-  code(3, VZ_FORM, "the record's tags, order, lengths or end are wrong")                                      \
-  code(4, VZ_SEGMENT_SIZE, "segment size not allowed for this deal size")                                     \
-  code(5, VZ_OFFSET, "offset not a multiple of the segment's area, or the area ends beyond the index start")  \
-  code(6, VZ_PLACE, "entry place not a multiple of 64, or outside the index area")                            \
-  code(7, VZ_PATH_LENGTH, "a path has another number of nodes than it must have")                             \
-  code(8, VZ_COMMITMENT_BITS, "the segment commitment has stray bits")                                        \
-  code(9, VZ_SEGMENT_PATH, "the segment path does not lead to the deal commitment")                           \
-  code(10, VZ_ENTRY_PATH, "the entry path does not lead to the deal commitment")                              \
-  code(11, VZ_STRAY_BITS, "a node of a run, deal, stream or segment has stray bits")                          \
-  code(12, VZ_OUTPUT, "an output is too short, or an output, second deal or tree is not of its one length")   \
-  code(13, VZ_NO_SLOT, "no slot is free")                                                                     \
-  code(14, VZ_NO_PLACE, "no free place")                                                                      \
-  code(15, VZ_ALREADY_KEPT, "the segment is kept already")                                                    \
-  code(16, VZ_NOT_KEPT, "no kept entry at that place, or with that commitment; to cancel, no standing entry") \
-  code(17, VZ_COLLISION, "two different 64-byte strings with one node hash are shown")                        \
-  code(18, VZ_OTHER_PLACE, "the two records name different entry places")                                     \
-  code(19, VZ_PATH_BITS, "a node of a path has stray bits")                                                   \
-  code(20, VZ_OVERLAP, "two standing entries overlap")                                                        \
-  code(21, VZ_DEAL_NUMBER, "the record's deal number differs from the caller's")                              \
+/* Every code: its number, its name, its meaning. */
+#define VZ_CODES(code)                                                                                               \
+  code(0, VZ_OK, "done, accepted, or both records the same")                                                         \
+  code(1, VZ_COMMITMENT_LENGTH, "a commitment is not 32 bytes long")                                                 \
+  code(2, VZ_SIZE, "a deal, run, stream, message, raw archive or entry size is not allowed")                         \
+  code(3, VZ_FORM, "the record's tags, order, lengths or end are wrong")                                             \
+  code(4, VZ_SEGMENT_SIZE, "segment size not allowed for this deal size")                                            \
+  code(5, VZ_OFFSET, "offset not a multiple of the segment's area, or the area ends beyond the index start")         \
+  code(6, VZ_PLACE, "entry place not a multiple of 64, or outside the index area")                                   \
+  code(7, VZ_PATH_LENGTH, "a path has another number of nodes than it must have")                                    \
+  code(8, VZ_COMMITMENT_BITS, "the segment commitment has stray bits")                                               \
+  code(9, VZ_SEGMENT_PATH, "the segment path does not lead to the deal commitment")                                  \
+  code(10, VZ_ENTRY_PATH, "the entry path does not lead to the deal commitment")                                     \
+  code(11, VZ_STRAY_BITS, "a node of a run, deal, stream or segment has stray bits")                                 \
+  code(12, VZ_OUTPUT, "an output is too short, or an output, second deal or tree is not of its one length")          \
+  code(13, VZ_NO_SLOT, "no slot is free")                                                                            \
+  code(14, VZ_NO_PLACE, "no free place")                                                                             \
+  code(15, VZ_ALREADY_KEPT, "the segment is kept already")                                                           \
+  code(16, VZ_NOT_KEPT, "no kept entry at that place, or with that commitment; to cancel, none of the house stands") \
+  code(17, VZ_COLLISION, "two different 64-byte strings with one node hash are shown")                               \
+  code(18, VZ_OTHER_PLACE, "the two records name different entry places")                                            \
+  code(19, VZ_PATH_BITS, "a node of a path has stray bits")                                                          \
+  code(20, VZ_OVERLAP, "two standing entries overlap")                                                               \
+  code(21, VZ_DEAL_NUMBER, "the record's deal number differs from the caller's")                                     \
+  code(22, VZ_QUOTA, "the house holds half the slots or more")                                                       \
+  code(23, VZ_HOUSE, "the house is neither 1 nor 2, or a table of owners has not one byte a slot")                   \
   code(24, VZ_SEGMENT_LENGTH, "the segment has another length than the raw length gives")
 
 #define VZ_CODE_NUMBER(number, name, meaning) name = number,
@@ -135,23 +138,33 @@ uint32_t vz_tally(const uint8_t *deal, size_t deal_len, uint64_t *blank, uint64_
 uint32_t vz_find(const uint8_t *deal, size_t deal_len, const uint8_t *commitment, size_t commitment_len,
                  uint64_t *offset, uint64_t *size, uint64_t *place);
 
-/* Books a segment of 1 byte to half of the deal. With 0 it is written into the deal with zeros after it to its area's
- * end, and its entry; no other byte changes. The area is the smallest power of two at or above both the size and 128.
- * The numbers are written with 0, and with 15 (where the segment is kept). Codes: 2, 4, 11, 15, 13, 14. */
-uint32_t vz_book(uint8_t *deal, size_t deal_len, const uint8_t *segment, size_t segment_len, uint64_t *offset,
-                 uint64_t *place);
+/* Two houses, 1 and 2, book in one deal. Whose entry a slot holds says the deal's table of owners, which the caller
+ * keeps beside the deal: one byte a slot, as many as vz_index_numbers has entries; 1 or 2 for the owner, any other
+ * byte for nobody. A byte counts only where an entry stands in its slot. A new deal's table is all zeros. vz_book sets
+ * the byte of the slot, vz_cancel clears it, vz_collect writes a second table. Any other house, and any other length
+ * of a table, is refused with 23. */
 
-/* Cancels the entry that stands at a place, kept or not: with 0 its 64 bytes are zeros, and no other byte changes. Its
- * slot is then free for booking, and so are its segment's bytes wherever no other standing entry covers them. Codes: 2,
- * 11, 6, 16 where no entry stands. */
-uint32_t vz_cancel(uint8_t *deal, size_t deal_len, uint64_t place);
+/* Books a segment of 1 byte to half of the deal for a house. With 0 it is written into the deal with zeros after it to
+ * its area's end, and its entry, and the house into the slot's byte of the table; no other byte changes. The area is
+ * the smallest power of two at or above both the size and 128. The numbers are written with 0, and with 15: the
+ * house's lowest slot that keeps the segment. What others keep does not count for 15. Codes: 23 (house), 2, 23
+ * (table), 4, 11, 15, 22 where the house's entries stand in half of the slots or more, kept or not, 13, 14. */
+uint32_t vz_book(uint8_t *deal, size_t deal_len, uint8_t *table, size_t table_len, uint8_t house,
+                 const uint8_t *segment, size_t segment_len, uint64_t *offset, uint64_t *place);
+
+/* Cancels the house's entry that stands at a place, kept or not: with 0 its 64 bytes and the slot's byte of the table
+ * are zeros, and no other byte changes. Its slot is then free for booking, and so are its segment's bytes wherever no
+ * other standing entry covers them. Codes: 23 (house), 2, 23 (table), 11, 6, 16 where no entry of the house stands. */
+uint32_t vz_cancel(uint8_t *deal, size_t deal_len, uint8_t *table, size_t table_len, uint8_t house, uint64_t place);
 
 /* Collects a deal: with 0 second, of deal_len bytes, is a new deal without gaps, whatever it held. The segments of the
  * standing entries, all bytes of each area, are packed from 0 by falling area, equal ones by old offset; the entries,
- * with commitment and size as they were, stand from the first slot on in that order; all else is zero. The deal itself
- * stays; records that were built from it belong to its commitment, not to the new deal's. Codes: 2, 12 for a second
- * deal of any other length, 11, 20. */
-uint32_t vz_collect(const uint8_t *deal, size_t deal_len, uint8_t *second, size_t second_len);
+ * with commitment and size as they were, stand from the first slot on in that order; all else is zero. second_table
+ * gets each entry's byte, as it was, for its new slot, and zeros after them. The deal itself and its table stay;
+ * records that were built from it belong to its commitment, not to the new deal's. Codes: 2, 23 for a table of any
+ * other length, 12 for a second deal of any other length, 11, 20. */
+uint32_t vz_collect(const uint8_t *deal, size_t deal_len, const uint8_t *table, size_t table_len, uint8_t *second,
+                    size_t second_len, uint8_t *second_table, size_t second_table_len);
 
 /* A record names its deal by the deal's number, any 64 bits. A deal's bytes do not hold it: building, checking and
  * settling take it from the caller. */
@@ -202,18 +215,21 @@ uint32_t vz_tree_row(const uint8_t *below, size_t below_len, uint8_t *above, siz
 
 /* vz_book with the tree in hand. An entry is kept where its commitment is the node over its area in the tree. With 0
  * every node above the bytes that are written to the deal is worked out anew, from the bottom up; no other byte of the
- * tree changes. Codes: 2, 4, 11, 12, 15, 13, 14. */
-uint32_t vz_book_with_tree(uint8_t *deal, size_t deal_len, uint8_t *tree, size_t tree_len, const uint8_t *segment,
-                           size_t segment_len, uint64_t *offset, uint64_t *place);
+ * tree changes. Codes: 23 (house), 2, 23 (table), 4, 11, 12, 15, 22, 13, 14. */
+uint32_t vz_book_with_tree(uint8_t *deal, size_t deal_len, uint8_t *tree, size_t tree_len, uint8_t *table,
+                           size_t table_len, uint8_t house, const uint8_t *segment, size_t segment_len,
+                           uint64_t *offset, uint64_t *place);
 
 /* vz_cancel with the tree in hand. With 0 every node above the 64 bytes is worked out anew, from the bottom up; no
- * other byte of the tree changes. Codes: 2, 11, 12, 6, 16. */
-uint32_t vz_cancel_with_tree(uint8_t *deal, size_t deal_len, uint8_t *tree, size_t tree_len, uint64_t place);
+ * other byte of the tree changes. Codes: 23 (house), 2, 23 (table), 11, 12, 6, 16. */
+uint32_t vz_cancel_with_tree(uint8_t *deal, size_t deal_len, uint8_t *tree, size_t tree_len, uint8_t *table,
+                             size_t table_len, uint8_t house, uint64_t place);
 
 /* vz_collect with a tree for the second deal: with 0 it holds every inner node of the new deal, whatever it held.
- * Codes: 2, 12 (second deal), 11, 12 (tree), 20. */
-uint32_t vz_collect_with_tree(const uint8_t *deal, size_t deal_len, uint8_t *second, size_t second_len, uint8_t *tree,
-                              size_t tree_len);
+ * Codes: 2, 23, 12 (second deal), 11, 12 (tree), 20. */
+uint32_t vz_collect_with_tree(const uint8_t *deal, size_t deal_len, const uint8_t *table, size_t table_len,
+                              uint8_t *second, size_t second_len, uint8_t *tree, size_t tree_len,
+                              uint8_t *second_table, size_t second_table_len);
 
 /* vz_build with the tree in hand: whether the entry is kept, and the nodes of both paths, are read there. Codes: 2, 11,
  * 12 (tree), 6, 16, 12 (record). */

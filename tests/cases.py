@@ -148,9 +148,9 @@ def deal(rng, sizes, steps=6):
     _, n, start = index_numbers(d)
     data = bytes(d) if rng.randrange(3) else run(rng, start) + bytes(d - start)
     for _ in range(rng.randrange(steps)):
-        data = m.book(data, run(rng, segment_size(rng, d)))[3]
+        data = m.put(data, run(rng, segment_size(rng, d)))[3]
         if not rng.randrange(4):
-            data = m.cancel(data, start + 64 * rng.randrange(n))[1]
+            data = m.drop(data, start + 64 * rng.randrange(n))[1]
     data = bytearray(data)
     for _ in range(rng.choice((0, 0, 0, 1, 2))):
         i = rng.randrange(n)
@@ -216,6 +216,29 @@ def second_deal(rng, data):
     if not rng.randrange(10):
         return rng.randbytes(rng.choice((0, 1, 32, n // 2, max(n - 1, 0), max(n - 32, 0), n + 1, n + 32, 2 * n)))
     return rng.choice((rng.randbytes(n), rng.randbytes(n), bytes(n), data))
+
+
+def house(rng):
+    """Mostly a house, 1 or 2; now and then another byte."""
+    return rng.choice((1, 2)) if rng.randrange(12) else rng.choice((0, 0, 3, 3, 4, 127, 129, 130, 254, 255, rng.randrange(256)))
+
+
+def table(rng, data):
+    """A table of owners for a deal: of both houses and nobody, of one house, of nobody, any bytes; now and then of another length."""
+    n = max(4, len(data) // 131072)
+    if not rng.randrange(12):
+        return rng.randbytes(rng.choice((0, 1, n // 2, n - 1, n + 1, 2 * n, 128, 129, len(data))))
+    kind = rng.randrange(8)
+    if kind == 0:
+        return bytes([rng.choice((0, 0, 1, 2, 3, 255))]) * n
+    if kind == 1:
+        return rng.randbytes(n)
+    return bytes(rng.choices((0, 1, 2, 3, 7, 129, 255), (2, 6, 6, 1, 1, 1, 1), k=n))
+
+
+def second_table(rng, data):
+    """What a table is collected into: any bytes, as many as a table has; now and then of another length."""
+    return rng.randbytes(len(table(rng, data)))
 
 
 def kept_places(data):
@@ -461,11 +484,11 @@ def deal_case(rng, op, data):
     if op == FIND:
         return op, data, commitment_for(rng, data)
     if op == BOOK:
-        return op, data, segment_for(rng, data)
+        return Case(op, data, segment_for(rng, data), y=house(rng), d=table(rng, data))
     if op == CANCEL:
-        return op, data, b"", entry_place(rng, data)
+        return Case(op, data, x=entry_place(rng, data), y=house(rng), d=table(rng, data))
     if op == COLLECT:
-        return op, data, second_deal(rng, data)
+        return Case(op, data, second_deal(rng, data), d=table(rng, data), e=second_table(rng, data))
     if op == BUILD:
         lengths = 0, 202, 212, 213, 234, 244, 245, 277, 500, 1000, 2000, 2000, 2000, 2000
         return op, data, rng.randbytes(rng.choice(lengths)), entry_place(rng, data), deal_number(rng)

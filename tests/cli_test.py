@@ -21,13 +21,16 @@ from model import MAX_RAW, MAX_RAW_STREAM, Model, area, filled, index_numbers, p
 
 ROOT = Path(__file__).resolve().parent.parent
 BINARY = Path(os.environ.get("VIZHUTHAMEN", ROOT / "rust" / "target" / "release" / "vizhuthamen"))
-COMMANDS = ("new", "number", "commit", "stream", "pad", "unpad", "book", "cancel", "collect", "list", "tally", "find",
+COMMANDS = ("new", "number", "owner", "commit", "stream", "pad", "unpad", "book", "cancel", "collect", "list", "tally", "find",
             "build", "check", "settle", "settle-deal", "show", "fsck", "repair", "salvage")
 MODEL = Model()
 NUMBER = 0xfedcba9876543210  # of the deals here, and another one
 OTHER = NUMBER + 1
 GIVEN = "--number", NUMBER
 USAGE, DATA, IO, BUSY = 64, 65, 74, 75
+DONE = {"code": 0, "meaning": "done"}
+HOUSE = "VIZHUTHAMEN_HOUSE"
+os.environ.pop(HOUSE, None)  # what a test does not name is not named
 
 
 def nobody():
@@ -98,14 +101,26 @@ class Calls(unittest.TestCase):
     def segment(self, size=128):
         return b"".join(node(self.rng) for _ in range(size // 32))
 
-    def booked(self, size=1024, sizes=(256, 128)):
-        """A deal file `deal` that keeps segments of these sizes; the model's deal, and the records' places."""
-        deal, places = bytes(size), []
-        for s in sizes:
-            code, _, place, deal = MODEL.book(deal, self.segment(s))
+    def keeping(self, size, segments, houses=None):
+        """A deal that keeps these segments: its bytes, its table, and the places of their entries. They are of the houses that are
+        named, or of house 1 as long as it may book and then of house 2."""
+        deal, table, places = bytes(size), bytes(index_numbers(size)[1]), []
+        for i, segment in enumerate(segments):
+            house = houses[i] if houses else 1 + (2 * i >= len(table))
+            code, _, place, deal, table = MODEL.book(deal, table, house, segment)
             self.assertEqual(code, 0)
             places.append(place)
+        return deal, table, places
+
+    def booked(self, size=1024, sizes=(256, 128), houses=None):
+        """A deal file `deal` that keeps segments of these sizes, with its table; the model's deal, and the records' places."""
+        deal, table, places = self.keeping(size, [self.segment(s) for s in sizes], houses)
+        self.put("deal.owners", table)
         return self.put("deal", deal), places
+
+    def both(self, name="deal"):
+        """A deal and its table, as they lie there."""
+        return self.get(name), self.get(name + ".owners")
 
 
 class MainJob(Calls):
@@ -114,28 +129,29 @@ class MainJob(Calls):
         ca, cb = (MODEL.commitment(x)[1].hex() for x in (a, b))
         made = self.answer("new", "deal", 1024, *GIVEN)
         self.assertEqual(made, f"size 1024\nentries 4\nstart 768\nnumber {NUMBER}\n")
-        self.assertEqual(self.get("deal"), bytes(1024))
-        self.assertEqual(self.answer("book", "deal", "a"), f"offset 0\nplace 768\nsize 256\ncommitment {ca}\n")
-        self.assertEqual(self.answer("book", "deal", "b"), f"offset 256\nplace 832\nsize 128\ncommitment {cb}\n")
-        kept = self.get("deal")
-        self.assertEqual(kept, MODEL.book(MODEL.book(bytes(1024), a)[3], b)[3])
-        again = self.refused(15, "book", "deal", "a")
-        self.assertEqual(again.splitlines()[1:], ["offset 0", "place 768", "size 256", f"commitment {ca}"])
-        self.assertEqual(self.get("deal"), kept)
+        self.assertEqual(self.both(), (bytes(1024), bytes(4)))
+        self.assertEqual(self.answer("book", "deal", "a"), f"offset 0\nplace 768\nsize 256\ncommitment {ca}\nhouse 1\n")
+        self.assertEqual(self.answer("book", "deal", "b", "--house", 2),
+                         f"offset 256\nplace 832\nsize 128\ncommitment {cb}\nhouse 2\n")
+        kept, table, _ = self.keeping(1024, (a, b), (1, 2))
+        self.assertEqual(self.both(), (kept, table))
+        again = self.refused(15, "book", "deal", "a", "--house", 1)
+        self.assertEqual(again.splitlines()[1:], ["offset 0", "place 768", "size 256", f"commitment {ca}", "house 1"])
+        self.assertEqual(self.both(), (kept, table))
         self.listed(ca, cb)
         self.found(ca, a)
         self.settled(kept)
-        self.assertEqual(self.files(), ["a", "b", "deal", "deal.vz", "found", "record", "record2"])
+        self.assertEqual(self.files(), ["a", "b", "deal", "deal.owners", "deal.vz", "found", "record", "record2"])
 
     def test_a_segment_whose_size_is_no_power_of_two(self):
         segment = self.put("segment", self.segment(128) + b"xy")
-        code, offset, place, deal = MODEL.book(self.put("deal", b"0" * 768 + bytes(256)), segment)
-        self.assertEqual((code, deal[:256]), (0, filled(segment)))
-        commitment = deal[place : place + 32].hex()
-        self.assertEqual(self.answer("book", "deal", "segment"), f"offset 0\nplace 768\nsize 130\ncommitment {commitment}\n")
-        self.assertEqual(self.get("deal"), deal)
-        again = self.refused(15, "book", "deal", "segment")
-        self.assertEqual(again.splitlines()[1:], ["offset 0", "place 768", "size 130", f"commitment {commitment}"])
+        code, offset, place, *after = MODEL.book(self.put("deal", b"0" * 768 + bytes(256)), bytes(4), 1, segment)
+        self.assertEqual((code, after[0][:256]), (0, filled(segment)))
+        commitment = after[0][place : place + 32].hex()
+        told = ["offset 0", "place 768", "size 130", f"commitment {commitment}", "house 1"]
+        self.assertEqual(self.answer("book", "deal", "segment").splitlines(), told)
+        self.assertEqual(self.both(), tuple(after))
+        self.assertEqual(self.refused(15, "book", "deal", "segment").splitlines()[1:], told)
         self.assertEqual(self.answer("find", "deal", commitment, "--output", "found"), "offset 0\nsize 130\nplace 768\n")
         self.assertEqual(self.get("found"), segment)
         for size in (0, 513):
@@ -144,9 +160,9 @@ class MainJob(Calls):
 
     def listed(self, ca, cb):
         rows = [line.split() for line in self.answer("list", "deal").splitlines()]
-        self.assertEqual(rows[0], ["slot", "place", "state", "offset", "size", "commitment"])
-        self.assertEqual(rows[1:], [["0", "768", "kept", "0", "256", ca], ["1", "832", "kept", "256", "128", cb],
-                                    ["2", "896", "blank", "-", "-", "-"], ["3", "960", "blank", "-", "-", "-"]])
+        self.assertEqual(rows[0], ["slot", "place", "state", "owner", "offset", "size", "commitment"])
+        self.assertEqual(rows[1:], [["0", "768", "kept", "1", "0", "256", ca], ["1", "832", "kept", "2", "256", "128", cb],
+                                    ["2", "896", "blank", "-", "-", "-", "-"], ["3", "960", "blank", "-", "-", "-", "-"]])
         self.assertEqual(self.answer("tally", "deal"), "blank 2\ndamaged 0\nvalid 2\n")
 
     def found(self, ca, a):
@@ -183,7 +199,7 @@ class MainJob(Calls):
         deal = bytearray(self.booked(512, (128,))[0])
         deal[5] ^= 1
         self.put("deal", bytes(deal))
-        self.assertEqual(self.answer("list", "deal").splitlines()[1].split()[:5], ["0", "256", "standing", "0", "128"])
+        self.assertEqual(self.answer("list", "deal").splitlines()[1].split()[:6], ["0", "256", "standing", "1", "0", "128"])
 
     def test_the_kinds_of_free_slots(self):
         deal = bytearray(self.booked(1024, (128, 128))[0])
@@ -192,7 +208,8 @@ class MainJob(Calls):
         self.put("deal", bytes(deal))
         rows = [line.split()[2:] for line in self.answer("list", "deal").splitlines()[1:]]
         self.assertEqual([row[0] for row in rows], ["kept", "damaged", "valid", "blank"])
-        self.assertEqual(rows[1:], [["damaged", "-", "-", "-"], ["valid", "64", "128", "00" * 32], ["blank", "-", "-", "-"]])
+        self.assertEqual(rows[1:], [["damaged", "-", "-", "-", "-"], ["valid", "-", "64", "128", "00" * 32],
+                                    ["blank", "-", "-", "-", "-"]])
         self.assertEqual(self.answer("tally", "deal"), "blank 1\ndamaged 1\nvalid 2\n")
         self.put("segment", self.segment())
         self.assertIn("place 832\n", self.answer("book", "deal", "segment", "--force"))
@@ -201,25 +218,25 @@ class MainJob(Calls):
 
 class Cancelling(Calls):
     def test_an_entry_its_slot_and_its_bytes(self):
-        deal, places = self.booked(1024, (256, 128, 128))
+        deal, places = self.booked(1024, (256, 128))
         commitment = deal[places[1] : places[1] + 32].hex()
         out, err = self.call("cancel", "deal", places[1])
-        self.assertEqual(out, f"offset 256\nplace {places[1]}\nsize 128\ncommitment {commitment}\n")
+        self.assertEqual(out, f"offset 256\nplace {places[1]}\nsize 128\ncommitment {commitment}\nhouse 1\n")
         notes = err.splitlines()
         self.assertIn("the segment's bytes stay in deal", notes[0])
         self.assertIn("vizhuthamen collect deal NEW", notes[0])
         self.assertIn("deal has another commitment now; records that were built before belong to the old one", notes[1])
-        cancelled = self.get("deal")
-        self.assertEqual(cancelled, deal[: places[1]] + bytes(64) + deal[places[1] + 64:])
-        self.assertEqual(self.answer("tally", "deal"), "blank 2\ndamaged 0\nvalid 2\n")
-        self.assertEqual(self.files(), ["deal", "deal.vz"])
+        cancelled = self.both()
+        self.assertEqual(cancelled, (deal[: places[1]] + bytes(64) + deal[places[1] + 64:], b"\1\0\0\0"))
+        self.assertEqual(self.answer("tally", "deal"), "blank 3\ndamaged 0\nvalid 1\n")
+        self.assertEqual(self.files(), ["deal", "deal.owners", "deal.vz"])
         out, err = self.call("cancel", "deal", places[1], status=16)
         self.assertTrue(out.startswith("code 16: "), out)
         self.assertEqual(err, f"vizhuthamen: slot 1 (place {places[1]}) is blank; see: vizhuthamen list deal\n")
-        self.assertEqual(self.get("deal"), cancelled)
+        self.assertEqual(self.both(), cancelled)
         segment = self.put("segment", self.segment())
         self.assertTrue(self.answer("book", "deal", "segment").startswith(f"offset 256\nplace {places[1]}\n"))
-        self.assertEqual(self.get("deal"), MODEL.book(cancelled, segment)[3])
+        self.assertEqual(self.both(), MODEL.book(*cancelled, 1, segment)[3:])
 
     def test_records_belong_to_the_old_commitment(self):
         deal, places = self.booked(1024, (256, 128))
@@ -237,7 +254,7 @@ class Cancelling(Calls):
         deal, places = self.booked(512, (128,))
         spoilt = self.put("deal", bytes([deal[0] ^ 1]) + deal[1:])
         self.answer("cancel", "deal", places[0])
-        self.assertEqual(self.get("deal"), MODEL.cancel(spoilt, places[0])[1])
+        self.assertEqual(self.both(), MODEL.cancel(spoilt, b"\1\0\0\0", 1, places[0])[1:])
 
     def test_refusals(self):
         deal, places = self.booked(1024, (128, 128))
@@ -263,7 +280,7 @@ class Cancelling(Calls):
         self.assertIn("short has 1000 bytes", self.call("cancel", "short", 0, status=2)[1])
         self.assertIn("the deal must be a file", self.failed(USAGE, "cancel", "-", 256))
         self.failed(IO, "cancel", "missing", 256)
-        self.assertEqual(self.files(), ["deal", "short"])
+        self.assertEqual(self.files(), ["deal", "deal.owners", "short"])
 
     def test_the_entry_that_is_meant(self):
         deal, places = self.booked(1024, (128, 128))
@@ -272,45 +289,65 @@ class Cancelling(Calls):
         error = self.failed(DATA, "cancel", "deal", places[0], "--commitment", other)
         self.assertIn(f"the entry at place {places[0]} has the commitment {mine}, which is not the given one; nothing is changed", error)
         self.refused(16, "cancel", "deal", 960, "--commitment", other)
-        self.assertEqual((self.get("deal"), self.files()), (deal, ["deal"]))
+        self.assertEqual((self.get("deal"), self.files()), (deal, ["deal", "deal.owners"]))
         self.answer("cancel", "deal", places[0], "--commitment", mine.upper())
-        self.assertEqual(self.get("deal"), MODEL.cancel(deal, places[0])[1])
+        self.assertEqual(self.both(), MODEL.cancel(deal, b"\1\1\0\0", 1, places[0])[1:])
 
     def test_a_cancelled_entry_is_brought_back(self):
-        deal, places = self.booked(2048, (256, 128, 128))
+        deal, places = self.booked(2048, (256, 128))
+        table = self.get("deal.owners")
         self.put("segment", deal[256:384])
         self.answer("cancel", "deal", places[1])
-        self.answer("repair", "deal", "--segment", "segment", "--place", places[1])
-        self.assertEqual(self.get("deal"), deal)
+        out = self.answer("repair", "deal", "--segment", "segment", "--place", places[1])
+        self.assertIn(", owner nobody\n", out)
+        self.assertEqual(self.both(), (deal, b"\1\0\0\0"))
+        self.answer("owner", "deal", 1, places[1])
+        self.assertEqual(self.both(), (deal, table))
 
 
 class Collecting(Calls):
-    def moved(self, old, new):
-        """Where each standing entry of a deal stands in the new one, from the rules."""
+    def moved(self, old, table, new):
+        """Where each standing entry of a deal stands in the new one, and whose it is, from the rules."""
         _, n, start = index_numbers(len(old))
-        rows = [(MODEL.standing(old, i), start + 64 * i) for i in range(n) if MODEL.standing(old, i)]
+        rows = [(MODEL.standing(old, i), start + 64 * i, table[i]) for i in range(n) if MODEL.standing(old, i)]
         rows.sort(key=lambda row: (-area(row[0][2]), row[0][1]))
         moved = []
-        for i, ((commitment, offset, size), place) in enumerate(rows):
+        for i, ((commitment, offset, size), place, owner) in enumerate(rows):
             _, new_offset, _ = MODEL.standing(new, i)
-            moved.append({"place": place, "new_place": start + 64 * i, "offset": offset, "new_offset": new_offset, "size": size,
-                          "commitment": commitment.hex()})
+            odd = {"owner_byte": owner} if owner > 2 else {}
+            moved.append({"place": place, "new_place": start + 64 * i, "owner": 0 if odd else owner, **odd, "offset": offset,
+                          "new_offset": new_offset, "size": size, "commitment": commitment.hex()})
         return moved
 
+    def collected(self, deal, table):
+        """A collected deal and its table, by the model."""
+        return MODEL.collect(deal, table, bytes(len(deal)), bytes(len(table)))[1:]
+
+    def shown(self, row):
+        """A move as the text shows it."""
+        owner = f"nobody({row['owner_byte']})" if "owner_byte" in row else row["owner"] or "nobody"
+        return {k: str(v) for k, v in {**row, "owner": owner}.items() if k != "owner_byte"}
+
     def test_gaps_are_closed(self):
-        deal, places = self.booked(4096, (128, 512, 128, 256))
-        for place in places[:1]:
-            deal = MODEL.cancel(deal, place)[1]
-        self.put("deal", deal)
-        out, err = self.call("collect", "deal", "new")
-        new = MODEL.collect(deal, bytes(4096))[1]
-        self.assertEqual((self.get("deal"), self.get("new")), (deal, new))
-        self.assertEqual(self.get("new.vz"), b"vizhuthamen deal 1\nsize 4096\n")
-        self.assertEqual(self.files(), ["deal", "new", "new.vz"])
-        rows = [line.split() for line in out.splitlines()]
-        self.assertEqual(rows[0], ["place", "new_place", "offset", "new_offset", "size", "commitment"])
-        self.assertEqual([dict(zip(rows[0], row)) for row in rows[1:]],
-                         [{k: str(v) for k, v in row.items()} for row in self.moved(deal, new)])
+        self.booked(4096, (128, 512, 128, 256), (1, 2, 1, 2))
+        self.answer("cancel", "deal", 3840, "--house", 1)
+        deal = self.get("deal")
+        self.path("deal.vz").unlink()
+        for i, table in enumerate((self.get("deal.owners"), b"\1\7\0\2", b"\2\2\2\2", bytes(4), b"\xff" * 4)):
+            self.put("deal.owners", table)
+            name = f"new{i}"
+            out, err = self.call("collect", "deal", name)
+            new, owners = self.collected(deal, table)
+            self.assertEqual((self.both(), self.both(name)), ((deal, table), (new, owners)))
+            self.assertEqual(self.get(name + ".vz"), b"vizhuthamen deal 1\nsize 4096\n")
+            rows = [line.split() for line in out.splitlines()]
+            self.assertEqual(rows[0], ["place", "new_place", "owner", "offset", "new_offset", "size", "commitment"])
+            self.assertEqual([dict(zip(rows[0], row)) for row in rows[1:]],
+                             [self.shown(row) for row in self.moved(deal, table, new)])
+        self.assertEqual(self.files(), sorted(["deal", "deal.owners", *(f"new{i}{e}" for i in range(5) for e in ("", ".owners", ".vz"))]))
+        for end in ("", ".owners", ".vz"):
+            self.path("new0" + end).rename(self.path("new" + end))
+        err = err.replace("new4", "new")
         self.assertIn("records that were built from deal belong to its commitment; those of new are built anew, at the new places", err)
         self.answer("fsck", "new")
         self.records(deal, new)
@@ -318,7 +355,7 @@ class Collecting(Calls):
     def records(self, deal, new):
         """A record of the old deal is the old deal's alone; at the new places the new deal has others, which are accepted."""
         old_root, new_root = (MODEL.commitment(d)[1].hex() for d in (deal, new))
-        for row in self.moved(deal, new):
+        for row in self.moved(deal, bytes(4), new):
             self.answer("build", "deal", row["place"], "-o", "old", *GIVEN)
             self.answer("build", "new", row["new_place"], "-o", "record", *GIVEN)
             self.answer("check", old_root, 4096, "old", *GIVEN)
@@ -330,29 +367,66 @@ class Collecting(Calls):
     def test_any_deal_that_can_be_collected(self):
         for i in range(25):
             deal = bytes(4096) if i % 2 else b"".join(node(self.rng) for _ in range(120)) + bytes(256)
+            table = bytes(4)
             for _ in range(self.rng.randrange(9)):
-                deal = MODEL.book(deal, self.segment(self.rng.choice((128, 256, 512, 1024)))[: self.rng.choice((1, 100, 130, 1024))])[3]
-                deal = MODEL.cancel(deal, 3840 + 64 * self.rng.randrange(5))[1] if self.rng.randrange(3) else deal
-            deal = bytearray(deal)
+                segment = self.segment(self.rng.choice((128, 256, 512, 1024)))[: self.rng.choice((1, 100, 130, 1024))]
+                *_, deal, table = MODEL.book(deal, table, self.rng.choice((1, 2)), segment)
+                place = 3840 + 64 * self.rng.randrange(5)
+                if self.rng.randrange(3):
+                    _, deal, table = MODEL.cancel(deal, table, self.rng.choice((1, 2)), place)
+            deal, table = bytearray(deal), bytearray(table)
             deal[self.rng.randrange(1024)] ^= self.rng.randrange(2)  # now and then a segment that is not kept: it is moved as it is
+            if i % 3 == 0:
+                table[self.rng.randrange(4)] = self.rng.randrange(256)
             self.put("deal", bytes(deal))
+            self.put("deal.owners", bytes(table))
             out = json.loads(self.answer("collect", "deal", f"new{i}", "--json"))
-            new = MODEL.collect(bytes(deal), bytes(4096))[1]
-            self.assertEqual((self.get("deal"), self.get(f"new{i}")), (deal, new))
-            self.assertEqual(out, {"code": 0, "meaning": "done", "size": 4096, "moved": self.moved(deal, new), "left": []})
+            new, owners = self.collected(bytes(deal), bytes(table))
+            self.assertEqual((self.both(), self.both(f"new{i}")), ((deal, table), (new, owners)))
+            self.assertEqual(out, {"code": 0, "meaning": "done", "size": 4096, "moved": self.moved(deal, table, new), "left": []})
 
     def test_an_empty_deal_and_the_largest(self):
         self.put("deal", bytes(512))
-        self.assertEqual(self.answer("collect", "deal", "new"), "place  new_place  offset  new_offset  size  commitment\n")
-        self.assertEqual(self.get("new"), bytes(512))
+        heading = "place  new_place  owner  offset  new_offset  size  commitment\n"
+        self.assertEqual(self.answer("collect", "deal", "new"), heading)
+        self.assertEqual(self.both("new"), (bytes(512), bytes(4)))
         self.answer("new", "large", 1 << 24)
         quarter, small = self.put("quarter", self.segment(1 << 12) * (1 << 10)), self.put("small", self.segment())
-        for name in ("small", "quarter"):
-            self.answer("book", "large", name)
+        for house, name in enumerate(("small", "quarter"), 1):
+            self.answer("book", "large", name, "--house", house)
         self.answer("collect", "large", "packed")
-        packed = self.get("packed")
+        packed, table = self.both("packed")
         self.assertEqual((packed[: 1 << 22], packed[1 << 22 : (1 << 22) + 256]), (quarter, small + bytes(128)))
+        self.assertEqual(table, b"\2\1" + bytes(126))
         self.answer("fsck", "packed")
+
+    def test_a_deal_whose_owners_are_not_known(self):
+        """Neither are those of the new one, which so has no table, and is not booked in until somebody says whose its entries are."""
+        deal, places = self.booked(1024, (256, 128))
+        self.path("deal.owners").unlink()
+        new = self.collected(deal, bytes(4))[0]
+        for words, stdin in ((("collect", "deal", "new"), b""), (("collect", "-", "piped"), deal)):
+            name = words[2]
+            out, err = self.call(*words, stdin=stdin)
+            self.assertEqual({line.split()[2] for line in out.splitlines()[1:]}, {"?"})
+            self.assertIn(f"so none is written for {name}; whose its entries are is said by: vizhuthamen owner {name} HOUSE", err)
+            self.assertEqual(self.get(name), new)
+            self.assertFalse(self.path(name + ".owners").exists())
+            self.put("segment", self.segment())
+            self.failed(DATA, "book", name, "segment")
+        self.put("other.owners", bytes(4))
+        self.assertIn("other.owners is there, and is not the table of the new deal", self.failed(DATA, "collect", "deal", "other"))
+        self.assertFalse(self.path("other").exists())
+
+    def test_a_table_of_another_length(self):
+        deal, _ = self.booked(1024, (256, 128))
+        for length in (0, 3, 5, 128, 129, 100000):
+            self.put("deal.owners", bytes(length))
+            out = self.refused(23, "collect", "deal", "new")
+            self.assertIn(f"deal.owners has {length} bytes, and deal has 4 slots, with a byte each. Bring back the right table", out)
+            value = json.loads(self.answer("collect", "deal", "new", "--json", status=23))
+            self.assertEqual((value["wrong"], "vizhuthamen owner deal HOUSE" in value["hint"]), ("table", True))
+        self.assertEqual((self.get("deal"), self.files()), (deal, ["deal", "deal.owners"]))
 
     def test_no_file_is_overwritten(self):
         deal, _ = self.booked(1024, (128,))
@@ -369,12 +443,14 @@ class Collecting(Calls):
         self.failed(USAGE, "collect", "deal", "-")
         self.failed(IO, "collect", "deal", "no/such/folder")
         self.assertEqual((self.get("deal"), self.get("taken")), (deal, b"precious"))
-        self.assertEqual(self.files(), ["deal", "folder", "link", "nowhere", "second", "taken"])
+        self.assertEqual(self.files(), ["deal", "deal.owners", "folder", "link", "nowhere", "second", "taken"])
         self.answer("collect", "second", "folder/new")  # a deal with several names is read as any other
 
     def test_from_standard_input(self):
         deal, _ = self.booked(1024, (256, 128))
-        self.assertEqual(self.answer("collect", "-", "new", stdin=deal), self.answer("collect", "deal", "other"))
+        piped, read = self.answer("collect", "-", "new", stdin=deal), self.answer("collect", "deal", "other")
+        self.assertEqual([line.split()[:2] + line.split()[3:] for line in piped.splitlines()],
+                         [line.split()[:2] + line.split()[3:] for line in read.splitlines()])
         self.assertEqual(self.get("new"), self.get("other"))
         with open(self.path("deal"), "rb") as file:
             ran = subprocess.run([self.program, "collect", "-", "deal"], stdin=file, cwd=self.folder, capture_output=True)
@@ -393,7 +469,7 @@ class Collecting(Calls):
         self.put("new.vz", b"vizhuthamen deal 1\nsize 512\n")
         self.put("deal", deal)
         self.assertIn("says that it has 512", self.failed(DATA, "collect", "deal", "new"))
-        self.assertEqual(self.files(), ["deal", "long", "new.vz", "short"])
+        self.assertEqual(self.files(), ["deal", "deal.owners", "long", "new.vz", "short"])
 
     def test_overlapping_entries_are_named(self):
         deal, places = self.booked(2048, (256, 128))
@@ -406,11 +482,12 @@ class Collecting(Calls):
             self.assertIn(part, err)
         value = json.loads(self.answer("collect", "deal", "new", "--json", status=20))
         self.assertEqual([(w["slot"], w["place"], w["overlaps"]) for w in value["overlapping"]], [(2, 1920, 0), (3, 1984, 0)])
-        self.assertEqual((self.get("deal"), self.files()), (over, ["deal"]))
+        self.assertEqual((self.get("deal"), self.files()), (over, ["deal", "deal.owners"]))
+        self.answer("owner", "deal", 2)  # until then the two are nobody's, and no house cancels them
         for place in (1920, 1984):
-            self.answer("cancel", "deal", place)
+            self.answer("cancel", "deal", place, "--house", 2)
         self.answer("collect", "deal", "new")
-        self.assertEqual(self.get("new"), MODEL.collect(deal, bytes(2048))[1])
+        self.assertEqual(self.both("new"), self.collected(deal, b"\1\1\0\0"))
 
     def test_a_slot_that_is_not_sound_is_not_left_out_unasked(self):
         deal, places = self.booked(1024, (128, 128, 256))
@@ -422,11 +499,11 @@ class Collecting(Calls):
         for part in (f"slot 0 (place {places[0]}) is damaged, and the new deal would be without it", "nothing is written",
                      "vizhuthamen fsck deal", "vizhuthamen repair deal", "--force"):
             self.assertIn(part, error)
-        self.assertEqual(self.files(), ["deal"])
+        self.assertEqual(self.files(), ["deal", "deal.owners"])
         out, err = self.call("collect", "deal", "new", "--force", "--json")
         self.assertEqual([(w["slot"], w["state"]) for w in json.loads(out)["left"]], [(0, "damaged"), (3, "valid")])
         self.assertIn(f"slot 0 (place {places[0]}) is damaged, and is left out\n", err)
-        self.assertEqual(self.get("new"), MODEL.collect(bytes(spoilt), bytes(1024))[1])
+        self.assertEqual(self.both("new"), self.collected(bytes(spoilt), self.get("deal.owners")))
 
     def test_permissions_of_the_new_deal(self):
         self.booked(1024, (128,))
@@ -434,7 +511,7 @@ class Collecting(Calls):
             self.path("deal").chmod(mode)
             name = f"new-{mode:o}-{mask:o}"
             self.answer("collect", "deal", name, umask=mask)
-            for made in (name, name + ".vz"):
+            for made in (name, name + ".vz", name + ".owners"):
                 self.assertEqual(stat.S_IMODE(self.path(made).stat().st_mode), expected, made)
 
     def test_a_journal_of_an_older_deal_is_not_ended_over_the_new_one(self):
@@ -445,7 +522,373 @@ class Collecting(Calls):
             self.assertIn(".new.vz-journal was left by a change of an older deal of that name; remove it first", self.failed(IO, *words))
         self.path(".new.vz-journal").unlink()
         self.answer("collect", "deal", "new")
-        self.assertEqual((self.get("new"), self.files()), (MODEL.collect(deal, bytes(1024))[1], ["deal", "new", "new.vz"]))
+        self.assertEqual(self.both("new"), self.collected(deal, self.get("deal.owners")))
+        self.assertEqual(self.files(), ["deal", "deal.owners", "new", "new.owners", "new.vz"])
+
+
+class Houses(Calls):
+    """Two houses in one deal (document 02, request (x))."""
+
+    def book(self, house, segment, status=0, **options):
+        self.put("segment", segment)
+        return self.answer("book", "deal", "segment", "--house", house, status=status, **options)
+
+    def test_document_01s_runs_by_one_house_end_with_22(self):
+        first, second, third = (self.segment() for _ in range(3))
+        for size in (512, 1024):
+            self.answer("new", "deal", size)
+            self.assertTrue(self.book(1, first).startswith(f"offset 0\nplace {size - 256}\n"))
+            self.assertEqual(self.book(1, first, 15).splitlines()[1:3], ["offset 0", f"place {size - 256}"])
+            self.assertTrue(self.book(1, second).startswith(f"offset 128\nplace {size - 192}\n"))
+            kept = self.both()
+            self.assertEqual(kept[1], b"\1\1\0\0")
+            out = self.book(1, third, 22)
+            hint = ("house 1 holds 2 of the 4 slots of deal, and books while it holds fewer than half of them: cancel an entry of "
+                    "house 1 first, or take another deal; they are shown by: vizhuthamen owner deal")
+            self.assertEqual(out.splitlines()[1:], [hint])
+            value = json.loads(self.answer("book", "deal", "segment", "--house", 1, "--json", status=22))
+            del value["meaning"]
+            self.assertEqual(value, {"code": 22, "house": 1, "held": 2, "slots": 4, "hint": hint})
+            self.book(1, first, 15)  # 15 comes before it
+            self.assertEqual(self.both(), kept)
+            for end in ("", ".owners", ".vz"):
+                self.path("deal" + end).unlink()
+
+    def test_13_with_nobodys_entries_and_14_with_two_houses(self):
+        self.booked(512, (128, 128), (1, 2))
+        third = self.segment()
+        for house in (1, 2):
+            self.book(house, third, 14)
+        deal, _ = self.booked(1024, (128,) * 4)
+        for house in (1, 2):
+            self.book(house, third, 22)  # each holds half: a full index does not show as 13
+        for table in (bytes(4), b"\7\0\xff\3", b"\1\0\0\0"):
+            self.put("deal.owners", table)
+            for house in (1, 2):
+                self.book(house, third, 13)
+        self.assertEqual(self.get("deal"), deal)
+
+    def test_each_house_sees_its_own(self):
+        segment = self.segment()
+        self.answer("new", "deal", 1024)
+        for house, place in ((1, 768), (2, 832)):
+            self.assertIn(f"place {place}\n", self.book(house, segment))
+            again = self.book(house, segment, 15).splitlines()
+            self.assertEqual((again[2], again[5]), (f"place {place}", f"house {house}"))
+        kept = self.both()
+        self.assertEqual(kept[1], b"\1\2\0\0")
+        for house, place, other in ((1, 832, 2), (2, 768, 1)):
+            out, err = self.call("cancel", "deal", place, "--house", house, status=16)
+            self.assertIn(f"(place {place}) holds an entry that stands and is house {other}'s; only house {other} cancels it\n", err)
+            value = json.loads(self.answer("cancel", "deal", place, "--house", house, "--json", status=16))
+            self.assertEqual((value["house"], value["owner"]), (house, other))
+        self.put("deal.owners", b"\0\7\0\0")
+        for place, told in ((768, {"owner": 0}), (832, {"owner": 0, "owner_byte": 7})):
+            for house in (1, 2):
+                out, err = self.call("cancel", "deal", place, "--house", house, "--json", status=16)
+                self.assertIn("and is nobody's; no house cancels it until it has an owner: vizhuthamen owner deal HOUSE", err)
+                value = json.loads(out)
+                self.assertEqual({k: v for k, v in value.items() if k.startswith("owner")}, told)
+        self.put("deal.owners", kept[1])
+        self.assertEqual(self.both(), kept)
+        out = self.answer("cancel", "deal", 832, "--house", 2)
+        self.assertTrue(out.endswith("\nhouse 2\n"), out)
+        self.assertEqual(self.both(), MODEL.cancel(*kept, 2, 832)[1:])
+
+    def test_calls_of_both_houses_answer_as_the_model(self):
+        """Bookings and cancellations of any codes, over tables of any bytes, some of them changed by hand."""
+        met = set()
+        for i in range(12):
+            state = bytes(1024), (bytes(4), self.rng.randbytes(4))[i % 2]
+            self.put("deal", state[0])
+            self.put("deal.owners", state[1])
+            segments = [self.segment(s) for s in (128, 128, 128, 256)]
+            for _ in range(12):
+                house = self.rng.choice((1, 1, 1, 2, 2, 2, 0, 3))
+                if self.rng.randrange(3):
+                    segment = self.put("segment", self.rng.choice(segments))
+                    code, offset, place, *state = MODEL.book(*state, house, segment)
+                    out = self.answer("book", "deal", "segment", "--house", house, "--json", status=code)
+                    value = json.loads(out)
+                    if code in (0, 15):
+                        self.assertEqual((value["offset"], value["place"]), (offset, place))
+                else:
+                    place = self.rng.choice((768, 832, 896, 960, 960, 700))
+                    code, *state = MODEL.cancel(*state, house, place)
+                    value = json.loads(self.answer("cancel", "deal", place, "--house", house, "--json", status=code))
+                self.assertEqual((value["code"], value["house"], self.both()), (code, house, tuple(state)))
+                met.add(code)
+                if not self.rng.randrange(6):
+                    table = bytearray(state[1])
+                    table[self.rng.randrange(4)] = self.rng.choice((0, 1, 2, 7))
+                    state = state[0], self.put("deal.owners", bytes(table))
+        self.assertLessEqual({0, 6, 13, 15, 16, 22, 23}, met)
+
+    def test_the_house_that_is_not_named(self):
+        self.answer("new", "deal", 1 << 21)
+        names = iter(range(20))
+
+        def book(*words, status=0, variable=None):
+            name = f"s{next(names)}"
+            self.put(name, self.segment())
+            env = {**os.environ, **({} if variable is None else {HOUSE: variable})}
+            return self.call("book", "deal", name, *words, status=status, env=env)
+
+        def house(*words, **options):
+            return book(*words, **options)[0].splitlines()[-1]
+
+        self.assertEqual(house(), "house 1")
+        self.assertEqual(house(variable=""), "house 1")
+        self.assertEqual(house(variable="1"), "house 1")
+        self.assertEqual(house("--house", 1, variable="2"), "house 1")
+        self.assertEqual(house("--house", "01", variable="nonsense"), "house 1")
+        self.assertEqual(house(variable="2"), "house 2")
+        before = self.both()
+        for variable in (None, ""):
+            err = book(status=USAGE, variable=variable)[1]
+            self.assertIn(f"two houses book in deal: say which with --house 1 or --house 2 (or {HOUSE}); nothing is changed", err)
+        env = {**os.environ, HOUSE: "2"}
+        self.assertIn("say which with --house", self.failed(USAGE, "cancel", "deal", (1 << 21) - 704))
+        self.assertEqual(self.both(), before)
+        for variable in ("x", "-1", "1 ", "two", "1.0"):
+            self.assertIn(f"{HOUSE} is no house, 1 or 2: {variable}", book(status=USAGE, variable=variable)[1])
+        self.assertIn(f"{HOUSE} says 7, which is no house: give 1 or 2", book(status=23, variable="7")[0])
+        self.assertEqual(self.both(), before)
+        self.assertTrue(self.answer("cancel", "deal", (1 << 21) - 704, env=env).endswith("house 2\n"))
+        self.assertEqual(house(), "house 1")  # no entry of house 2 stands any more
+
+    def test_numbers_that_are_no_house_get_23_before_all_else(self):
+        self.booked(1024, (128,))
+        self.put("segment", self.segment())
+        self.put("short", bytes(1000))
+        self.put("strange", self.get("deal"))  # without a table
+        before = {name: self.get(name) for name in self.files()}
+        for house in (0, 3, 255, 256, 257, 258, (1 << 32) + 1, (1 << 64) - 1):
+            for words in (("book", "deal", "segment"), ("book", "deal", "short"), ("book", "short", "segment"), ("cancel", "deal", 768),
+                          ("cancel", "deal", 1), ("cancel", "short", 1), ("book", "strange", "segment"), ("cancel", "strange", 768)):
+                out = self.refused(23, *words, "--house", house)
+                self.assertEqual(out.splitlines()[1:], [f"--house says {house}, which is no house: give 1 or 2"])
+            value = json.loads(self.answer("book", "deal", "segment", "--house", house, "--json", status=23))
+            self.assertEqual((value["house"], value["wrong"]), (house, "house"))
+        self.assertEqual({name: self.get(name) for name in self.files()}, before)
+
+    def test_a_table_of_another_length_gets_23_right_after_2(self):
+        deal, _ = self.booked(1024, (128,))
+        self.put("segment", self.segment())
+        self.put("short", bytes(1000))
+        for length in (0, 1, 3, 5, 8, 127, 128, 129, 130, 1 << 16):
+            self.put("deal.owners", b"\1" * length)
+            self.put("short.owners", b"\1" * length)
+            for words in (("book", "deal", "segment"), ("book", "deal", "short"), ("cancel", "deal", 768), ("cancel", "deal", 1)):
+                for house in ((), ("--house", 1), ("--house", 2)):
+                    hint = self.refused(23, *words, *house).splitlines()[1]
+                    self.assertIn(f"/deal.owners has {length} bytes, and deal has 4 slots, with a byte each. Bring back the right "
+                                  "table, or remove it and say whose the entries are: vizhuthamen owner deal HOUSE [PLACE...]", hint)
+            value = json.loads(self.answer("cancel", "deal", 768, "--json", status=23))
+            self.assertEqual((value["house"], value["wrong"], value["hint"]), (1, "table", hint))
+            self.refused(2, "book", "short", "segment")
+            self.refused(2, "cancel", "short", 768)
+            self.assertEqual(self.both(), (deal, b"\1" * length))
+        self.assertEqual(self.files(), ["deal", "deal.owners", "segment", "short", "short.owners"])
+
+    def test_a_deal_without_a_table(self):
+        deal, _ = self.booked(1024, (128, 256))
+        self.put("segment", self.segment())
+        self.path("deal.owners").unlink()
+        for words in (("book", "deal", "segment"), ("book", "deal", "segment", "--house", 2), ("cancel", "deal", 768)):
+            error = self.failed(DATA, *words)
+            for part in ("/deal.owners is not there, and 2 entries stand in deal: whose is not known", "copy that table too",
+                         "vizhuthamen owner deal HOUSE [PLACE...] (0 for nobody)", "nothing is changed"):
+                self.assertIn(part, error)
+        self.assertEqual((self.get("deal"), self.files()), (deal, ["deal", "segment"]))
+        out, err = self.call("list", "deal")
+        self.assertEqual([line.split()[3] for line in out.splitlines()[1:]], ["?", "?", "-", "-"])
+        self.assertIn("/deal.owners is not there", err)
+        self.assertEqual(json.loads(self.answer("list", "deal", "--json"))["table"], "missing")
+        # Where nothing stands, the first booking makes it.
+        bare = bytearray(deal)
+        bare[768:832] = bytes(64)
+        bare[832:896] = MODEL.entry(bytes(32), 64, 128)  # valid, and stands not
+        self.put("deal", bytes(bare))
+        self.assertIn("house 2", self.answer("book", "deal", "segment", "--house", 2))
+        self.assertEqual(self.both(), MODEL.book(bytes(bare), bytes(4), 2, self.get("segment"))[3:])
+
+    def test_a_table_that_is_no_file(self):
+        deal, _ = self.booked(1024, (128,))
+        self.put("segment", self.segment())
+        self.path("deal.owners").unlink()
+        self.path("deal.owners").mkdir()
+        self.cannot_be_read("deal.owners: it is not a regular file")
+        self.assertEqual((self.get("deal"), self.files()), (deal, ["deal", "deal.owners", "out", "segment"]))
+
+    @unittest.skipIf(os.getuid() != 0, "needs another user")
+    def test_a_table_that_may_not_be_read(self):
+        deal, _ = self.booked(1024, (128,))
+        self.put("segment", self.segment())
+        self.path("deal").chmod(0o666)
+        self.path("deal.owners").chmod(0)
+        self.cannot_be_read("deal.owners: Permission denied", **nobody())
+        self.assertEqual(self.both(), (deal, b"\1\0\0\0"))
+
+    def cannot_be_read(self, why, **options):
+        """A table is there that cannot be read: nothing is changed, and what the deal holds is shown all the same."""
+        for words in (("book", "deal", "segment"), ("cancel", "deal", 768), ("collect", "deal", "new"), ("owner", "deal"),
+                      ("owner", "deal", 1)):
+            self.assertIn(why, self.failed(IO, *words, **options))
+        out, err = self.call("list", "deal", **options)
+        self.assertEqual((out.splitlines()[1].split()[2:4], why in err), (["kept", "?"], True))
+        for command in ("fsck", "repair"):
+            self.assertIn(why, self.answer(command, "deal", status=DATA, **options))
+        self.assertEqual(json.loads(self.answer("fsck", "deal", "--json", status=DATA, **options))["table"], "unreadable")
+        self.assertIn(why, self.call("salvage", "deal", "out", **options)[1])
+
+    def test_a_table_of_a_deal_that_is_gone(self):
+        self.booked(1024, (128,))
+        self.put("new.owners", b"\1\0\0\0")
+        for words in (("new", "new", 1024), ("new", "new", 1 << 20)):
+            error = self.failed(DATA, *words)
+            self.assertIn("new.owners is there, and is not the table of the new deal; nothing is done. Remove", error)
+        self.answer("collect", "deal", "new")  # it is that of this one
+        self.assertEqual(self.get("new.owners"), b"\1\0\0\0")
+        self.put("other.owners", bytes(4))
+        self.answer("new", "other", 512)
+        self.assertEqual(self.both("other"), (bytes(512), bytes(4)))
+
+
+class Owners(Calls):
+    """Whose the entries are: shown, and said."""
+
+    def shown(self, *words, **options):
+        return json.loads(self.answer("owner", "deal", *words, "--json", **options))
+
+    def owners(self):
+        return self.get("deal.owners")
+
+    def test_what_is_shown(self):
+        deal, places = self.booked(1024, (256, 128, 128), (1, 2, 1))
+        self.put("deal.owners", b"\1\2\7\1")
+        rows = [line.split() for line in self.answer("owner", "deal").splitlines()]
+        commitments = [deal[p : p + 32].hex() for p in places]
+        self.assertEqual(rows[0], ["slot", "place", "owner", "size", "commitment"])
+        self.assertEqual(rows[1:4], [[str(i), str(p), owner, size, c] for i, p, owner, size, c in
+                                     zip(range(3), places, ("1", "2", "nobody(7)"), ("256", "128", "128"), commitments)])
+        self.assertEqual(" ".join(rows[4]), "of 4 slots house 1 holds 1 and house 2 holds 1; 1 entries are nobody's")
+        entry = lambda i, size, owner: {"slot": i, "place": places[i], **owner, "size": size, "commitment": commitments[i]}
+        self.assertEqual(self.shown(), {**DONE, "slots": 4, "house_1": 1, "house_2": 1, "nobody": 1, "entries": [
+            entry(0, 256, {"owner": 1}), entry(1, 128, {"owner": 2}), entry(2, 128, {"owner": 0, "owner_byte": 7})]})
+        self.assertEqual(self.both(), (deal, b"\1\2\7\1"))
+        self.path("deal.owners").unlink()
+        self.assertIn("deal.owners is not there, and 3 entries stand in deal", self.failed(DATA, "owner", "deal"))
+        self.put("deal", bytes(1024))
+        self.assertEqual(self.shown(), {**DONE, "slots": 4, "house_1": 0, "house_2": 0, "nobody": 0, "entries": []})
+        self.put("deal.owners", bytes(5))
+        self.assertEqual(self.shown(status=23)["wrong"], "table")
+
+    def test_entries_that_are_nobodys(self):
+        self.booked(1024, (256, 128, 128), (1, 2, 1))
+        places = 768, 832, 896
+        for table, words, after in ((bytes(4), (1,), b"\1\1\1\0"), (b"\0\2\7\7", (1,), b"\1\2\1\7"), (b"\1\2\7\7", (0,), b"\1\2\0\0"),
+                                    (b"\1\2\7\1", (0,), b"\1\2\0\0"), (bytes(4), (2, 832, 768), b"\2\2\0\0"),
+                                    (b"\7\2\0\0", (0, 768), b"\0\2\0\0"), (b"\1\2\0\0", (2, 896, 832, 896), b"\1\2\2\0"),
+                                    (b"\1\2\2\0", (1,), b"\1\2\2\0"), (b"\1\2\2\0", (1, 768), b"\1\2\2\0")):
+            self.put("deal.owners", table)
+            value = self.shown(*words)
+            self.assertEqual(self.owners(), after, (table, words))
+            self.assertEqual([e["owner"] for e in value["entries"]], [b if b < 3 else 0 for b in after[:3]])
+            self.assertEqual([e["place"] for e in value["entries"]], list(places))
+
+    def test_a_table_is_made(self):
+        deal, _ = self.booked(1024, (256, 128, 128), (1, 2, 1))
+        for words, after in (((1,), b"\1\1\1\0"), ((2, 832), b"\0\2\0\0"), ((0,), bytes(4)), ((0, 768), bytes(4))):
+            self.path("deal.owners").unlink()
+            self.shown(*words)
+            self.assertEqual(self.both(), (deal, after))
+        self.assertEqual(self.files(), ["deal", "deal.owners"])
+        self.answer("owner", "deal", 1, 768)
+        self.put("segment", self.segment())
+        self.assertIn("house 1", self.answer("book", "deal", "segment"))
+        self.assertEqual(self.owners(), b"\1\0\0\1")
+
+    def test_an_entry_of_the_other_house_is_taken_only_where_it_is_meant(self):
+        self.booked(1024, (256, 128, 128), (1, 2, 1))
+        before = self.put("deal.owners", b"\1\2\0\0")
+        meant = "--instead-of", 1
+        for words, whose, right in (((2, 768), "768 is house 1's", "2 768 --instead-of 1"),
+                                    ((2, 896, 768), "768 is house 1's", "2 768 --instead-of 1"),
+                                    ((0, 832), "832 is house 2's", "0 832 --instead-of 2"),
+                                    ((1, 832, *meant), "832 is house 2's, and --instead-of says 1", "1 832 --instead-of 2"),
+                                    ((2, 896, *meant), "896 is nobody's, and --instead-of says 1", "2 896")):
+            error = self.failed(DATA, "owner", "deal", *words)
+            right = f"nothing is changed; if that is right: vizhuthamen owner deal {right}\n"
+            self.assertIn(f"the entry at place {whose}; {right}", error)
+            self.assertEqual(self.owners(), before)
+        for words, after in (((2, 768, "--instead-of", 1), b"\2\2\0\0"), ((2, 768, "--instead-of", 1), b"\2\2\0\0"),
+                             ((1, "--instead-of", 2), b"\1\1\0\0"), ((1, "--instead-of", 0), b"\1\1\1\0"),
+                             ((0, 832, 768, "--instead-of", 1), b"\0\0\1\0"), ((0, "--instead-of", 1), b"\0\0\0\0")):
+            self.shown(*words)
+            self.assertEqual(self.owners(), after, words)
+
+    def test_refusals(self):
+        deal, _ = self.booked(1024, (256, 128), (1, 2))
+        for house in (3, 255, 256, 257, 1 << 40):
+            value = self.shown(house, status=23)
+            self.assertEqual((value["wrong"], value["hint"]), ("house", f"{house} is no house: give 1 or 2, or 0 for nobody"))
+        for place in (0, 769, 1024, 767):
+            self.assertIn("an entry place here is a multiple of 64 from 768 to 960", self.call("owner", "deal", 1, 768, place, status=6)[1])
+        self.assertIn("slot 2 (place 896) is blank; see: vizhuthamen list deal", self.call("owner", "deal", 1, 896, status=16)[1])
+        self.assertEqual(self.both(), (deal, b"\1\2\0\0"))
+        self.put("deal.owners", bytes(3))
+        self.assertEqual(self.shown(1, status=23)["wrong"], "table")
+        self.assertEqual(self.both(), (deal, bytes(3)))
+
+    def test_a_house_that_holds_half_or_more_is_told(self):
+        self.booked(1024, (128,) * 4)
+        note = "house 1 holds half the slots or more: it cannot book until it holds fewer"
+        self.put("deal.owners", bytes(4))
+        self.assertNotIn(note, self.call("owner", "deal", 1, 768)[1])
+        self.assertIn(note, self.call("owner", "deal", 1)[1])
+        self.put("segment", self.segment())
+        self.assertIn("house 1 holds 4 of the 4 slots", self.answer("book", "deal", "segment", status=22))
+
+    def test_owner_bytes_that_no_command_writes_are_named(self):
+        deal, _ = self.booked(1024, (256, 128), (1, 2))
+        self.answer("fsck", "deal")
+        self.put("deal.owners", b"\7\2\1\xff")
+        out = self.answer("fsck", "deal", status=DATA)
+        for line in ("slot 0 (place 768) has the owner byte 7: its entry is nobody's",
+                     "slot 2 (place 896) has the owner byte 1: the slot is blank",
+                     "slot 3 (place 960) has the owner byte 255: no entry stands there"):
+            self.assertIn(line + "; 0 is put there by: vizhuthamen owner deal 0\n", out)
+        value = json.loads(self.answer("fsck", "deal", "--json", status=DATA))
+        self.assertEqual((value["table"], [(w["slot"], w["state"], w["owner_byte"]) for w in value["owner_bytes"]]),
+                         ("whole", [(0, "kept", 7), (2, "blank", 1), (3, "blank", 255)]))
+        self.answer("owner", "deal", 0)
+        self.assertEqual(self.both(), (deal, b"\0\2\0\0"))
+        self.answer("fsck", "deal")
+        # The byte of a damaged slot is that of the entry it held.
+        self.put("deal.owners", b"\1\2\0\0")
+        self.put("deal", deal[:768] + bytes([deal[768] ^ 1]) + deal[769:])
+        value = json.loads(self.answer("fsck", "deal", "--json", status=DATA))
+        self.assertEqual(value["owner_bytes"], [])
+        self.answer("owner", "deal", 0)
+        self.assertIn(", owner 1\n", self.answer("repair", "deal"))
+        self.assertEqual(self.both(), (deal, b"\1\2\0\0"))
+
+    def test_tables_that_are_missing_or_of_another_length_are_named(self):
+        deal, _ = self.booked(1024, (256, 128), (1, 2))
+        for length in (0, 3, 5, 1000):
+            self.put("deal.owners", bytes(length))
+            for command in ("fsck", "repair"):
+                self.assertIn(f"deal.owners has {length} bytes, and deal has 4 slots", self.answer(command, "deal", status=DATA))
+            value = json.loads(self.answer("fsck", "deal", "--json", status=DATA))
+            self.assertEqual((value["table"], value["table_bytes"]), ("wrong length", length))
+        self.path("deal.owners").unlink()
+        for command in ("fsck", "repair"):
+            self.assertIn("deal.owners is not there, and 2 entries stand in deal", self.answer(command, "deal", status=DATA))
+        self.assertEqual(json.loads(self.answer("fsck", "deal", "--json", status=DATA))["table"], "missing")
+        self.answer("fsck", "-", stdin=deal)  # nothing lies beside a pipe
+        self.put("deal", bytes(1024))
+        self.assertEqual(json.loads(self.answer("fsck", "deal", "--json"))["table"], "missing")
 
 
 class Numbers(Calls):
@@ -486,8 +929,8 @@ class Numbers(Calls):
         self.assertEqual(self.get("record"), record)
         # Bookings and cancellations leave it.
         self.put("segment", self.segment())
-        self.answer("book", "deal", "segment")
-        self.answer("cancel", "deal", places[0])
+        self.answer("book", "deal", "segment", "--house", 2)
+        self.answer("cancel", "deal", places[0], "--house", 1)
         self.assertEqual(self.kept(), f"number {NUMBER}\n")
 
     def test_a_number_that_is_not_known(self):
@@ -503,7 +946,7 @@ class Numbers(Calls):
         self.assertIn("no number of deal is kept; it is kept by: vizhuthamen number deal N\n", error)
         for words in (("check", "00" * 32, 512, "record"), ("settle", "00" * 32, 512, "record", "record")):
             self.assertIn("the deal's number is missing: give --number N", self.failed(USAGE, *words))
-        self.assertEqual(self.files(), ["deal", "record"])
+        self.assertEqual(self.files(), ["deal", "deal.owners", "record"])
 
     def test_a_number_is_changed_where_the_old_one_is_meant(self):
         self.booked()
@@ -522,7 +965,7 @@ class Numbers(Calls):
         self.path("deal.vz").unlink()
         error = self.failed(DATA, "number", "deal", NUMBER, "--instead-of", OTHER)
         self.assertIn(f"no number of deal is kept, and --instead-of says {OTHER}; nothing is changed", error)
-        self.assertEqual(self.files(), ["deal"])
+        self.assertEqual(self.files(), ["deal", "deal.owners"])
 
     def test_a_record_of_another_deal_is_named(self):
         """The right record for the wrong deal, and its number: in the text and for programs."""
@@ -891,9 +1334,6 @@ class Archives(Calls):
         self.assertEqual(self.files(), ["raw", "segment", "spoilt"])
 
 
-DONE = {"code": 0, "meaning": "done"}
-
-
 class Json(Calls):
     def object(self, *words, status=0):
         out = self.answer(*words, "--json", status=status)
@@ -922,13 +1362,15 @@ class Json(Calls):
             self.assertEqual((hashed["commitment"], hashed["size"]), (root, 1024))
         self.put("segment", deal[:256])
         again = self.object("book", "deal", "segment", status=15)
-        self.assertEqual((again["offset"], again["place"], again["commitment"]), (0, places[0], commitment))
+        self.assertEqual((again["offset"], again["place"], again["commitment"], again["house"]), (0, places[0], commitment, 1))
         self.assertNotIn("number", self.object("list", "other"))
         listed = self.object("list", "deal")
         self.assertEqual((listed["size"], listed["number"], listed["start"]), (1024, NUMBER, 768))
         slots = listed["slots"]
         self.assertEqual([s["state"] for s in slots], ["kept", "kept", "blank", "blank"])
-        self.assertEqual(slots[0], {"slot": 0, "place": places[0], "state": "kept", "offset": 0, "size": 256, "commitment": commitment})
+        self.assertEqual(slots[0], {"slot": 0, "place": places[0], "state": "kept", "owner": 1, "offset": 0, "size": 256,
+                                    "commitment": commitment})
+        self.assertEqual((listed["table"], "owner" in slots[2]), ("whole", False))
         tally = self.object("tally", "deal")
         self.assertEqual((tally["blank"], tally["damaged"], tally["valid"]), (2, 0, 2))
         found = self.object("find", "deal", commitment)
@@ -943,8 +1385,8 @@ class Json(Calls):
         collected = self.object("collect", "deal", "collected")
         self.assertEqual(([m["new_place"] for m in collected["moved"]], collected["number"]), (places, NUMBER))
         cancelled = self.object("cancel", "deal", places[0])
-        self.assertEqual(cancelled, {**DONE, "offset": 0, "place": places[0], "size": 256, "commitment": commitment})
-        self.object("cancel", "deal", places[0], status=16)
+        self.assertEqual(cancelled, {**DONE, "offset": 0, "place": places[0], "size": 256, "commitment": commitment, "house": 1})
+        self.assertEqual(self.object("cancel", "deal", places[0], status=16)["house"], 1)
         fields = self.object("show", "record")["fields"]
         self.assertEqual([f["tag"] for f in fields], [1, 2, 3, 4, 5, 6, 7])
         self.assertEqual([f.get("value") for f in fields], [None, 0, 256, places[0], None, None, NUMBER])
@@ -990,28 +1432,30 @@ class Refusals(Calls):
             self.refused(code, "settle-deal", "deal", "changed", *GIVEN)
 
     def test_the_codes_of_deals(self):
-        deal, places = self.booked(512, (128, 128))
+        deal, places = self.booked(512, (128, 128), (1, 2))
         self.put("third", self.segment())
-        self.refused(14, "book", "deal", "third")
+        one = "--house", 1
+        self.refused(14, "book", "deal", "third", *one)
         self.put("stray", b"\xff" * 128)
-        self.refused(11, "book", "deal", "stray")
+        self.refused(11, "book", "deal", "stray", *one)
         self.refused(11, "commit", "stray")
         self.put("strayed", deal[:31] + b"\x40" + deal[32:])
         self.refused(11, "tally", "strayed")
-        self.refused(4, "book", "deal", "deal")
+        self.refused(4, "book", "deal", "deal", *one)
         self.refused(16, "find", "deal", "00" * 32)
         self.refused(16, "build", "deal", 384, *GIVEN)
         self.refused(6, "build", "deal", 300, *GIVEN)
         self.refused(6, "build", "deal", 512, *GIVEN)
         self.assertEqual(self.get("deal"), deal)
         self.booked(1024, (128,) * 4)
+        self.put("deal.owners", bytes(4))
         self.refused(13, "book", "deal", "third")
 
     def test_wrong_sizes_are_named(self):
         self.put("short", bytes(1000))
         for words in (("list", "short"), ("tally", "short"), ("book", "short", "short"), ("find", "short", "00" * 32),
                       ("build", "short", 0, *GIVEN), ("commit", "short"), ("settle-deal", "short", "short", *GIVEN),
-                      ("number", "short", 7)):
+                      ("number", "short", 7), ("owner", "short"), ("owner", "short", 1)):
             out, err = self.call(*words, status=2)
             self.assertTrue(out.startswith("code 2: "))
             self.assertIn("short has 1000 bytes", err)
@@ -1044,7 +1488,8 @@ class Usage(Calls):
             self.assertTrue(text.startswith(f"Usage: vizhuthamen {command} "), text)
             self.assertEqual(text, self.answer("help", command))
         self.assertIn("DEAL is locked", self.answer("book", "--help"))
-        for usage in ("number DEAL [N] [--no-wait] [--instead-of N]", "check COMMITMENT SIZE RECORD --number N",
+        for usage in ("number DEAL [N] [--no-wait] [--instead-of N]", "owner DEAL [HOUSE] [PLACE...] [--no-wait] [--instead-of N]",
+                      "cancel DEAL PLACE [OPTIONS]", "check COMMITMENT SIZE RECORD --number N",
                       "build DEAL PLACE [--output FILE] [--number N]"):
             first = self.answer(usage.split()[0], "--help").splitlines()[0]
             self.assertEqual(first, f"Usage: vizhuthamen {usage} [--json]")
@@ -1057,7 +1502,9 @@ class Usage(Calls):
                  ("check", "00", "512", "r"), ("check", "00", "512", "r", "--number", "0x1"),
                  ("check", "00", "512", "r", "--number", 1 << 64), ("number", "d", -1), ("number", "d", 1 << 64),
                  ("number", "-"), ("number", "-", 1),
-                 ("number", "d", "--instead-of", 1), ("new", "d", "512", "--number", ""),
+                 ("number", "d", "--instead-of", 1), ("owner", "-"), ("owner", "-", 1), ("owner", "d", "--instead-of", 1),
+                 ("owner", "d", 1, "--instead-of", 3), ("owner", "d", "x"), ("book", "d", "s", "--house", "x"),
+                 ("new", "d", "512", "--number", ""),
                  ("build", "d", str(1 << 64)), ("build", "d", "256", "-o", "-", "--json"), ("new", "-", "512"), ("book", "-", "s"),
                  ("list", ""))
         for words in calls:
@@ -1074,7 +1521,10 @@ class Usage(Calls):
         for words in (("list", "deal"), ("tally", "deal"), ("find", "deal", commitment),
                       ("build", "deal", places[0], *GIVEN)):
             piped = ["-" if w == "deal" else w for w in words]
-            self.assertEqual(self.answer(*piped, stdin=deal), self.answer(*words))
+            read = self.answer(*words)
+            if words[0] == "list":  # nothing lies beside a pipe
+                read = read.replace("kept   1 ", "kept   ? ")
+            self.assertEqual(self.answer(*piped, stdin=deal), read)
         self.answer("check", root, 1024, "-", *GIVEN, stdin=record)
         self.answer("settle", root, 1024, "record", "-", *GIVEN, stdin=record)
         self.answer("settle-deal", "-", "record", *GIVEN, stdin=deal)
@@ -1095,7 +1545,7 @@ class Usage(Calls):
         self.put("empty", b"")
         words = [*COMMANDS, "deal", "record", "empty", "missing", ".", "-", "--json", "--output", "made", "--", "0", "512", "1024",
                  "--force", "--no-wait", "--new-owner", "--segment", "--raw", "--commitment", "--place", "--number",
-                 "--instead-of", "--state", "--resume", "--progress",
+                 "--instead-of", "--house", "--state", "--resume", "--progress",
                  str(places[0]), "00" * 32, "ff", "", "\udcff", "--help", MODEL.commitment(deal)[1].hex()]
         for _ in range(400):
             call = [self.rng.choice(COMMANDS), *self.rng.choices(words, k=self.rng.randrange(5))]
@@ -1111,16 +1561,20 @@ class Usage(Calls):
             for _ in range(self.rng.randrange(4) if data else 0):
                 data[self.rng.randrange(len(data))] = self.rng.randrange(256)
             self.put("file", bytes(data))
+            if self.rng.randrange(2):
+                self.put("file.owners", self.rng.randbytes(self.rng.choice((4, 4, 3, 0, 200))))
             raw_length = str(len(data) * 127 // 128)
             for words in (("show", "file"), ("list", "file"), ("tally", "file"), ("commit", "file"), ("stream", "file"),
                           ("stream", "--raw", "file"), ("settle-deal", "file", "file", "--number", "7"),
                           ("pad", "file"), ("unpad", raw_length, "file"), ("fsck", "file"),
-                          *((("collect", "file", "new"), ("salvage", "file", "out"), ("cancel", "file", "832"), ("repair", "file"))
-                            if i % 8 == 0 else ())):
+                          ("owner", "file"),
+                          *((("collect", "file", "new"), ("salvage", "file", "out"), ("owner", "file", "1"), ("cancel", "file", "832"),
+                             ("repair", "file")) if i % 8 == 0 else ())):
                 ran = subprocess.run([self.program, *words], capture_output=True, cwd=self.folder)
                 self.assertIn(ran.returncode, (*range(25), DATA), words)
                 self.assertNotIn(b"panicked", ran.stderr, words)
-            for name in ("out", "new", "new.vz", "file.vz", *(p.name for p in self.folder.glob("file.before-repair*"))):
+            copies = (p.name for p in self.folder.glob("file.before-repair*"))
+            for name in ("out", "new", "new.vz", "new.owners", "file.vz", "file.owners", *copies):
                 shutil.rmtree(self.path(name)) if self.path(name).is_dir() else self.path(name).unlink(missing_ok=True)
 
 
@@ -1136,7 +1590,8 @@ class Failures(Calls):
                       ("show", "missing"), ("settle-deal", "deal", "missing", *GIVEN),
                       ("check", "00" * 32, 512, "missing", *GIVEN),
                       ("build", "missing", 0, *GIVEN), ("build", "missing", 0), ("find", "missing", "00" * 32),
-                      ("number", "missing"), ("number", "folder"), ("number", "missing", 7), ("number", "folder", 7)):
+                      ("number", "missing"), ("number", "folder"), ("number", "missing", 7), ("number", "folder", 7),
+                      ("owner", "missing"), ("owner", "folder"), ("owner", "missing", 1), ("owner", "folder", 1)):
             self.assertIn("missing" if "missing" in words else "folder", self.failed(IO, *words))
         self.path("deal").chmod(0)
         self.failed(IO, "list", "deal", **nobody())
@@ -1157,78 +1612,97 @@ class Failures(Calls):
     def test_a_booking_that_cannot_write_leaves_the_old_deal(self):
         deal, _ = self.booked()
         self.put("segment", self.segment())
-        for size in (0, 100, 1023):
-            self.assertIn("File too large", self.failed(IO, "book", "deal", "segment", **self.limited(size, True)))
-            self.assertEqual(self.get("deal"), deal)
-            self.assertEqual(self.files(), ["deal", "segment"])
-        self.answer("book", "deal", "segment", **self.limited(1024, True))
+        before = self.both()
+        for size in (0, 3, 100, 1023):
+            self.assertIn("File too large", self.failed(IO, "book", "deal", "segment", "--house", 2, **self.limited(size, True)))
+            self.assertEqual((self.both(), self.files()), (before, ["deal", "deal.owners", "segment"]))
+        self.answer("book", "deal", "segment", "--house", 2, **self.limited(1024, True))
 
     def test_a_cancellation_or_a_collection_that_cannot_write_leaves_all_as_it_was(self):
         deal, places = self.booked()
+        before = self.both()
         for words in (("cancel", "deal", places[0]), ("collect", "deal", "new")):
-            for size in (0, 100, 1023):
+            for size in (0, 3, 100, 1023):
                 self.assertIn("File too large", self.failed(IO, *words, **self.limited(size, True)))
                 self.call(*words, status=-signal.SIGXFSZ, **self.limited(size, False))
-                self.assertEqual((self.get("deal"), self.files()), (deal, ["deal"]))
+                self.assertEqual((self.both(), self.files()), (before, ["deal", "deal.owners"]))
         self.answer("collect", "deal", "new", **self.limited(1024, True))
         self.answer("cancel", "deal", places[0], **self.limited(1024, True))
 
     def test_a_booking_that_is_killed_while_writing_leaves_the_old_deal(self):
-        deal, _ = self.booked()
-        segment = self.put("segment", self.segment())
-        self.call("book", "deal", "segment", status=-signal.SIGXFSZ, **self.limited(500, False))
-        self.assertEqual(self.get("deal"), deal)
-        self.answer("book", "deal", "segment")
-        self.assertEqual(self.get("deal"), MODEL.book(deal, segment)[3])
+        self.booked()
+        before, segment = self.both(), self.put("segment", self.segment())
+        self.call("book", "deal", "segment", "--house", 2, status=-signal.SIGXFSZ, **self.limited(500, False))
+        self.assertEqual(self.both(), before)
+        self.answer("book", "deal", "segment", "--house", 2)
+        self.assertEqual(self.both(), MODEL.book(*before, 2, segment)[3:])
 
     def test_a_booking_that_is_killed_at_any_moment_leaves_a_whole_deal(self):
-        old = self.put("deal", bytes(1 << 20))
+        old = self.put("deal", bytes(1 << 20)), self.put("deal.owners", bytes(8))
         segment = self.put("segment", self.segment(1 << 12) * (1 << 7))
-        new = MODEL.book(old, segment)[3]
+        new = MODEL.book(*old, 1, segment)[3:]
         began = time.monotonic()
         self.answer("book", "deal", "segment")
         span = time.monotonic() - began
         for i in range(40):
-            self.put("deal", old)
+            self.put("deal", old[0])
+            self.put("deal.owners", old[1])
             call = subprocess.Popen([self.program, "book", "deal", "segment"], cwd=self.folder, stdout=subprocess.DEVNULL)
             time.sleep(span * i / 32)
             call.kill()
             call.wait()
-            self.assertIn(self.get("deal"), (old, new))
+            self.assertIn(self.get("deal"), (old[0], new[0]))
+            self.answer("fsck", "deal")  # ends what was begun
+            self.assertIn(self.both(), (old, new))
 
     def test_a_folder_or_a_deal_that_may_not_be_written(self):
-        deal, _ = self.booked()
+        self.booked()
+        before = self.both()
         self.put("segment", self.segment())
+        book = "book", "deal", "segment", "--house", 2
         self.path("deal").chmod(0o444)
-        self.failed(IO, "book", "deal", "segment", **nobody())
+        self.failed(IO, *book, **nobody())
         self.path("deal").chmod(0o666)
         self.folder.chmod(0o555)
-        self.failed(IO, "book", "deal", "segment", **nobody())
+        self.failed(IO, *book, **nobody())
         self.failed(IO, "cancel", "deal", 768, **nobody())
         self.failed(IO, "collect", "deal", "new", **nobody())
         self.failed(IO, "build", "deal", 768, "-o", "record", *GIVEN, **nobody())
         self.failed(IO, "number", "deal", 7, **nobody())
+        self.failed(IO, "owner", "deal", 2, 768, "--instead-of", 1, **nobody())
         self.folder.chmod(0o777)
-        self.assertEqual(self.get("deal"), deal)
-        self.assertEqual(self.files(), ["deal", "segment"])
-        self.answer("book", "deal", "segment", "--new-owner", **nobody())
+        if os.getuid() == 0:
+            for words in (book, ("cancel", "deal", 768), ("owner", "deal", 2, 768, "--instead-of", 1)):
+                options = () if words[0] == "owner" else ("--new-owner",)
+                self.assertIn("deal.owners: Permission denied", self.failed(IO, *words, *options, **nobody()))
+        self.assertEqual((self.both(), self.files()), (before, ["deal", "deal.owners", "segment"]))
+        self.path("deal.owners").chmod(0o666)
+        self.answer(*book, "--new-owner", **nobody())
 
     def test_permissions_and_links_are_kept(self):
         self.booked()
         self.put("segment", self.segment())
         self.path("deal").chmod(0o640)
+        self.path("deal.owners").chmod(0o660)
         self.path("link").symlink_to("deal")
         owner = (1234, 1235) if os.getuid() == 0 else (os.getuid(), os.getgid())
-        os.chown(self.path("deal"), *owner)
-        self.answer("book", "link", "segment")
-        info = self.path("deal").stat()
-        self.assertEqual((stat.S_IMODE(info.st_mode), info.st_uid, info.st_gid), (0o640, *owner))
+        for name in ("deal", "deal.owners"):
+            os.chown(self.path(name), *owner)
+        self.answer("book", "link", "segment", "--house", 2)
+        for name, mode in (("deal", 0o640), ("deal.owners", 0o660)):
+            info = self.path(name).stat()
+            self.assertEqual((stat.S_IMODE(info.st_mode), info.st_uid, info.st_gid), (mode, *owner))
         self.assertTrue(self.path("link").is_symlink())
         self.assertIn(self.segment_at(2), self.get("segment"))
+        # A table that is made has the permissions of the deal.
+        self.path("deal.owners").unlink()
+        self.answer("owner", "deal", 0)
+        info = self.path("deal.owners").stat()
+        self.assertEqual((stat.S_IMODE(info.st_mode), info.st_uid, info.st_gid), (0o640, *owner))
 
     def segment_at(self, slot):
         row = self.answer("list", "deal").splitlines()[1 + slot].split()
-        offset, size = int(row[3]), int(row[4])
+        offset, size = int(row[4]), int(row[5])
         return self.get("deal")[offset : offset + size]
 
     def test_outputs(self):
@@ -1245,7 +1719,7 @@ class Failures(Calls):
         self.answer("build", "deal", places[0], "-o", "/dev/null", *GIVEN)
         self.assertTrue(stat.S_ISCHR(os.stat("/dev/null").st_mode))
         self.failed(IO, "build", "deal", places[0], "-o", "/dev/full", *GIVEN)
-        self.assertEqual(self.files(), ["deal", "folder", "record"])
+        self.assertEqual(self.files(), ["deal", "deal.owners", "folder", "record"])
 
     def test_a_full_or_closed_standard_output(self):
         self.booked()

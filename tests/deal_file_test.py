@@ -23,15 +23,24 @@ MIB = 1 << 20
 class Deals(Calls):
     """Deals of the test's own, and what is beside them."""
 
-    def deal_of(self, size, sizes, name="deal"):
-        """A deal file that keeps segments of these sizes: its bytes, the segments, and their entries' places."""
-        deal, segments, places = bytes(size), [], []
-        for s in sizes:
-            segments.append(self.segment(s + 32)[:s])
-            code, _, place, deal = MODEL.book(deal, segments[-1])
-            self.assertEqual(code, 0)
-            places.append(place)
-        return self.put(name, deal), segments, places
+    def deal_of(self, size, sizes, name="deal", houses=None):
+        """A deal file that keeps segments of these sizes, with its table: its bytes, the segments, and their entries' places."""
+        segments = [self.segment(s + 32)[:s] for s in sizes]
+        deal, table, places = self.keeping(size, segments, houses)
+        self.put_both(deal, table, name)
+        return deal, segments, places
+
+    def put_both(self, deal, table, name="deal"):
+        """A deal with its table. A name may be too long for the table's."""
+        self.put(name, deal)
+        if len(name) <= 220:
+            self.put(name + ".owners", table)
+
+    def booked_by(self, house, segment, state=None):
+        """The deal and the table after a booking that is answered with 0."""
+        code, _, _, *after = MODEL.book(*(state or self.both()), house, segment)
+        self.assertEqual(code, 0)
+        return tuple(after)
 
     def changed(self, deal, *changes):
         """The file `deal` with bytes changed: pairs of a place and a value."""
@@ -60,9 +69,9 @@ class Locks(Deals):
         before = self.get("deal")
         held = self.held()
         for words in (("book", "deal", "segment"), ("cancel", "deal", 768), ("collect", "deal", "new"), ("repair", "deal"),
-                      ("fsck", "deal"), ("salvage", "deal", "out"), ("number", "deal", 7)):
+                      ("fsck", "deal"), ("salvage", "deal", "out"), ("number", "deal", 7), ("owner", "deal", 2)):
             self.assertIn("in use by another process", self.failed(BUSY, *words, "--no-wait"))
-        self.assertEqual((self.get("deal"), self.files()), (before, ["deal", "segment"]))
+        self.assertEqual((self.get("deal"), self.files()), (before, ["deal", "deal.owners", "segment"]))
         held.close()
         self.answer("book", "deal", "segment", "--no-wait")
 
@@ -76,6 +85,7 @@ class Locks(Deals):
         self.failed(BUSY, "book", "deal", "segment", "--no-wait")
         self.failed(BUSY, "cancel", "deal", 768, "--no-wait")
         self.failed(BUSY, "number", "deal", 7, "--no-wait")
+        self.failed(BUSY, "owner", "deal", 2, "--no-wait")
         held.close()
         self.answer("book", "deal", "segment", "--no-wait")
 
@@ -84,7 +94,7 @@ class Locks(Deals):
         self.answer("number", "deal", NUMBER)
         self.held()
         for words in (("list", "deal"), ("tally", "deal"), ("commit", "deal"), ("build", "deal", places[0]),
-                      ("number", "deal"), ("find", "deal", deal[places[0] : places[0] + 32].hex())):
+                      ("number", "deal"), ("owner", "deal"), ("find", "deal", deal[places[0] : places[0] + 32].hex())):
             self.answer(*words)
 
     def waiting(self, *words):
@@ -95,7 +105,7 @@ class Locks(Deals):
         self.deal_of(1024, (128,))
         self.put("segment", self.segment())
         held = self.held()
-        return held, self.waiting("book", "deal", "segment")
+        return held, self.waiting("book", "deal", "segment", "--house", "1")
 
     def test_a_booking_waits_and_says_so_after_a_second(self):
         self.deal_of(1024, (128,))
@@ -122,16 +132,18 @@ class Locks(Deals):
         """A waiter that gets the lock of a file that is no longer the deal goes on to the new one."""
         held, call = self.waiting_booking()
         time.sleep(0.2)
-        other = MODEL.book(self.get("deal"), self.segment())[3]
-        self.put("new", other)
+        other = self.booked_by(1, self.segment())
+        self.put("new", other[0])
         second = self.held("new")
+        self.put("deal.owners", b"\1\2\0\0")  # by another hand: the table is read once the lock is held
         self.path("new").rename(self.path("deal"))
         held.close()
         time.sleep(0.2)
         self.assertIsNone(call.poll())
         second.close()
         call.communicate(timeout=10)
-        self.assertEqual((call.returncode, self.get("deal")), (0, MODEL.book(other, self.get("segment"))[3]))
+        expected = self.booked_by(1, self.get("segment"), (other[0], b"\1\2\0\0"))
+        self.assertEqual((call.returncode, self.both()), (0, expected))
 
     def test_the_lock_is_one_under_every_name(self):
         self.deal_of(1024, (128,))
@@ -143,7 +155,7 @@ class Locks(Deals):
         held.close()
         self.answer("book", "folder/link", "segment", "--no-wait")
         self.assertTrue(self.path("folder/link").is_symlink())
-        self.assertEqual(self.files(), ["deal", "deal.vz", "folder", "segment"])
+        self.assertEqual(self.files(), ["deal", "deal.owners", "deal.vz", "folder", "segment"])
         self.assertEqual(sorted(p.name for p in self.path("folder").iterdir()), ["link"])
 
     def test_the_lock_ends_with_its_process(self):
@@ -166,111 +178,177 @@ class Locks(Deals):
             call.send_signal(number)
             call.communicate(timeout=10)
             self.assertEqual(call.returncode, -number)
-        self.assertEqual((self.get("deal"), self.files()), (deal, ["deal", "segment"]))
+        self.assertEqual((self.get("deal"), self.files()), (deal, ["deal", "deal.owners", "segment"]))
 
 
 class Races(Deals):
-    """Calls at once. Their answers, and the deal afterwards, must be those of the same calls one after the other, in some order."""
+    """Calls at once, by both houses. Their answers, and deal and table afterwards, must be those of the same calls one after the other,
+    in some order."""
 
-    def outcome(self, deal, call):
-        """Exit status, what is made or told, and the deal afterwards, by the rules."""
-        name, what = call
+    def outcome(self, state, call):
+        """Exit status, what is made or told, and deal and table afterwards, by the rules."""
+        name, what, *house = call
         if name == "book":
-            code, offset, place, after = MODEL.book(deal, self.get(what))
-            return code, (offset, place) if code in (0, 15) else None, after
+            code, offset, place, *after = MODEL.book(*state, *house, self.get(what))
+            return code, (offset, place) if code in (0, 15) else None, tuple(after)
         if name == "cancel":
-            code, after = MODEL.cancel(deal, what)
-            return code, None, after
-        code, new = MODEL.collect(deal, bytes(len(deal)))
-        return code, new, deal
+            code, *after = MODEL.cancel(*state, *house, what)
+            return code, None, tuple(after)
+        code, *new = MODEL.collect(*state, bytes(len(state[0])), bytes(len(state[1])))
+        return code, tuple(new), state
 
-    def ordered(self, deal, answers, end):
-        """Whether some order of the calls gives these answers and ends with this deal."""
+    def ordered(self, state, answers, end):
+        """Whether some order of the calls gives these answers and ends with this deal and this table."""
         if not answers:
-            return deal == end
+            return state == end
         for call, answer in answers.items():
-            code, told, after = self.outcome(deal, call)
+            code, told, after = self.outcome(state, call)
             if (code, told) == answer and self.ordered(after, {c: a for c, a in answers.items() if c != call}, end):
                 return True
         return False
 
     def told(self, call, out, status):
-        name, what = call
+        name, what = call[:2]
         if name == "collect":
-            return self.get(what)
+            return self.both(what)
         if name == "book" and status in (0, 15):
             lines = dict(line.split() for line in out.decode().splitlines() if not line.startswith("code"))
+            self.assertEqual(int(lines["house"]), call[2])
             return int(lines["offset"]), int(lines["place"])
         return None
 
-    def at_once(self, deal, calls):
+    def start(self, name, what, *house):
+        options = [option for number in house for option in ("--house", str(number))]
+        return subprocess.Popen([self.program, name, "deal", str(what), *options], cwd=self.folder, stdout=subprocess.PIPE,
+                                stderr=subprocess.PIPE)
+
+    def at_once(self, calls):
         """Starts calls at once on a deal. Gives their answers: the exit status, and what was made or told."""
-        self.put("deal", deal)
-        started = [subprocess.Popen([self.program, call[0], "deal", str(call[1])], cwd=self.folder, stdout=subprocess.PIPE,
-                                    stderr=subprocess.PIPE) for call in calls]
         answers = {}
-        for call, process in zip(calls, started):
+        for call, process in zip(calls, [self.start(*call) for call in calls]):
             out, err = process.communicate(timeout=60)
-            self.assertIn(process.returncode, range(21), (call, err))
+            self.assertIn(process.returncode, range(23), (call, err))
             answers[call] = (process.returncode, self.told(call, out, process.returncode))
         return answers
 
     def test_calls_at_once_are_calls_in_some_order(self):
         sizes = (1, 100, 128, 200, 256)
-        for i in range(12):
-            deal, _, places = self.deal_of(1024, self.rng.sample(sizes, self.rng.randrange(1, 4)))
+        met = set()
+        for i in range(16):
+            count = self.rng.randrange(1, 4)
+            _, _, places = self.deal_of(1024, self.rng.sample(sizes, count), houses=self.rng.sample((1, 1, 2, 2), count))
             for s in range(2):
                 self.put(f"s{s}", self.segment(256)[: self.rng.choice(sizes)])
-            calls = [("book", "s0"), ("book", "s1"), ("collect", f"new{i}"), *(("cancel", p) for p in places)]
+            house = lambda: self.rng.choice((1, 2))
+            calls = [("book", "s0", 1), ("book", "s0", 2), ("book", "s1", house()), ("collect", f"new{i}"),
+                     *(("cancel", p, house()) for p in places)]
             self.rng.shuffle(calls)
-            answers = self.at_once(deal, calls)
-            self.assertTrue(self.ordered(deal, answers, self.get("deal")), answers)
-        self.assertEqual(self.files(), sorted(["deal", "deal.vz", "s0", "s1", *(f"new{i}{e}" for i in range(12) for e in ("", ".vz"))]))
+            before = self.both()
+            answers = self.at_once(calls)
+            self.assertTrue(self.ordered(before, answers, self.both()), answers)
+            met.update(status for status, _ in answers.values())
+        self.assertLessEqual({0, 16}, met)
+        made = [f"new{i}{e}" for i in range(16) for e in ("", ".owners", ".vz")]
+        self.assertEqual(self.files(), sorted(["deal", "deal.owners", "deal.vz", "s0", "s1", *made]))
+
+    def test_no_booking_of_two_houses_is_lost(self):
+        """Processes of both houses book different segments, and all of the same ones: each house keeps each once, and the table says so."""
+        for processes in (2, 4, 8):
+            self.put_both(bytes(MIB * 2), bytes(16))
+            segments = [self.put(f"s{i}", self.segment(self.rng.choice((128, 256, 512)))) for i in range(4)]
+            calls = [("book", f"s{i}", house) for i in range(4) for house in (1, 2)]
+            self.rng.shuffle(calls)
+            answers = {}
+            for at in range(0, len(calls), processes):
+                answers.update(self.at_once(calls[at : at + processes]))
+            deal, table = self.both()
+            self.assertEqual({status for status, _ in answers.values()}, {0})
+            self.assertEqual(len({told for _, told in answers.values()}), len(calls))
+            start = index_numbers(len(deal))[2]
+            for (_, name, house), (_, (offset, place)) in answers.items():
+                slot = (place - start) // 64
+                segment = self.get(name)
+                self.assertEqual(MODEL.standing(deal, slot), (MODEL.tree(filled(segment))[-1][0], offset, len(segment)))
+                self.assertEqual((table[slot], deal[offset : offset + len(segment)]), (house, segment))
+            self.assertEqual(sum(byte != 0 for byte in table), len(calls))
+            self.answer("fsck", "deal")
+
+    def test_the_quota_is_not_passed_by_calls_at_once(self):
+        """Eight bookings of one house in a deal of four slots: two are answered with 0, whoever is first."""
+        for house in (1, 2):
+            self.put_both(bytes(4096), bytes(4))
+            segments = {f"s{i}": self.put(f"s{i}", self.segment()) for i in range(8)}
+            answers = self.at_once([("book", name, house) for name in segments])
+            self.assertEqual(sorted(status for status, _ in answers.values()), [0, 0] + [22] * 6)
+            self.assertEqual(self.get("deal.owners"), bytes([house, house, 0, 0]))
 
     def test_one_of_several_cancellations_is_answered_with_0(self):
         for processes in range(2, 9):
-            deal, _, places = self.deal_of(1024, (128, 256))
-            self.put("deal", deal)
-            calls = [subprocess.Popen([self.program, "cancel", "deal", str(places[0])], cwd=self.folder, stdout=subprocess.PIPE,
-                                      stderr=subprocess.PIPE) for _ in range(processes)]
+            self.deal_of(1024, (128, 256), houses=(2, 1))
+            before = self.both()
+            calls = [self.start("cancel", 768, 2) for _ in range(processes)]
             statuses = sorted((call.communicate(timeout=60), call.returncode)[1] for call in calls)
             self.assertEqual(statuses, [0] + [16] * (processes - 1))
-            self.assertEqual(self.get("deal"), MODEL.cancel(deal, places[0])[1])
+            self.assertEqual(self.both(), MODEL.cancel(*before, 2, 768)[1:])
 
     def test_a_collection_is_of_one_state_of_a_deal_that_others_change(self):
-        """One process after the other books and cancels, while others collect."""
-        states, steps = [self.put("deal", bytes(MIB))], []
+        """One process after the other books and cancels, for both houses, while others collect and list."""
+        self.put_both(bytes(MIB), bytes(8))
+        states, steps = [self.both()], []
         for i in range(12):
-            segment = self.put(f"s{i}", self.segment(self.rng.choice((128, 512, 4096))))
-            code, _, place, after = MODEL.book(states[-1], segment)
+            segment, house = self.put(f"s{i}", self.segment(self.rng.choice((128, 512, 4096)))), 1 + i // 2 % 2
+            code, _, place, *after = MODEL.book(*states[-1], house, segment)
             self.assertEqual(code, 0)
-            steps.append(("book", "deal", f"s{i}"))
-            states.append(after)
+            steps.append(("book", "deal", f"s{i}", "--house", house))
+            states.append(tuple(after))
             if i % 2:
-                steps.append(("cancel", "deal", place))
-                states.append(MODEL.cancel(after, place)[1])
-        ends = [MODEL.collect(state, bytes(MIB))[1] for state in states]
+                steps.append(("cancel", "deal", place, "--house", house))
+                states.append(MODEL.cancel(*after, house, place)[1:])
+        ends = [MODEL.collect(*state, bytes(MIB), bytes(8))[1:] for state in states]
+        lists = [self.listed(state) for state in states]
         done, met = threading.Event(), set()
 
         def collecting(name):
             number = 0
             while not done.is_set():
                 self.answer("collect", "deal", f"{name}{number}")
-                new = self.get(f"{name}{number}")
+                new = self.both(f"{name}{number}")
                 self.assertIn(new, ends)
                 met.add(ends.index(new))
-                self.path(f"{name}{number}").unlink()
+                for end in ("", ".owners"):
+                    self.path(f"{name}{number}{end}").unlink()
                 number += 1
 
-        with ThreadPoolExecutor(2) as pool:
-            others = [pool.submit(collecting, name) for name in ("a", "b")]
+        def listing():
+            while not done.is_set():
+                self.assertIn([line.split()[2:4] for line in self.answer("list", "deal").splitlines()[1:]], lists)
+
+        with ThreadPoolExecutor(3) as pool:
+            others = [*(pool.submit(collecting, name) for name in ("a", "b")), pool.submit(listing)]
             for step in steps:
                 self.answer(*step)
             done.set()
             for other in others:
                 other.result()
-        self.assertEqual(self.get("deal"), states[-1])
+        self.assertEqual(self.both(), states[-1])
         self.assertGreater(len(met), 3)
+
+    def listed(self, state):
+        """State and owner of every slot, as they are listed."""
+        deal, table = state
+        return [["kept", str(owner)] if MODEL.standing(deal, i) else ["blank", "-"] for i, owner in enumerate(table)]
+
+    def test_owners_and_bookings_at_once(self):
+        """What is nobody's is given to a house while others book: neither is lost."""
+        for i in range(12):
+            self.deal_of(1024, (128, 256), houses=(1, 2))
+            self.put("deal.owners", bytes(4))
+            self.put("s0", self.segment())
+            calls = [("book", "deal", "s0", "--house", "1"), ("owner", "deal", "2")]
+            started = [subprocess.Popen([self.program, *call], cwd=self.folder, stdout=subprocess.DEVNULL, stderr=subprocess.DEVNULL)
+                       for call in calls]
+            self.assertEqual([call.wait(timeout=60) for call in started], [0, 0])
+            self.assertEqual(self.get("deal.owners"), b"\2\2\1\0")
 
     def test_one_of_several_numbers_is_kept(self):
         for processes in range(2, 9):
@@ -285,17 +363,18 @@ class Races(Deals):
     def test_numbers_and_bookings_at_once(self):
         """A booking puts the size beside a deal of which nothing is known. The number is not lost, whoever is first."""
         for i in range(12):
-            deal, *_ = self.deal_of(1024, (128,))
+            self.deal_of(1024, (128,))
+            before = self.both()
             self.path("deal.vz").unlink(missing_ok=True)
-            segments = [self.put(f"s{s}", self.segment()) for s in range(2)]
-            calls = [("book", "deal", "s0"), ("number", "deal", str(i)), ("book", "deal", "s1")]
+            segments = [(self.put(f"s{s}", self.segment()), 1 + s) for s in range(2)]
+            calls = [("book", "deal", "s0", "--house", "1"), ("number", "deal", str(i)), ("book", "deal", "s1", "--house", "2")]
             started = [subprocess.Popen([self.program, *call], cwd=self.folder, stdout=subprocess.DEVNULL)
                        for call in calls]
             self.assertEqual([call.wait(timeout=60) for call in started], [0, 0, 0])
             self.assertEqual(self.get("deal.vz"), f"vizhuthamen deal 1\nsize 1024\nnumber {i}\n".encode())
-            ends = [MODEL.book(MODEL.book(deal, a)[3], b)[3] for a, b in (segments, segments[::-1])]
-            self.assertIn(self.get("deal"), ends)
-        self.assertEqual(self.files(), ["deal", "deal.vz", "s0", "s1"])
+            ends = [self.booked_by(k, b, self.booked_by(h, a, before)) for (a, h), (b, k) in (segments, segments[::-1])]
+            self.assertIn(self.both(), ends)
+        self.assertEqual(self.files(), ["deal", "deal.owners", "deal.vz", "s0", "s1"])
 
     def test_a_record_has_a_number_that_was_kept(self):
         """One process after the other changes the number, while others build."""
@@ -340,8 +419,8 @@ class FreeSlots(Deals):
             self.assertIn(part, error)
         self.assertEqual(self.get("deal"), spoilt)
         self.answer("repair", "deal")
-        self.answer("book", "deal", "segment")
-        self.assertEqual(self.get("deal"), MODEL.book(deal, segment)[3])
+        self.answer("book", "deal", "segment", "--house", 2)
+        self.assertEqual(self.both(), self.booked_by(2, segment, (deal, b"\1\1\0\0")))
 
     def test_a_valid_entry_that_does_not_stand_is_not_booked_over(self):
         deal = self.put("deal", bytes(768) + MODEL.entry(bytes(32), 64, 128) + bytes(192))
@@ -349,7 +428,7 @@ class FreeSlots(Deals):
         self.assertIn("slot 0 (place 768) holds an entry that does not stand", self.failed(DATA, "book", "deal", "segment"))
         self.assertEqual(self.get("deal"), deal)
         self.answer("book", "deal", "segment", "--force")
-        self.assertEqual(self.get("deal"), MODEL.book(deal, segment)[3])
+        self.assertEqual(self.both(), self.booked_by(1, segment, (deal, bytes(4))))
 
     def test_bytes_that_may_be_a_damaged_slots_are_not_booked_over(self):
         """Slot 0 is blank and slot 1 damaged: its segment lies where the booking would go."""
@@ -397,7 +476,7 @@ class ByteStreams(Deals):
     def test_a_failed_output_leaves_no_file(self):
         self.deal_of(1024, (128,))
         self.refused(16, "find", "deal", "00" * 32, "-o", "found")
-        self.assertEqual(self.files(), ["deal"])
+        self.assertEqual(self.files(), ["deal", "deal.owners"])
 
     def test_a_closed_standard_output_is_an_error_before_anything_is_changed(self):
         deal, *_ = self.deal_of(1024, (128,))
@@ -406,7 +485,7 @@ class ByteStreams(Deals):
                       ("new", "other", "512"), ("pad", "segment", "-o", "-"), ("--help",)):
             ran = subprocess.run(["sh", "-c", '"$0" "$@" >&-', self.program, *words], cwd=self.folder, capture_output=True)
             self.assertEqual((ran.returncode, ran.stderr), (IO, b"vizhuthamen: standard output is closed; nothing is done\n"))
-        self.assertEqual((self.get("deal"), self.files()), (deal, ["deal", "segment"]))
+        self.assertEqual((self.get("deal"), self.files()), (deal, ["deal", "deal.owners", "segment"]))
         ran = subprocess.run([self.program, "list", "deal"], cwd=self.folder, stdout=subprocess.DEVNULL)
         self.assertEqual(ran.returncode, 0)
 
@@ -420,7 +499,7 @@ class ByteStreams(Deals):
             self.assertRegex(ran.stderr, rb"\Avizhuthamen: [^\n]+; what was asked is done\n\Z")
         self.refused(15, "book", "deal", "segment")
         self.refused(16, "cancel", "deal", 768)
-        self.assertEqual(self.get("new"), MODEL.collect(self.get("deal"), bytes(1024))[1])
+        self.assertEqual(self.both("new"), MODEL.collect(*self.both(), bytes(1024), bytes(4))[1:])
 
 
 class Sidecar(Deals):
@@ -430,18 +509,20 @@ class Sidecar(Deals):
         self.put("segment", self.segment())
         self.answer("book", "deal", "segment")
         os.truncate(self.path("deal"), MIB)
-        cut = self.get("deal")
+        cut = self.both()
         for words in (("book", "deal", "segment"), ("cancel", "deal", MIB - 64), ("collect", "deal", "new"), ("repair", "deal"),
                       ("list", "deal"), ("tally", "deal"), ("commit", "deal"), ("stream", "deal"), ("build", "deal", 0),
                       ("build", "deal", 0, *GIVEN), ("find", "deal", "00" * 32), ("settle-deal", "deal", "segment"),
-                      ("number", "deal"), ("number", "deal", 7)):
+                      ("number", "deal"), ("number", "deal", 7), ("owner", "deal"), ("owner", "deal", 1)):
             error = self.failed(DATA, *words)
             self.assertIn(f"has {MIB} bytes, and", error)
             self.assertIn(f"says that it has {2 * MIB}", error)
         self.assertIn("disagrees", self.object("fsck", "deal", status=DATA))
         self.assertIn("disagrees", self.object("salvage", "deal", "out", status=DATA))
-        self.assertEqual(self.get("deal"), cut)
+        self.assertEqual(self.both(), cut)
         self.path("deal.vz").unlink()
+        self.refused(23, "book", "deal", "segment")  # the table is that of the larger one
+        self.path("deal.owners").unlink()
         self.answer("book", "deal", "segment")
         self.assertEqual(self.get("deal.vz"), f"vizhuthamen deal 1\nsize {MIB}\n".encode())
 
@@ -458,7 +539,7 @@ class Sidecar(Deals):
                           ("number", "deal"), ("number", "deal", 7), ("collect", "deal", "new")):
                 self.assertIn("deal.vz cannot be understood", self.failed(DATA, *words))
             self.assertIn("cannot be understood", self.object("fsck", "deal", status=DATA)["disagrees"])
-        self.assertEqual((self.get("deal"), self.files()), (deal, ["deal", "deal.vz", "segment"]))
+        self.assertEqual((self.get("deal"), self.files()), (deal, ["deal", "deal.owners", "deal.vz", "segment"]))
 
     def test_words_that_are_not_known_stay(self):
         self.deal_of(1024, (128,))
@@ -501,14 +582,15 @@ class Sidecar(Deals):
     def test_a_number_beside_a_deal_that_is_gone_is_not_the_new_deals(self):
         self.answer("new", "deal", 1024, *GIVEN)
         known = self.get("deal.vz")
-        self.path("deal").unlink()
+        for name in ("deal", "deal.owners"):
+            self.path(name).unlink()
         self.deal_of(1024, (128,), "source")
         for number in ((), ("--number", OTHER)):
             for words in (("new", "deal", 1024), ("collect", "source", "deal")):
                 error = self.failed(DATA, *words, *number)
                 self.assertIn(f"deal.vz is there and says the number {NUMBER}, and deal is to have", error)
                 self.assertIn("Remove", error)
-        self.assertEqual((self.get("deal.vz"), self.files()), (known, ["deal.vz", "source"]))
+        self.assertEqual((self.get("deal.vz"), self.files()), (known, ["deal.vz", "source", "source.owners"]))
         self.answer("new", "deal", 1024, *GIVEN)
         self.put("other.vz", b"vizhuthamen deal 1\nsize 1024\n")
         self.assertIn("says no number", self.failed(DATA, "new", "other", 1024, *GIVEN))
@@ -525,7 +607,7 @@ class Sidecar(Deals):
 
     def test_nothing_is_known_of_a_pipe(self):
         self.deal_of(1024, (128,))
-        expected = self.answer("list", "deal")
+        expected = self.answer("list", "deal").replace("kept   1 ", "kept   ? ")
         for command in ("list", "fsck", "commit", "stream"):
             ran = subprocess.run(["bash", "-c", f'"$0" {command} <(cat deal)', self.program], cwd=self.folder, capture_output=True)
             self.assertEqual(ran.returncode, 0, ran.stderr)
@@ -596,7 +678,7 @@ class Fsck(Deals):
         for i in range(n):
             size = 1 << (23 - i % 3)
             deal[start + 64 * i : start + 64 * i + 64] = MODEL.entry(bytes(31) + b"\1", i % 2 * size if i % 3 else 0, size)
-        self.put("deal", bytes(deal))
+        self.put_both(bytes(deal), bytes(n))
         once, _ = self.worked("commit", "deal")
         listed, out = self.worked("list", "deal")
         self.assertLess(listed, 8 * once)  # 64 times, where each entry's area is hashed for itself
@@ -614,7 +696,7 @@ class Fsck(Deals):
 class Repair(Deals):
     def test_a_copy_is_always_beside_it(self):
         deal, _, places = self.deal_of(1024, (128, 130))
-        names = ["deal", "deal.vz"]
+        names = ["deal", "deal.owners", "deal.vz"]
         for i in range(3):
             spoilt = self.changed(deal, (places[1] + i, deal[places[1] + i] ^ 16))
             out = self.answer("repair", "deal")
@@ -633,7 +715,7 @@ class Repair(Deals):
         deal, *_ = self.deal_of(1024, (128, 130))
         value = self.object("repair", "deal")
         self.assertEqual((value["meaning"], value["mended"]), ("nothing is wrong with the deal", []))
-        self.assertEqual((self.get("deal"), self.files()), (deal, ["deal"]))
+        self.assertEqual((self.get("deal"), self.files()), (deal, ["deal", "deal.owners"]))
 
     def test_stray_bits(self):
         deal, *_ = self.deal_of(1024, (128, 130))
@@ -648,7 +730,7 @@ class Repair(Deals):
         deal, segments, places = self.deal_of(4096, (700, 130, 65))
         spoilt = self.changed(deal, *((places[0] + i, 0x11) for i in range(64)))
         self.answer("repair", "deal", status=DATA)
-        self.assertEqual((self.get("deal"), self.files()), (spoilt, ["deal"]))
+        self.assertEqual((self.get("deal"), self.files()), (spoilt, ["deal", "deal.owners"]))
         self.put("other", segments[1])
         self.answer("repair", "deal", "--segment", "other", status=DATA)
         self.put("segment", segments[0])
@@ -658,12 +740,12 @@ class Repair(Deals):
     def test_the_raw_archive_in_hand(self):
         raw = self.put("raw", self.rng.randbytes(900))
         segment = pad(raw, bytes(segment_length(900)))[2]
-        code, offset, place, deal = MODEL.book(bytes(4096), segment)
-        self.put("deal", deal[:place] + b"\7" * 64 + deal[place + 64:])
+        deal, table, (place,) = self.keeping(4096, (segment,))
+        self.put_both(deal[:place] + b"\7" * 64 + deal[place + 64:], table)
         self.answer("repair", "deal", "--raw", "raw")
         self.assertEqual(self.get("deal"), deal)
         # A slot that was zeroed is named.
-        self.put("deal", deal[:place] + bytes(64) + deal[place + 64:])
+        self.put_both(deal[:place] + bytes(64) + deal[place + 64:], bytes(4))
         self.answer("repair", "deal", "--raw", "raw", "--place", place)
         self.assertEqual(self.get("deal"), deal)
         self.refused(6, "repair", "deal", "--raw", "raw", "--place", place + 1)
@@ -706,7 +788,7 @@ class Repair(Deals):
                 else:
                     mended += 1
             for name in self.files():
-                if name != "deal":
+                if name not in ("deal", "deal.owners"):
                     self.path(name).unlink()
         self.assertGreater(mended, 200)
 
@@ -725,8 +807,9 @@ class Salvage(Deals):
         self.assertEqual([w["slot"] for w in value["left"]], [2])
         for w in value["written"]:
             self.assertEqual(self.get(w["file"]), segments[w["slot"]])
+        self.assertEqual([w["owner"] for w in value["written"]], [1] * 4)
         self.assertEqual(self.get("deal"), spoilt)
-        self.assertEqual(self.files(), ["deal", "out"])
+        self.assertEqual(self.files(), ["deal", "deal.owners", "out"])
         # Again into the same folder: files that are there must have the same bytes.
         self.answer("salvage", "deal", "out", status=DATA)
         self.put(value["written"][0]["file"], b"other")
@@ -785,20 +868,23 @@ class Replacing(Deals):
     def test_an_owner_that_cannot_be_kept(self):
         deal, *_ = self.deal_of(1024, (128,))
         self.put("segment", self.segment())
-        self.path("deal").chmod(0o666)
+        for name in ("deal", "deal.owners"):
+            self.path(name).chmod(0o666)
         self.assertIn("it belongs to user 0", self.failed(IO, "book", "deal", "segment", **nobody()))
         self.assertIn("it belongs to user 0", self.failed(IO, "cancel", "deal", 768, **nobody()))
-        self.assertEqual((self.get("deal"), self.files()), (deal, ["deal", "segment"]))
+        self.assertEqual((self.get("deal"), self.files()), (deal, ["deal", "deal.owners", "segment"]))
         self.answer("collect", "deal", "new", **nobody())
         self.assertEqual(self.path("new").owner(), "nobody")
         self.answer("cancel", "deal", 768, "--new-owner", **nobody())
+        self.assertEqual(self.path("deal.owners").owner(), "nobody")
         info = self.path("deal").stat()
         self.assertEqual((stat.S_IMODE(info.st_mode), info.st_uid != 0), (0o666, True))
 
     def test_read_only_folders_are_named(self):
         self.deal_of(1024, (128,))
         self.put("segment", self.segment())
-        self.path("deal").chmod(0o666)
+        for name in ("deal", "deal.owners"):
+            self.path(name).chmod(0o666)
         self.folder.chmod(0o555)
         self.addCleanup(self.folder.chmod, 0o777)
         error = self.failed(IO, "book", "deal", "segment", "--new-owner", **nobody())
@@ -810,18 +896,19 @@ class Replacing(Deals):
         deal, *_ = self.deal_of(1024, (128,))
         self.put("segment", self.segment())
         self.put("point", b"")
-        script = 'mount --bind deal point && "$0" book point segment'
+        book = 'cp deal.owners point.owners && "$0" book point segment; status=$?; rm point.owners; exit $status'
+        script = f"mount --bind deal point && {{ {book}; }}"
         ran = subprocess.run(["unshare", "-m", "sh", "-c", script, self.program], cwd=self.folder, capture_output=True)
         if b"mount" in ran.stderr and ran.returncode != IO:
             self.skipTest("no mounts here")
         self.assertEqual(ran.returncode, IO, ran.stderr)
         self.assertIn(b"mount its folder", ran.stderr)
-        self.assertEqual((self.get("deal"), self.files()), (deal, ["deal", "point", "segment"]))
+        self.assertEqual((self.get("deal"), self.files()), (deal, ["deal", "deal.owners", "point", "segment"]))
 
     def mounted(self, options, script):
         """Runs a script of the shell in a mount of its own; the test is left out where there can be none."""
         self.path("mount").mkdir()
-        whole = f'mount -t tmpfs {options} none mount && cp deal segment mount && cd mount && {script}'
+        whole = f'mount -t tmpfs {options} none mount && cp deal deal.owners segment mount && cd mount && {script}'
         ran = subprocess.run(["unshare", "-m", "sh", "-c", whole, self.program], cwd=self.folder, capture_output=True, text=True)
         if "mount:" in ran.stderr or "unshare:" in ran.stderr:
             self.skipTest("no mounts here")
@@ -832,8 +919,9 @@ class Replacing(Deals):
         self.deal_of(1 << 16, (128,))
         self.put("segment", self.segment())
         calls = '"book deal segment" "cancel deal 65280" "collect deal new"'
-        ran = self.mounted("-o size=128k", f'for call in {calls}; do "$0" $call; echo $?; done; cmp deal ../deal && ls -A')
-        self.assertEqual(ran.stdout, "74\n74\n74\ndeal\nsegment\n", ran.stderr)
+        same = "cmp deal ../deal && cmp deal.owners ../deal.owners"
+        ran = self.mounted("-o size=128k", f'for call in {calls}; do "$0" $call; echo $?; done; {same} && ls -A')
+        self.assertEqual(ran.stdout, "74\n74\n74\ndeal\ndeal.owners\nsegment\n", ran.stderr)
         self.assertEqual(len(re.findall("No space left on device.*nothing is changed", ran.stderr)), 2, ran.stderr)
         self.assertIn("cannot make new: No space left on device", ran.stderr)
 
@@ -862,19 +950,22 @@ class Replacing(Deals):
         name = "n" * 255
         self.deal_of(1024, (128,), name)
         self.put("segment", self.segment())
+        self.failed(DATA, "book", name, "segment")  # the names beside it are short, and the table is not there
+        self.answer("owner", name, 1)
         self.answer("book", name, "segment")
-        self.assertEqual(len(self.files()), 3)
+        self.assertEqual(len(self.files()), 4)
 
     def test_other_hands_are_noticed(self):
         """The deal is replaced by another program while a booking waits for its segment: the booking sees the new one."""
         self.deal_of(1024, (128,))
         call = subprocess.Popen([self.program, "book", "deal", "-"], cwd=self.folder, stdin=subprocess.PIPE, stdout=subprocess.PIPE)
         time.sleep(0.1)
-        other = self.put("other", MODEL.book(bytes(1024), self.segment(256))[3])
+        other, table, _ = self.keeping(1024, (self.segment(256),))
+        self.put("other", other)
         self.path("other").rename(self.path("deal"))
         segment = self.segment()
         call.communicate(segment, timeout=10)
-        self.assertEqual((call.returncode, self.get("deal")), (0, MODEL.book(other, segment)[3]))
+        self.assertEqual((call.returncode, self.both()), (0, self.booked_by(1, segment, (other, table))))
 
 
 if __name__ == "__main__":

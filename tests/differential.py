@@ -17,10 +17,12 @@ from collections import Counter
 from pathlib import Path
 
 import change_cases
+import edge_cases
+import house_cases
 import number_cases
 import tree_cases
-from cases import cases, deal, deal_number, node, paddings, place, run, spoil, strayed, streams
-from model import MAX_RAW, area, index_numbers
+from cases import cases, deal, deal_number, node, paddings, place, run, spoil, strayed, streams, table
+from model import MAX_RAW, area, index_numbers, owners
 from operations import (BOOK, BOOK_TREE, BUILD, BUILD_TREE, CANCEL, CANCEL_TREE, CHECK, COLLECT, COLLECT_TREE,
                         COMMITMENT, FIELDS, FILL, FIND, INSPECT, MAKE, MODEL, NAMES, NUMBERS, PAD, READ, ROW, SETTLE,
                         SETTLE_DEAL, SETTLE_TREE, SHA256, STREAM, TALLY, UNPAD, Case, answer, encode)
@@ -34,12 +36,12 @@ BATCH = 2000
 # The codes that a run of the default length must meet. 17 needs a collision of SHA-256, or a tree that is not the deal's, and 2 of
 # sha256 a long message (--large).
 CODES = {SHA256: {0}, COMMITMENT: {0, 2, 11}, NUMBERS: {0, 2}, MAKE: {0, 1, 8}, READ: {0, 2}, FIND: {0, 1, 2, 11, 16},
-         BOOK: {0, 2, 4, 11, 13, 14, 15}, BUILD: {0, 2, 6, 11, 12, 16}, CHECK: {*range(11), 19, 21},
+         BOOK: {0, 2, 4, 11, 13, 14, 15, 22, 23}, BUILD: {0, 2, 6, 11, 12, 16}, CHECK: {*range(11), 19, 21},
          SETTLE: {*range(11), 18, 19, 21}, SETTLE_DEAL: {0, *range(2, 12), 19, 21}, FIELDS: {0}, INSPECT: {0, 2, 6, 11},
          STREAM: {0, 2, 11}, PAD: {0, 2, 12}, UNPAD: {0, 2, 11, 12, 24}, TALLY: {0, 2, 11}, FILL: {0, 2, 11, 12},
-         BOOK_TREE: {0, 2, 4, 11, 12, 13, 14, 15},
-         BUILD_TREE: {0, 2, 6, 11, 12, 16}, SETTLE_TREE: {0, *range(2, 13), 17, 19, 21}, CANCEL: {0, 2, 6, 11, 16},
-         CANCEL_TREE: {0, 2, 6, 11, 12, 16}, COLLECT: {0, 2, 11, 12, 20}, COLLECT_TREE: {0, 2, 11, 12, 20},
+         BOOK_TREE: {0, 2, 4, 11, 12, 13, 14, 15, 22, 23},
+         BUILD_TREE: {0, 2, 6, 11, 12, 16}, SETTLE_TREE: {0, *range(2, 13), 17, 19, 21}, CANCEL: {0, 2, 6, 11, 16, 23},
+         CANCEL_TREE: {0, 2, 6, 11, 12, 16, 23}, COLLECT: {0, 2, 11, 12, 20, 23}, COLLECT_TREE: {0, 2, 11, 12, 20, 23},
          ROW: {0, 12}}
 ENOUGH = 50_000
 
@@ -72,8 +74,9 @@ class Comparison:
     def differs(self, call, got, expected):
         FAILURE.parent.mkdir(exist_ok=True)
         FAILURE.write_bytes(encode(call))
-        op, a, b, x, y, c = Case(*call)
-        raise Difference(f"{ROUTINES[op]}, arguments of {len(a)}, {len(b)} and {len(c)} bytes, numbers {x} and {y}\n"
+        op, a, b, x, y, *more = Case(*call)
+        lengths = ", ".join(str(len(each)) for each in (a, b, *more))
+        raise Difference(f"{ROUTINES[op]}, arguments of {lengths} bytes, numbers {x} and {y}\n"
                          f"  library: {got.rstrip()}\n  model:   {expected.rstrip()}\n"
                          f"the case again: {' '.join(self.command)} < {FAILURE}")
 
@@ -109,7 +112,7 @@ def false_entries(rng, count):
         data[p : p + 64] = MODEL.entry(node(rng), o, s)
         data = bytes(data)
         yield FIND, data, data[p : p + 32], 0, 0
-        yield BOOK, data, data[o : o + s], 0, 0
+        yield Case(BOOK, data, data[o : o + s], y=1, d=owners(data, 1))
         yield BUILD, data, rng.randbytes(2000), p, deal_number(rng)
         yield INSPECT, data, b"", p, 0
         yield TALLY, data, b"", 0, 0
@@ -148,11 +151,10 @@ def limits():
         yield INSPECT, bytes(n), b"", n - 64, 0
         yield TALLY, bytes(n), b"", 0, 0
         yield SETTLE_DEAL, bytes(n), b"", 0, 0
-        yield FILL, bytes(n), b"", 0, 0, bytes(full)  # the tree is shown by its SHA-256: 2^24 bytes at most
-        for op in (BUILD_TREE, SETTLE_TREE):
+        for op in (FILL, BUILD_TREE, SETTLE_TREE):
             yield op, bytes(n), b"", 0, 0, bytes(n - 32)
-        for op in (COLLECT, COLLECT_TREE):  # the second deal is shown by its SHA-256 too
-            yield op, bytes(n), bytes(full), 0, 0, bytes(full - 32)
+        for op in (COLLECT, COLLECT_TREE):
+            yield Case(op, bytes(n), bytes(n), c=bytes(n - 32), d=bytes(n >> 17), e=bytes(n >> 17))
     for n in (full, full + 32, full + 64):  # a row has no upper bound
         yield ROW, bytes(n), bytes(n // 2), 0, 0
 
@@ -180,19 +182,21 @@ def large_calls(rng, d, sizes):
     """A deal of d bytes, booked into step by step; then records of it, whole and spoilt, and the deal spoilt."""
     _, _, start = index_numbers(d)
     data = run(rng, start) + bytes(d - start)
+    table = owners(data, 0)
     places = []
-    for s in sizes:
-        segment = run(rng, s)
-        yield BOOK, data, segment, 0, 0
-        code, o, p, data = MODEL.book(data, segment)
+    for i, s in enumerate(sizes):
+        house, segment = 1 + i % 2, run(rng, s)
+        yield Case(BOOK, data, segment, y=house, d=table)
+        code, o, p, data, table = MODEL.book(data, table, house, segment)
         if code == 0:
             places.append(p)
-            yield BOOK, data, segment, 0, 0
+            yield Case(BOOK, data, segment, y=house, d=table)
+            yield Case(BOOK, data, segment, y=3 - house, d=table)
             yield FIND, data, data[p : p + 32], 0, 0
             yield INSPECT, data, b"", p, 0
     yield TALLY, data, b"", 0, 0
     yield FIND, data, node(rng), 0, 0
-    yield BOOK, data, run(rng, d), 0, 0
+    yield Case(BOOK, data, run(rng, d), y=1, d=table)
     root = MODEL.commitment(data)[1]
     for p in rng.sample(places, min(2, len(places))):
         number = deal_number(rng)
@@ -217,13 +221,23 @@ def spoilt_deal(rng, data, places):
     yield FIND, changed, data[p : p + 32], 0, 0
     yield INSPECT, changed, b"", p, 0
     yield BUILD, changed, rng.randbytes(2000), p, 0
-    yield BOOK, changed, run(rng, 128), 0, 0
+    yield Case(BOOK, changed, run(rng, 128), y=1, d=table(rng, changed))
     damaged = changed[:p] + bytes([changed[p] ^ 1]) + changed[p + 1:]
     yield TALLY, damaged, b"", 0, 0
-    yield BOOK, damaged, run(rng, 128), 0, 0
+    yield Case(BOOK, damaged, run(rng, 128), y=2, d=table(rng, damaged))
     stray = changed[:-1] + b"\x80"
-    for op, b, x in ((COMMITMENT, b"", 0), (FIND, bytes(32), 0), (BOOK, bytes(128), 0), (BUILD, b"", p), (INSPECT, b"", p), (TALLY, b"", 0)):
+    for op, b, x in ((COMMITMENT, b"", 0), (FIND, bytes(32), 0), (BUILD, b"", p), (INSPECT, b"", p), (TALLY, b"", 0)):
         yield op, stray, b, x, 0
+    yield Case(BOOK, stray, bytes(128), y=1, d=owners(stray, 0))
+
+
+def house_batches(rng):
+    yield "houses: the refusals in their order", house_cases.orders(rng)
+    yield "houses: lengths of tables, and bytes for houses", house_cases.lengths(rng)
+    yield "houses: quotas", house_cases.quotas(rng)
+    yield "houses: what each sees of the other's and nobody's entries", house_cases.own_entries(rng)
+    yield "houses: bytes of the table collected", house_cases.collections(rng)
+    yield "houses: answers that do not hang on the other's segments, and some that do", house_cases.isolations(rng, 20)
 
 
 def batches(options):
@@ -238,6 +252,8 @@ def batches(options):
     yield "numbers: beside every fault of a record", number_cases.beside_record(rng)
     yield "numbers: beside faults of commitment, size, deal and tree", number_cases.beside_deal(rng)
     yield "numbers: two records", number_cases.pairs(rng)
+    yield from house_batches(random.Random(f"{options.seed}/houses"))
+    yield "booking, cancelling, collecting: one rule decides", edge_cases.stored(random.Random(f"{options.seed}/edges"))
     rng = random.Random(f"{options.seed}/trees")
     yield "trees: the refusals in their order", tree_cases.orders(rng)
     yield "trees kept over bookings, and stale ones", tree_cases.runs(rng, 40)
@@ -255,6 +271,7 @@ def batches(options):
     if options.large:
         rng = random.Random(f"{options.seed}/large")
         yield "lengths at their bounds", limits()
+        yield "deals of eight slots, and the longest deals", edge_cases.long_deals(random.Random(f"{options.seed}/edges"))
         for _ in range(4):
             yield "deals of 2^20 bytes", large_calls(rng, 1 << 20, [128, 1 << 12, 128, 1 << 18, 1 << 19, 1 << 10, 256, 1 << 15, 128, 64])
         yield "deals of 2^24 bytes", large_calls(rng, 1 << 24, [128, 1 << 23, 1 << 16, 1 << 10])

@@ -12,9 +12,9 @@ writes is run once for every call of it and every way in which that call can go 
 So are streams that keep their state: whatever goes wrong, going on from the state gives the answer of an unbroken run.
 
 All of it is done with unnamed files and without them (`plain`), as on a system that has none. Then processes are killed at random
-moments, and 2 to 8 processes book into one deal at once, undisturbed, and, with some bookings cancelled again, while others of them are
-killed. Afterwards every booking that was answered with 0 and not cancelled must be in the deal where it was told to be, every deal must
-be a whole one, and no file may be there that nobody asked for.
+moments, and 2 to 8 processes of two houses book into one deal at once, undisturbed, and, with some bookings cancelled again, while others
+of them are killed. Afterwards every booking that was answered with 0 and not cancelled must be in the deal where it was told to be, and
+its house in the table of owners; every deal must be a whole one with its own table, and no file may be there that nobody asked for.
 """
 import argparse
 import errno
@@ -144,7 +144,7 @@ def fault(at, what):
 
 class Scene:
     """A command, the files before it, what it does to files, its exit statuses (done, and run once more afterwards), and the deal that it
-    makes, if it makes one, with the number that is to be kept of that."""
+    makes, if it makes one, with the number that is to be kept of that. A deal that is made has its table whenever it is there."""
 
     def __init__(self, name, words, before, effect, again, made=None, number=None):
         self.name, self.words, self.before, self.effect, self.again = name, words, before, effect, again
@@ -159,9 +159,14 @@ class Scene:
             check(state.get(name) in (self.before.get(name), self.after[name]), self.name, "torn:", name)
         for name, data in self.before.items():
             check(name in state and (name in self.changed or state[name] == data), self.name, "lost:", name)
+        check(self.made not in state or self.made + ".owners" in state, self.name, "a deal without its table")
 
     def litter(self, state):
         return [name for name in state if name not in self.before and name not in self.after]
+
+    def tidy(self, state):
+        """No table is there without the deal that was to be made."""
+        check(not self.made or self.made in state or self.made + ".owners" not in state, self.name, "a table without its deal")
 
     def together(self, state):
         """All files of the command are the old ones, or all are the new ones."""
@@ -175,42 +180,54 @@ def sidecar(deal, number=None):
     return b"vizhuthamen deal 1\nsize %d\n" % len(deal) + (b"" if number is None else b"number %d\n" % number)
 
 
-def with_deal(files, deal, name="deal", number=None):
-    """The files with this deal, and what is known of it: what lies there, or its size and its number."""
-    return {name + ".vz": sidecar(deal, number), **files, name: deal}
+def with_deal(files, deal, table, name="deal", number=None):
+    """The files with this deal and this table, and what is known of it: what lies there, or its size and its number."""
+    return {name + ".vz": sidecar(deal, number), **files, name: deal, name + ".owners": table}
 
 
-def booked(files, segment, name="deal"):
-    return with_deal(files, MODEL.book(files[name], segment)[3], name)
+def both(files, name="deal"):
+    """A deal and its table; zeros where it has none yet."""
+    return files[name], files.get(name + ".owners", bytes(max(4, len(files[name]) >> 17)))
+
+
+def booked(files, segment, house, name="deal"):
+    return with_deal(files, *MODEL.book(*both(files, name), house, segment)[3:], name)
 
 
 def scenes(rng):
     segment, third = (b"".join(node(rng) for _ in range(4)) for _ in range(2))
     first = b"".join(node(rng) for _ in range(8))
-    old = MODEL.book(bytes(1024), first)[3]
-    new = MODEL.book(old, segment)[3]
-    gap = MODEL.cancel(new, 768)[1]
+    _, _, _, old, owned = MODEL.book(bytes(1024), bytes(4), 1, first)
+    _, _, _, new, owned_new = MODEL.book(old, owned, 2, segment)
+    _, gap, owned_gap = MODEL.cancel(new, owned_new, 1, 768)
     spoilt = old[:768] + bytes([old[768] ^ 1]) + old[769:]
     record = MODEL.build(old, 58, 768)[1]
-    files = {"segment": segment, "deal": old}
-    book = lambda files: booked(files, segment)
-    yield Scene("book", ("book", "deal", "segment"), {**files, "deal.vz": sidecar(old)}, book, (0, 15))
-    yield Scene("book, nothing known", ("book", "deal", "segment"), files, book, (0, 15))
-    cancel = lambda files: with_deal(files, MODEL.cancel(files["deal"], 768)[1])
-    yield Scene("cancel", ("cancel", "deal", 768), {"deal": new, "deal.vz": sidecar(new)}, cancel, (0, 16))
-    yield Scene("cancel, nothing known", ("cancel", "deal", 768), {"deal": new}, cancel, (0, 16))
+    files = {"segment": segment, "deal": old, "deal.owners": owned}
+    book = lambda files: booked(files, segment, 2)
+    words = "book", "deal", "segment", "--house", 2
+    yield Scene("book", words, {**files, "deal.vz": sidecar(old)}, book, (0, 15))
+    yield Scene("book, nothing known", words, files, book, (0, 15))
+    yield Scene("book, no table", words, {"segment": segment, "deal": bytes(1024), "deal.vz": sidecar(old)}, book, (0, 15))
+    cancel = lambda files: with_deal(files, *MODEL.cancel(*both(files), 1, 768)[1:])
+    words, files = ("cancel", "deal", 768, "--house", 1), {"deal": new, "deal.owners": owned_new}
+    yield Scene("cancel", words, {**files, "deal.vz": sidecar(new)}, cancel, (0, 16))
+    yield Scene("cancel, nothing known", words, files, cancel, (0, 16))
+    give = lambda files: {**files, "deal.owners": b"\2" + both(files)[1][1:]}
+    yield Scene("owner", ("owner", "deal", 2, 768, "--instead-of", 1), files, give, (0,))
+    yield Scene("owner, no table", ("owner", "deal", 2, 768), {"deal": old}, give, (0,))
     number = lambda files: {**files, "deal.vz": sidecar(files["deal"], 58)}
-    yield Scene("number", ("number", "deal", 58), {"deal": old, "deal.vz": sidecar(old)}, number, (0,))
-    yield Scene("number, nothing known", ("number", "deal", 58), {"deal": old}, number, (0,))
-    collect = lambda files: with_deal(files, MODEL.collect(files["deal"], bytes(1024))[1], "new", 58)
-    before = {"segment": third, "deal": gap, "deal.vz": sidecar(gap, 58)}
+    files = {"deal": old, "deal.owners": owned}
+    yield Scene("number", ("number", "deal", 58), {**files, "deal.vz": sidecar(old)}, number, (0,))
+    yield Scene("number, nothing known", ("number", "deal", 58), files, number, (0,))
+    collect = lambda files: with_deal(files, *MODEL.collect(*both(files), bytes(1024), bytes(4))[1:], "new", 58)
+    before = {"segment": third, "deal": gap, "deal.owners": owned_gap, "deal.vz": sidecar(gap, 58)}
     yield Scene("collect", ("collect", "deal", "new"), before, collect, (0, IO), "new", 58)
     for name, number in (("new", None), ("new, numbered", 58)):
         words = "new", "deal", 1024, *(() if number is None else ("--number", number))
-        made = lambda files, number=number: with_deal(files, bytes(1024), "deal", number)
+        made = lambda files, number=number: with_deal(files, bytes(1024), bytes(4), "deal", number)
         yield Scene(name, words, {"segment": segment}, made, (0, IO), "deal", number)
-    repair = lambda files: {**with_deal(files, old), "deal.before-repair": spoilt}
-    yield Scene("repair", ("repair", "deal"), {"deal": spoilt}, repair, (0, 0))
+    repair = lambda files: {**with_deal(files, old, owned), "deal.before-repair": spoilt}
+    yield Scene("repair", ("repair", "deal"), {"deal": spoilt, "deal.owners": owned}, repair, (0, 0))
     output = lambda files: {**files, "record": record}
     build = "build", "deal", 768, "-o", "record"
     yield Scene("output", (*build, "--number", 58), {"deal": old}, output, (0, 0))
@@ -232,10 +249,10 @@ class Faults:
             # A number that was not kept was said not to be.
             check(state[scene.made] == after[scene.made], scene.name, "after running again")
             number = () if scene.number is None else (("number", scene.made, scene.number),)
-            for words in (*number, ("book", scene.made, "segment")):
+            for words in (*number, ("book", scene.made, "segment", "--house", 1)):
                 status, _, err = self.place.run(words, plain=plain)
                 check(status == 0, scene.name, *words, "afterwards:", status, err)
-            state, after = self.place.state(), booked(after, after["segment"], scene.made)
+            state, after = self.place.state(), booked(after, after["segment"], 1, scene.made)
         check(state == after, scene.name, "after running again:", *sorted(state))
 
     def kills(self, scene, plain):
@@ -263,6 +280,7 @@ class Faults:
                 state = self.place.state()
                 scene.whole(state)
                 check(not scene.litter(state), scene.name, at, number, "left:", *scene.litter(state))
+                scene.tidy(state)
                 if not scene.made:
                     scene.together(state)
                 self.counts["signals"] += 1
@@ -286,12 +304,15 @@ class Faults:
                 if name == "fcntl" or what == "short" and name != "write" or what.startswith("late") and name not in naming:
                     continue
                 self.place.put(scene.before)
-                status, _, err = self.place.run(scene.words, fault=fault(at, what), plain=plain)
+                status, out, err = self.place.run(scene.words, fault=fault(at, what), plain=plain)
                 here = (scene.name, at, name, what, status, err)
-                check(status in (0, IO), *here)
-                check(status == 0 or err.startswith(b"vizhuthamen: ") and err.count(b"\n") == 1, *here)
+                # A repair that cannot read the table mends the deal, and says what is left.
+                unread = scene.name == "repair" and status == DATA and b"/deal.owners: " in out
+                check(status in (0, IO) or unread, *here)
+                check(status == 0 or unread or err.startswith(b"vizhuthamen: ") and err.count(b"\n") == 1, *here)
                 state = self.place.state()
                 scene.whole(state)
+                scene.tidy(state)
                 made = all(state.get(n) == scene.after[n] for n in scene.changed)
                 # A size that is not beside a new deal is noted; a number that is not is an error.
                 noted = scene.made and scene.number is None and b"could not be written" in err
@@ -329,28 +350,32 @@ class Faults:
             if ".deal.vz-journal" in state:
                 decided.append((at, state))
         check(decided, scene.name, "no journal was seen")
-        for at, begun in decided if every else decided[:1]:
+        for words in (("fsck", "deal"), ("list", "deal")):
+            for at, begun in decided if every else decided[:1]:
+                self.recovered(scene, plain, at, begun, words)
+
+    def recovered(self, scene, plain, at, begun, words):
+        """A call that finds a decided change and ends it, killed or with an error before each of its calls."""
+        self.place.put(begun)
+        calls = len(self.place.calls(words, plain))
+        check(scene.together(self.place.state()), scene.name, at, *words, "a decided change was not made")
+        for what, again in ((what, n) for what in ("kill 9", f"error {errno.EIO}") for n in range(1, calls + 1)):
             self.place.put(begun)
-            calls = len(self.place.calls(("fsck", "deal"), plain))
-            for what, again in ((what, n) for what in ("kill 9", f"error {errno.EIO}") for n in range(1, calls + 1)):
-                self.place.put(begun)
-                self.place.run(("fsck", "deal"), fault=fault(again, what), plain=plain)
-                scene.whole(self.place.state())
-                self.counts["kills" if what == "kill 9" else "errors"] += 1
-                self.place.run(("fsck", "deal"), plain=plain)
-                check(scene.together(self.place.state()), scene.name, at, again, what, "a decided change was not made")
-                self.after(scene, plain)
+            self.place.run(words, fault=fault(again, what), plain=plain)
+            scene.whole(self.place.state())
+            self.counts["kills" if what == "kill 9" else "errors"] += 1
+            self.place.run(words, plain=plain)
+            check(scene.together(self.place.state()), scene.name, at, again, what, "a decided change was not made")
+            self.after(scene, plain)
 
     def pauses(self, scene, plain, other):
         """Stopped before each call while another process books; all files are then as if one call had come after the other."""
-        words = ("book", "deal", "other", "--no-wait")
+        words = ("book", "deal", "other", "--no-wait", "--house", 1)
         before = {**scene.before, "other": other}
-        ends = (booked(scene.effect(before), other), scene.effect(booked(before, other)))
+        ends = (booked(scene.effect(before), other, 1), scene.effect(booked(before, other, 1)))
         for at in range(1, len(self.place.calls_of(scene, plain)) + 1):
             self.place.put(before)
-            call = self.place.start(scene.words, fault=fault(at, f"kill {int(signal.SIGSTOP)}"), plain=plain)
-            info = os.waitid(os.P_PID, call.pid, os.WSTOPPED | os.WEXITED | os.WNOWAIT)
-            check(info.si_code == os.CLD_STOPPED, scene.name, at, "not stopped")
+            call = self.stopped(scene.words, at, plain, scene.name)
             status, out, err = self.place.run(words, plain=plain)
             check(status in (0, BUSY), scene.name, at, status, err)
             call.send_signal(signal.SIGCONT)
@@ -361,9 +386,103 @@ class Faults:
                 check(status == 0, scene.name, at, status, err)
             state = self.place.state()
             check(state in ends, scene.name, at, "lost or left:", *sorted(state))
-            accounted(state["deal"], {told(out): other})
+            accounted(state, {told(out): (other, 1)})
             if scene.words[0] == "book":
-                accounted(state["deal"], {told(mine): before["segment"]})
+                accounted(state, {told(mine): (before["segment"], 2)})
+            self.counts["pauses"] += 1
+
+    def stopped(self, words, at, plain, name):
+        """A call that is stopped before one of its calls to the system."""
+        call = self.place.start(words, fault=fault(at, f"kill {int(signal.SIGSTOP)}"), plain=plain)
+        info = os.waitid(os.P_PID, call.pid, os.WSTOPPED | os.WEXITED | os.WNOWAIT)
+        check(info.si_code == os.CLD_STOPPED, name, at, "not stopped")
+        return call
+
+    def listed(self, files):
+        """What `list` prints of these files."""
+        self.place.put(files)
+        status, out, err = self.place.run(("list", "deal"))
+        check(status == 0, "list", status, err)
+        return out
+
+    def readers(self, scene, plain):
+        """Deal and table are listed without the lock, and yet as they were at one moment: while the change is stopped before each of its
+        calls, and with the reader stopped before each of its calls and the change made meanwhile, whole or in part."""
+        reader = "list", "deal"
+        lists = self.listed(scene.before), self.listed(scene.after)
+        check(lists[0] != lists[1], scene.name, "the lists do not differ")
+        for at in range(1, len(self.place.calls_of(scene, plain)) + 1):
+            self.place.put(scene.before)
+            call = self.stopped(scene.words, at, plain, scene.name)
+            reading = self.place.start(reader, plain=plain)
+            try:
+                reading.wait(timeout=0.2)
+            except subprocess.TimeoutExpired:
+                pass  # it waits for the change
+            call.send_signal(signal.SIGCONT)
+            call.communicate(timeout=60)
+            out, err = reading.communicate(timeout=60)
+            check(reading.returncode == 0 and out in lists, scene.name, at, "listed:", out, err)
+            self.counts["pauses"] += 1
+        self.place.put(scene.before)
+        renames = [at for at, name in enumerate(self.place.calls_of(scene, plain), 1) if name == "rename"]
+        for at in range(1, len(self.place.calls(reader, plain)) + 1):
+            # The change is made meanwhile, and it is begun and stopped between its first two files.
+            for stop in (None, renames[1]):
+                self.place.put(scene.before)
+                reading = self.stopped(reader, at, plain, "list")
+                call = self.stopped(scene.words, stop, plain, scene.name) if stop else self.place.start(scene.words, plain=plain)
+                if not stop:
+                    call.wait(timeout=60)
+                reading.send_signal(signal.SIGCONT)
+                try:
+                    reading.wait(timeout=0.1)
+                except subprocess.TimeoutExpired:
+                    pass  # it waits for the change
+                call.send_signal(signal.SIGCONT)
+                _, err = call.communicate(timeout=60)
+                check(call.returncode == 0, scene.name, at, stop, call.returncode, err)
+                out, err = reading.communicate(timeout=60)
+                check(reading.returncode == 0 and out in lists, scene.name, at, stop, "listed meanwhile:", out, err)
+                self.counts["pauses"] += 1
+
+    def paused_makers(self, scene, plain):
+        """Stopped before each call while another process makes the same deal: one of them does, and the deal has its table."""
+        for at in range(1, len(self.place.calls_of(scene, plain)) + 1):
+            self.place.put(scene.before)
+            first = self.stopped(scene.words, at, plain, scene.name)
+            second = self.place.start(scene.words, plain=plain)
+            try:
+                second.wait(timeout=0.1)
+            except subprocess.TimeoutExpired:
+                pass  # it waits for the first
+            first.send_signal(signal.SIGCONT)
+            ended = [(call.communicate(timeout=60)[1], call.returncode) for call in (first, second)]
+            check(sorted(status for _, status in ended) == [0, IO], scene.name, at, "made by two:", ended)
+            check(self.place.state() == scene.after, scene.name, at, "made by two:", *sorted(self.place.state()))
+            self.counts["pauses"] += 1
+
+    def abandoned_makers(self, scene):
+        """One process has put the table in place and is killed, and the table is taken away; a second was stopped while it looked at that
+        table; a third has put its own in place meanwhile. The third makes the deal, with its table, and the second does not."""
+        links = [at for at, name in enumerate(self.place.calls_of(scene, 0), 1) if name == "linkat"]
+        for at in range(links[0] - 12, links[0] + 8):
+            self.place.put(scene.before)
+            first = self.stopped(scene.words, links[1], 0, scene.name)
+            second = self.stopped(scene.words, at, 0, scene.name)
+            first.kill()
+            first.communicate()
+            self.place.path(scene.made + ".owners").unlink()
+            third = self.stopped(scene.words, links[1], 0, scene.name)
+            second.send_signal(signal.SIGCONT)
+            try:
+                second.wait(timeout=0.1)
+            except subprocess.TimeoutExpired:
+                pass  # it waits for the third
+            third.send_signal(signal.SIGCONT)
+            ended = [(call.communicate(timeout=60)[1], call.returncode) for call in (second, third)]
+            check([status for _, status in ended] == [IO, 0], scene.name, at, "made by the third:", ended)
+            check(self.place.state() == scene.after, scene.name, at, "made by the third:", *sorted(self.place.state()))
             self.counts["pauses"] += 1
 
     def paused_outputs(self, scene, plain, raw):
@@ -443,7 +562,8 @@ class Resumes:
             first = self.taken()
             status, out, err = self.go_on(fault(7 + at // 2, "kill 9"))
             check(status == -9 or (status, out) == (0, self.answer), *self.words, at, status, err)
-            check(status == 0 or self.taken() >= first, *self.words, at, "the state went back")
+            # Once the answer is written the state goes, and a kill may come after that.
+            check(out == self.answer or self.taken() >= first, *self.words, at, "the state went back")
             self.counts["kills"] += 1 + (status == -9)
             self.end(*self.words, at)
         check(self.furthest >= len(self.data) // 2, *self.words, "no state was far:", self.furthest)
@@ -480,13 +600,15 @@ def told(out):
     return int(lines["offset"]), int(lines["place"])
 
 
-def accounted(deal, bookings):
-    """Every booking is in the deal where it was told to be, with its entry."""
-    for (offset, place), segment in bookings.items():
+def accounted(files, bookings):
+    """Every booking is in the deal where it was told to be, with its entry, and its house is in the table."""
+    deal, table = both(files)
+    for (offset, place), (segment, house) in bookings.items():
         whole = filled(segment)
         check(deal[offset : offset + len(whole)] == whole, "a booking's bytes are lost: offset", offset)
         entry = MODEL.entry(MODEL.tree(whole)[-1][0], offset, len(segment))
         check(deal[place : place + 64] == entry, "a booking's entry is lost: place", place)
+        check(table[(place - len(deal)) // 64] == house, "a booking's house is lost: place", place)
 
 
 class Races:
@@ -501,13 +623,21 @@ class Races:
         check(self.place.run(("new", "deal", size))[0] == 0, "new")
         return segments
 
+    def house(self, name):
+        """The house that books a segment: one after the other."""
+        return 1 + int(name[1:]) % 2
+
+    def book(self, name):
+        return "book", "deal", name, "--house", self.house(name)
+
     def end(self, segments, answers):
-        """The deal keeps the segments that were answered, where they were told to be, and no others."""
+        """The deal keeps the segments that were answered, where they were told to be, and no others, and the table their houses."""
         state = self.place.state()
-        check(sorted(state) == sorted([*segments, "deal", "deal.vz"]), "left:", *sorted(state))
+        check(sorted(state) == sorted([*segments, "deal", "deal.owners", "deal.vz"]), "left:", *sorted(state))
         check(len(set(answers.values())) == len(answers), "a place was told twice:", answers)
-        accounted(state["deal"], {where: segments[name] for name, where in answers.items()})
+        accounted(state, {where: (segments[name], self.house(name)) for name, where in answers.items()})
         check(MODEL.tally(state["deal"])[3] == len(answers), "a cancelled booking is there")
+        check(sum(byte != 0 for byte in state["deal.owners"]) == len(answers), "the owner of a cancelled booking is there")
         check(self.place.run(("fsck", "deal"))[0] == 0, "fsck")
 
     def undisturbed(self, processes, bookings, size, plain):
@@ -516,7 +646,7 @@ class Races:
         names, answers = list(segments), {}
         while names:
             batch, names = names[:processes], names[processes:]
-            calls = {name: self.place.start(("book", "deal", name), plain=plain) for name in batch}
+            calls = {name: self.place.start(self.book(name), plain=plain) for name in batch}
             for name, call in calls.items():
                 out, err = call.communicate(timeout=120)
                 check(call.returncode == 0, "booking", name, call.returncode, err)
@@ -541,13 +671,14 @@ class Races:
 
     def booked(self, name, segment, rng, plain):
         """Books until it is answered, and then cancels every third booking in the same way. Gives where it is, if it was not cancelled."""
-        status, out = self.answered(("book", "deal", name), (0, 15), rng, plain)
+        status, out = self.answered(self.book(name), (0, 15), rng, plain)
         where = told(b"\n".join(out.splitlines()[status == 15:]))
         if rng.randrange(3):
             return where
         commitment = MODEL.tree(filled(segment))[-1][0].hex()
-        # One that was killed may have been done: then nothing stands there (16), or another booking does by now (65).
-        self.answered(("cancel", "deal", where[1], "--commitment", commitment), (0, 16, DATA), rng, plain)
+        # One that was killed may have been done: then nothing of the house stands there (16), or another booking does by now (65).
+        words = "cancel", "deal", where[1], "--commitment", commitment, "--house", self.house(name)
+        self.answered(words, (0, 16, DATA), rng, plain)
         with self.lock:
             self.counts["raced cancellations"] += 1
         return None
@@ -580,7 +711,7 @@ class Races:
         check(not failures, *failures)
         # Whatever the last kill has left goes with the next booking.
         last = next(name for name in segments)
-        status, out, _ = self.place.run(("book", "deal", last))
+        status, out, _ = self.place.run(self.book(last))
         check(status == (15 if answers[last] else 0), "a booking is lost, or a cancelled one is not")
         answers[last] = answers[last] or told(out)
         self.end(segments, {name: where for name, where in answers.items() if where})
@@ -593,7 +724,7 @@ class Races:
         calls = [self.place.start(("new", "deal", 1024)) for _ in range(processes)]
         statuses = sorted((call.communicate(), call.returncode)[1] for call in calls)
         check(statuses == [0] + [IO] * (processes - 1), "new, by several:", statuses)
-        check(sorted(self.place.state()) == ["deal", "deal.vz"], "left:", *sorted(self.place.state()))
+        check(sorted(self.place.state()) == ["deal", "deal.owners", "deal.vz"], "left:", *sorted(self.place.state()))
         self.counts["races"] += 1
 
     def writers(self, processes):
@@ -614,18 +745,21 @@ class Races:
             self.counts["races"] += 1
 
     def random_kills(self, count, size, plain):
-        """One process at a time, killed at a random moment: the deal is the old one or the new one, and a new deal is whole."""
+        """One process at a time, killed at a random moment: deal and table are the old ones or the new ones, and a new deal is whole and
+        has its table."""
         segment = self.prepare(size, 1)["s0"]
-        place = size - 64 * max(4, size // 131072)
-        full = MODEL.book(bytes(size), segment)[3]
-        cancelled, collected = MODEL.cancel(full, place)[1], MODEL.collect(full, bytes(size))[1]
-        known = {"s0": segment, "deal.vz": sidecar(full)}
-        kinds = [(("book", "deal", "s0"), "deal", bytes(size), (bytes(size), full)),
-                 (("cancel", "deal", place), "deal", full, (full, cancelled)),
+        slots = max(4, size // 131072)
+        place = size - 64 * slots
+        empty = bytes(size), bytes(slots)
+        full = MODEL.book(*empty, 2, segment)[3:]
+        cancelled, collected = MODEL.cancel(*full, 2, place)[1:], MODEL.collect(*full, *empty)[1:]
+        known = {"s0": segment, "deal.vz": sidecar(full[0])}
+        kinds = [(("book", "deal", "s0", "--house", 2), "deal", empty, (empty, full)),
+                 (("cancel", "deal", place, "--house", 2), "deal", full, (full, cancelled)),
                  (("collect", "deal", "new"), "new", full, (None, collected))]
         for number in range(count):
             words, name, before, ends = kinds[number % 3]
-            self.place.put({**known, "deal": before})
+            self.place.put(with_deal(known, *before))
             began = time.monotonic()
             if number < 3:
                 check(self.place.run(words, plain=plain)[0] == 0, *words)
@@ -635,12 +769,14 @@ class Races:
             time.sleep(self.rng.random() * 1.3 * span)
             call.kill()
             call.communicate()
+            check(self.place.run(("fsck", "deal"))[0] == 0, "fsck")  # ends what was begun
             state = self.place.state()
-            check(state.get(name) in ends, "torn:", name)
-            check(name == "deal" or state["deal"] == before, "the collected deal is changed")
+            check((both(state, name) if name in state else None) in ends, "torn:", name)
+            check(name == "deal" or name not in state or name + ".owners" in state, "a deal without its table")
+            check(name == "deal" or both(state) == before, "the collected deal is changed")
             self.counts["kills"] += 1
             check(self.place.run(words, plain=plain)[0] in (0, 15, 16, IO), *words)
-            check(self.place.path(name).read_bytes() == ends[1], "after running again:", name)
+            check(both(self.place.state(), name) == ends[1], "after running again:", name)
 
 
 def work(job):
@@ -674,11 +810,17 @@ def disturb(place, rng, name, plain, options):
     faults.breakdowns(scene, plain, BREAKDOWNS if options.large else BREAKDOWNS[:2] if plain else BREAKDOWNS[1:])
     if scene.name in ("book, nothing known", "repair") or scene.name == "cancel, nothing known" and options.large:
         faults.recoveries(scene, plain, options.large)
+    if scene.name in ("book", "cancel"):
+        faults.readers(scene, plain)
     if scene.name == "book" and plain:
         faults.ignored(scene, plain)
+    if scene.made:
+        faults.paused_makers(scene, plain)
+    if scene.name == "new" and plain == 0:
+        faults.abandoned_makers(scene)
     if scene.name == "output, replaced":
         faults.paused_outputs(scene, plain, rng.randbytes(1000))
-    if scene.words[0] in ("book", "cancel", "number", "collect"):
+    if scene.words[0] in ("book", "cancel", "number", "owner", "collect") and "deal.owners" in scene.before:
         faults.pauses(scene, plain, b"".join(node(rng) for _ in range(4)))
     mode = ("", ", no unnamed files", ", no unnamed files, no rename to a free name")[plain]
     return counts, f"{scene.name}{mode}: {len(names)} calls"

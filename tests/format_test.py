@@ -52,13 +52,19 @@ def laid_out(rows):
     return whole
 
 
+def housed():
+    """The example's deal and its table, by the model and by the library."""
+    deal, table = bytes(SIZE), bytes(4)
+    lent, owners = bytearray(SIZE), bytearray(4)
+    for house, segment in enumerate(SEGMENTS, 1):
+        *_, deal, table = MODEL.book(deal, table, house, segment)
+        vz.book(lent, owners, house, segment)
+    return (deal, table), (bytes(lent), bytes(owners))
+
+
 def booked():
     """The example's deal, by the model and by the library."""
-    deal, lent = bytes(SIZE), bytearray(SIZE)
-    for segment in SEGMENTS:
-        deal = MODEL.book(deal, segment)[3]
-        vz.book(lent, segment)
-    return deal, bytes(lent)
+    return [deal for deal, _ in housed()]
 
 
 def ways(record):
@@ -89,6 +95,10 @@ def deal_table(rows):
     same("the deal", laid_out(rows), *booked())
     root = bytes.fromhex(re.search(r"Its commitment is\s+`([0-9a-f]{64})`", TEXT)[1])
     same("the deal's commitment", root, MODEL.commitment(booked()[0])[1], vz.commitment(booked()[1]))
+
+
+def owners_table(rows):
+    same("the table of owners", laid_out(rows), *(table for _, table in housed()))
 
 
 def entry_table(rows):
@@ -139,6 +149,7 @@ TABLES = {
     ("bytes", "their commitment"): commitments,
     ("D", "slots", "start"): sizes,
     ("at", "bytes", "the deal", "in the example"): deal_table,
+    ("at", "bytes", "the table of owners", "in the example"): owners_table,
     ("at", "bytes", "the entry", f"in the example, at {PLACE}"): entry_table,
     ("tag", "content", "length"): field_table,
     ("at", "bytes", "the record", f"in the example, of place {PLACE} and number {NUMBER}"): record_table,

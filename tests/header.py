@@ -6,7 +6,7 @@ ROOT = Path(__file__).resolve().parent.parent
 TEXT = (ROOT / "include" / "vizhuthamen.h").read_text()
 
 # How a parameter is written, and its kind; memory is a pointer and, next, its length.
-KINDS = {"const uint8_t *": "in", "uint8_t *": "out", "uint64_t ": "u64", "uint64_t *": "u64*", "uint32_t *": "u32*"}
+KINDS = {"const uint8_t *": "in", "uint8_t *": "out", "uint8_t ": "u8", "uint64_t ": "u64", "uint64_t *": "u64*", "uint32_t *": "u32*"}
 
 
 def parameters(text):

@@ -46,11 +46,13 @@ def built(deal, number, place, record, tree=None):
     return (0, {"record": out + record[len(out):], "length": len(out)}) if code == 0 else (code, {})
 
 
-def booked(answer):
-    """With 15 the numbers alone are written."""
-    code, offset, place, *memory = answer
-    names = dict(zip(("deal", "tree"), memory)) if code == 0 else {}
-    return code, {"offset": offset, "place": place, **names} if code in (0, 15) else {}
+def booked(*names):
+    """An answer of a booking, whose memory afterwards has these names; with 15 the numbers alone are written."""
+    def outputs(answer):
+        code, offset, place, *memory = answer
+        written = dict(zip(names, memory)) if code == 0 else {}
+        return code, {"offset": offset, "place": place, **written} if code in (0, 15) else {}
+    return outputs
 
 
 def field(record, place):
@@ -80,12 +82,16 @@ EXPECTED = {
     "inspect": lambda deal, place: named("state", "commitment", "offset", "size")(MODEL.inspect(deal, place)),
     "tally": lambda deal: named("blank", "damaged", "valid")(MODEL.tally(deal)),
     "find": lambda deal, commitment: named("offset", "size", "place")(MODEL.find(deal, commitment)),
-    "book": lambda deal, segment: booked(MODEL.book(deal, segment)),
-    "book_with_tree": lambda deal, tree, segment: booked(MODEL.book_with_tree(deal, tree, segment)),
-    "cancel": lambda deal, place: named("deal")(MODEL.cancel(deal, place)),
-    "cancel_with_tree": lambda deal, tree, place: named("deal", "tree")(MODEL.cancel_with_tree(deal, tree, place)),
-    "collect": lambda deal, second: named("second")(MODEL.collect(deal, second)),
-    "collect_with_tree": lambda deal, second, tree: named("second", "tree")(MODEL.collect_with_tree(deal, second, tree)),
+    "book": lambda deal, table, house, segment: booked("deal", "table")(MODEL.book(deal, table, house, segment)),
+    "book_with_tree": lambda deal, tree, table, house, segment: booked("deal", "tree", "table")(
+        MODEL.book_with_tree(deal, tree, table, house, segment)),
+    "cancel": lambda deal, table, house, place: named("deal", "table")(MODEL.cancel(deal, table, house, place)),
+    "cancel_with_tree": lambda deal, tree, table, house, place: named("deal", "tree", "table")(
+        MODEL.cancel_with_tree(deal, tree, table, house, place)),
+    "collect": lambda deal, table, second, second_table: named("second", "second_table")(
+        MODEL.collect(deal, table, second, second_table)),
+    "collect_with_tree": lambda deal, table, second, tree, second_table: named("second", "tree", "second_table")(
+        MODEL.collect_with_tree(deal, table, second, tree, second_table)),
     "build": built,
     "build_with_tree": lambda deal, tree, number, place, record: built(deal, number, place, record, tree),
     "check": lambda commitment, size, number, record: (MODEL.check(commitment, size, number, record), {}),

@@ -131,6 +131,21 @@ def tree_allowed(d, tree):
     return tree is None or len(tree) == d - 32
 
 
+def table_allowed(d, table):
+    """Whether a table of owners has one byte for each slot of a deal of d bytes."""
+    return len(table) == index_numbers(d)[1]
+
+
+def owners(deal, owner):
+    """A table for a deal with this byte for every slot."""
+    return bytes([owner]) * index_numbers(len(deal))[1]
+
+
+def owned(table, i, owner):
+    """The table of owners with another byte for slot i."""
+    return table[:i] + bytes([owner]) + table[i + 1:]
+
+
 def node_place(d, h, i):
     """Where node i of height h, from 1 on, stands in the tree buffer of a deal of d bytes."""
     return d - d // 2 ** (h - 1) + 32 * i
@@ -292,79 +307,118 @@ class Model:
                 return 0, row[1], row[2], start + 64 * i
         return 16, 0, 0, 0
 
-    # ---- book
-    def book(self, deal, segment, tree=None):
-        """Code, offset, place, the deal afterwards. A tree buffer is read alone; see `book_with_tree`."""
-        d, s = len(deal), len(segment)
+    # ---- two houses
+    def house_refusal(self, d, table, house):
+        """The first of what booking and cancelling look at: the house, the deal's size, the table's length."""
+        if house not in (1, 2):
+            return 23
         if not self.lent_allowed(d):
-            return 2, 0, 0, deal
+            return 2
+        return 0 if table_allowed(d, table) else 23
+
+    @staticmethod
+    def held(rows, table, house):
+        """The slots that a house holds: an entry stands there, kept or not, and the slot's byte is the house's."""
+        return [i for i, row in enumerate(rows) if row and table[i] == house]
+
+    # ---- book
+    def book(self, deal, table, house, segment, tree=None):
+        """Code, offset, place, the deal and the table afterwards. A tree buffer is read alone; see `book_with_tree`."""
+        d, s = len(deal), len(segment)
+        refused = lambda code: (code, 0, 0, deal, table)
+        code = self.house_refusal(d, table, house)
+        if code:
+            return refused(code)
         if not self.size_allowed(d, s):
-            return 4, 0, 0, deal
+            return refused(4)
         whole, a = filled(segment), area(s)
         if stray(deal) or stray(whole):
-            return 11, 0, 0, deal
+            return refused(11)
         if not tree_allowed(d, tree):
-            return 12, 0, 0, deal
+            return refused(12)
         _, n, start = index_numbers(d)
         rows = [self.standing(deal, i) for i in range(n)]
-        for i, row in enumerate(rows):
-            if row and row[2] == s and deal[row[1] : row[1] + a] == whole and self.kept(deal, i, tree):
-                return 15, row[1], start + 64 * i, deal
+        own = self.held(rows, table, house)
+        for i in own:
+            _, o, size = rows[i]
+            if size == s and deal[o : o + a] == whole and self.kept(deal, i, tree):
+                return 15, o, start + 64 * i, deal, table
+        if 2 * len(own) >= n:
+            return refused(22)
         slots = [i for i, row in enumerate(rows) if row is None]
         if not slots:
-            return 13, 0, 0, deal
+            return refused(13)
         used = [(row[1], row[1] + area(row[2])) for row in rows if row]
         for o in range(0, start - a + 1, a):
             if all(end <= o or o + a <= first for first, end in used):
                 break
         else:
-            return 14, 0, 0, deal
+            return refused(14)
         out = bytearray(deal)
         out[o : o + a] = whole
         p = start + 64 * slots[0]
         out[p : p + 64] = self.entry(self.tree(whole)[-1][0], o, s)
-        return 0, o, p, bytes(out)
+        return 0, o, p, bytes(out), owned(table, slots[0], house)
 
     # ---- cancel and collect
-    def cancel(self, deal, place, tree=None):
-        """Code, the deal afterwards. A tree buffer is judged by its length alone; see `cancel_with_tree`."""
+    def cancel(self, deal, table, house, place, tree=None):
+        """Code, the deal and the table afterwards. A tree buffer is judged by its length alone; see `cancel_with_tree`."""
         d = len(deal)
-        if not self.lent_allowed(d):
-            return 2, deal
+        code = self.house_refusal(d, table, house)
+        if code:
+            return code, deal, table
         if stray(deal):
-            return 11, deal
+            return 11, deal, table
         if not tree_allowed(d, tree):
-            return 12, deal
+            return 12, deal, table
         _, n, start = index_numbers(d)
         if place % 64 or not start <= place < d:
-            return 6, deal
-        if self.standing(deal, (place - start) // 64) is None:
-            return 16, deal
-        return 0, deal[:place] + ZERO64 + deal[place + 64:]
+            return 6, deal, table
+        i = (place - start) // 64
+        if self.standing(deal, i) is None or table[i] != house:
+            return 16, deal, table
+        return 0, deal[:place] + ZERO64 + deal[place + 64:], owned(table, i, 0)
 
-    def collect(self, deal, second, tree=None):
-        """Code, the second deal afterwards. A tree buffer is judged by its length alone; see `collect_with_tree`."""
+    def collect(self, deal, table, second, second_table, tree=None):
+        """Code, the second deal and the second table afterwards. A tree buffer is judged by its length alone; see
+        `collect_with_tree`."""
         d = len(deal)
+        refused = lambda code: (code, second, second_table)
         if not self.lent_allowed(d):
-            return 2, second
+            return refused(2)
+        if not table_allowed(d, table) or not table_allowed(d, second_table):
+            return refused(23)
         if len(second) != d:
-            return 12, second
+            return refused(12)
         if stray(deal):
-            return 11, second
+            return refused(11)
         if not tree_allowed(d, tree):
-            return 12, second
+            return refused(12)
         _, n, start = index_numbers(d)
-        rows = [row for row in (self.standing(deal, i) for i in range(n)) if row]
+        rows = [(*row, owner) for row, owner in ((self.standing(deal, i), table[i]) for i in range(n)) if row]
         overlap = lambda r, s: r[1] < s[1] + area(s[2]) and s[1] < r[1] + area(r[2])
         if any(overlap(r, s) for r, s in combinations(rows, 2)):
-            return 20, second
-        new, offset, place = bytearray(d), 0, start
-        for c, o, s in sorted(rows, key=lambda row: (-area(row[2]), row[1])):
+            return refused(20)
+        new, moved, offset, place = bytearray(d), b"", 0, start
+        for c, o, s, owner in sorted(rows, key=lambda row: (-area(row[2]), row[1])):
             a = area(s)
             new[offset : offset + a] = deal[o : o + a]
             new[place : place + 64] = self.entry(c, offset, s)
-            offset, place = offset + a, place + 64
-        return 0, bytes(new)
+            offset, place, moved = offset + a, place + 64, moved + bytes([owner])
+        return 0, bytes(new), moved + bytes(n - len(moved))
+
+    # ---- the same where it does not matter whose entries stand
+    def put(self, deal, segment):
+        """Booked by a house that holds no slot: code, offset, place, the deal afterwards."""
+        return self.book(deal, owners(deal, 0), 1, segment)[:4]
+
+    def drop(self, deal, place):
+        """Cancelled by a house that owns every slot: code, the deal afterwards."""
+        return self.cancel(deal, owners(deal, 1), 1, place)[:2]
+
+    def pack(self, deal, second):
+        """Nobody's entries collected: code, the second deal afterwards."""
+        return self.collect(deal, owners(deal, 0), second, owners(deal, 0))[:2]
 
     # ---- the tree beside the deal
     def fill(self, deal, tree):
@@ -405,20 +459,21 @@ class Model:
                     levels[h][i] = self.h.node(levels[h - 1][2 * i] + levels[h - 1][2 * i + 1])
         return b"".join(node for level in levels[1:] for node in level)
 
-    def book_with_tree(self, deal, tree, segment):
-        """Code, offset, place, the deal afterwards, the tree buffer afterwards."""
-        code, o, p, after = self.book(deal, segment, tree)
-        return code, o, p, after, self.renewed(after, tree, ((o, area(len(segment))), (p, 64))) if code == 0 else tree
+    def book_with_tree(self, deal, tree, table, house, segment):
+        """Code, offset, place; the deal, the tree buffer and the table afterwards."""
+        code, o, p, after, table = self.book(deal, table, house, segment, tree)
+        renewed = self.renewed(after, tree, ((o, area(len(segment))), (p, 64))) if code == 0 else tree
+        return code, o, p, after, renewed, table
 
-    def cancel_with_tree(self, deal, tree, place):
-        """Code, the deal afterwards, the tree buffer afterwards."""
-        code, after = self.cancel(deal, place, tree)
-        return code, after, self.renewed(after, tree, ((place, 64),)) if code == 0 else tree
+    def cancel_with_tree(self, deal, tree, table, house, place):
+        """Code; the deal, the tree buffer and the table afterwards."""
+        code, after, table = self.cancel(deal, table, house, place, tree)
+        return code, after, self.renewed(after, tree, ((place, 64),)) if code == 0 else tree, table
 
-    def collect_with_tree(self, deal, second, tree):
-        """Code, the second deal afterwards, its tree buffer afterwards."""
-        code, after = self.collect(deal, second, tree)
-        return code, after, self.fill(after, tree)[1] if code == 0 else tree
+    def collect_with_tree(self, deal, table, second, tree, second_table):
+        """Code; the second deal, its tree buffer and its table afterwards."""
+        code, after, table = self.collect(deal, table, second, second_table, tree)
+        return code, after, self.fill(after, tree)[1] if code == 0 else tree, table
 
     # ---- records
     @staticmethod

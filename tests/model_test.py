@@ -1,13 +1,17 @@
 """Runs the independent model on the papers' own worked values. Prints one line; exits non-zero at the first difference."""
 import random
 import sys
+from itertools import product
 from pathlib import Path
 
+import edge_cases
+import house_cases
 import refusal_cases
 from cases import sparse_record
-from model import (BLANK, DAMAGED, MAX_RAW, VALID, Model, Weak, area, filled, index_numbers, node_in, node_place, pad,
-                   segment_length, sha256, stray, unpad, ZERO32, ZERO64)
-from operations import CHECK, CHECK_INPUT, SETTLE, SETTLE_TREE, answer
+from model import (BLANK, DAMAGED, MAX_RAW, VALID, Model, Weak, area, filled, index_numbers, node_in, node_place, owners,
+                   pad, segment_length, sha256, stray, unpad, ZERO32, ZERO64)
+from operations import (BOOK, BOOK_TREE, CANCEL, CANCEL_TREE, CHECK, CHECK_INPUT, COLLECT, COLLECT_TREE, PLAIN_FORM, SETTLE,
+                        SETTLE_TREE, answer)
 
 NUMBER = 0x1122334455667788  # a deal's number
 
@@ -65,21 +69,39 @@ def paddings():
     expect("32 bytes of ones", pad(b"\xff" * 32, bytes(33))[2], b"\xff" * 31 + b"\x3f\x03")
 
 
+def bookings(what, d, calls):
+    """A run of bookings: house, segment, and what is answered, one after the other; the deal and the table afterwards."""
+    m, deal = Model(), bytes(d)
+    table = owners(deal, 0)
+    for i, (house, s, *wanted) in enumerate(calls):
+        *got, after, owned = m.book(deal, table, house, s)
+        expect(f"{what}, booking {i}", got, wanted)
+        expect(f"{what}, booking {i} without 0", wanted[0] == 0 or (after, owned) == (deal, table), True)
+        deal, table = after, owned
+    return deal, table
+
+
 def worked_runs():
+    """Document 01's runs: done by one house they show 22 at the third new segment (document 02, request (x)); two houses
+    meet 14 in 512 bytes, and in 1,024 bytes 22 at the fifth segment, not 13, which needs nobody's entries."""
     m, rng = Model(), random.Random(1)
     a, b, c = (segment(rng, 128) for _ in range(3))
-    code, o, p, deal = m.book(bytes(512), a)
-    expect("A", (code, o, p), (0, 0, 256))
-    expect("A again", m.book(deal, a)[:3], (15, 0, 256))
-    code, o, p, deal = m.book(deal, b)
-    expect("B", (code, o, p), (0, 128, 320))
-    expect("a third", m.book(deal, c), (14, 0, 0, deal))
-    deal = bytes(1024)
-    for i in range(4):
-        code, o, p, deal = m.book(deal, segment(rng, 128))
-        expect(f"segment {i}", (code, o, p), (0, 128 * i, 768 + 64 * i))
-    expect("a fifth", m.book(deal, segment(rng, 128))[:3], (13, 0, 0))
-    expect("the all-zero segment", m.book(bytes(512), bytes(128))[:3], (0, 0, 256))
+    for house in (1, 2):
+        run = (house, a, 0, 0, 256), (house, a, 15, 0, 256), (house, b, 0, 128, 320), (house, c, 22, 0, 0)
+        expect("the table", bookings("512 bytes, one house", 512, run)[1], bytes([house, house, 0, 0]))
+    run = (1, a, 0, 0, 256), (1, a, 15, 0, 256), (2, b, 0, 128, 320), (1, c, 14, 0, 0), (2, c, 14, 0, 0)
+    expect("the table", bookings("512 bytes, two houses", 512, run)[1], b"\1\2\0\0")
+    four = [segment(rng, 128) for _ in range(4)]
+    row = lambda i, house: (house, four[i], 0, 128 * i, 768 + 64 * i)
+    bookings("1,024 bytes, one house", 1024, (row(0, 2), row(1, 2), (2, four[2], 22, 0, 0)))
+    full, table = bookings("1,024 bytes, two houses", 1024, (*map(row, range(4), (1, 1, 2, 2)), (1, a, 22, 0, 0), (2, a, 22, 0, 0)))
+    expect("the table", table, b"\1\1\2\2")
+    for byte in (0, 3, 7, 255):
+        for house in (1, 2):
+            expect("nobody's entries", m.book(full, owners(full, byte), house, a)[:3], (13, 0, 0))
+    for table, house, code in ((b"\1\0\0\0", 1, 13), (b"\1\1\0\0", 1, 22), (b"\1\1\0\0", 2, 13)):
+        expect("nobody's entries among others", m.book(full, table, house, a)[0], code)
+    bookings("the all-zero segment", 512, ((1, bytes(128), 0, 0, 256), (1, bytes(128), 15, 0, 256)))
 
 
 def kinds():
@@ -95,11 +117,11 @@ def kinds():
         flipped = bytes(a ^ b for a, b in zip(entry, flip))
         expect(f"bit {bit} of an entry flipped", m.read_entry(flipped), (0, DAMAGED, ZERO32, 0, 0))
     expect("the tally of an all-zero deal", m.tally(bytes(1 << 20)), (0, 8, 0, 0))
-    deal = m.book(m.book(bytes(1024), segment(rng, 128))[3], segment(rng, 256))[3]
+    deal = m.put(m.put(bytes(1024), segment(rng, 128))[3], segment(rng, 256))[3]
     expect("the tally of two bookings", m.tally(deal), (0, 2, 0, 2))
     spoilt = deal[:800] + b"\1" + deal[801:]
     expect("the tally with a damaged slot", m.tally(spoilt), (0, 2, 1, 1))
-    expect("a damaged slot is booked", m.book(spoilt, segment(rng, 128))[:3], (0, 0, 768))
+    expect("a damaged slot is booked", m.put(spoilt, segment(rng, 128))[:3], (0, 0, 768))
     expect("the tally of a deal that is none", m.tally(bytes(1000)), (2, 0, 0, 0))
     expect("the tally of a deal with stray bits", m.tally(deal[:31] + b"\x40" + deal[32:]), (11, 0, 0, 0))
 
@@ -108,7 +130,7 @@ def records():
     """The lengths that document 02 names (P4 to P7), the last one of a deal that is no longer held in memory."""
     m, rng = Model(), random.Random(2)
     for d, s, length in ((512, 256, 213), (512, 128, 245), (1 << 20, 1024, 853)):
-        code, o, p, deal = m.book(bytes(d), segment(rng, s))
+        code, o, p, deal = m.put(bytes(d), segment(rng, s))
         code, r = m.build(deal, NUMBER, p)
         expect(f"a record for {d}, {s}", (code, len(r)), (0, length))
         root = m.tree(deal)[-1][0]
@@ -131,7 +153,7 @@ def deal_numbers():
     """Every number of 64 bits stands in the record's last 8 bytes, lowest byte first; every other one is refused with
     21, by the check and by all settlings."""
     m, rng = Model(), random.Random(22)
-    deal = m.book(bytes(512), segment(rng, 128))[3]
+    deal = m.put(bytes(512), segment(rng, 128))[3]
     root, tree = m.commitment(deal)[1], m.fill(deal, bytes(480))[1]
     without = m.build(deal, 0, 256)[1][:234]
     for number in (0, 1, 255, 256, 1 << 63, (1 << 64) - 1, NUMBER):
@@ -167,7 +189,7 @@ def order_of_the_number():
     """1, 2 and 3 are before 21, and all other codes of the check after it; a first record's 21 is before all of the
     second's."""
     m, rng = Model(), random.Random(24)
-    deal = m.book(bytes(512), segment(rng, 128))[3]
+    deal = m.put(bytes(512), segment(rng, 128))[3]
     root, r = m.commitment(deal)[1], m.build(deal, NUMBER, 256)[1]
     spoilt = {3: r[:-1], 4: put(r, 49, bytes(1)), 5: put(r, 38, b"\x40"), 6: put(r, 60, b"\1"),
               7: r[:68] + b"\5\0\0\6\0\0" + r[234:], 8: put(r, 34, b"\x40"), 19: put(r, 233, b"\x80"),
@@ -247,7 +269,7 @@ def collisions():
     for seed in range(3000):
         rng = random.Random(seed)
         m = Model(Weak(4))
-        _, o, p, deal = m.book(bytes(512), segment(rng, 128))
+        _, o, p, deal = m.put(bytes(512), segment(rng, 128))
         root = m.tree(deal)[-1][0]
         r = bytearray(m.build(deal, NUMBER, p)[1])
         at = rng.choice((74, 141)) + rng.randrange(len(r) - 152)
@@ -290,16 +312,17 @@ def filled_trees():
 def tree_lengths():
     """A tree of any other length is 12: after 2, 4 and 11, before all that is read from it."""
     m, rng = Model(), random.Random(8)
-    deal = m.book(bytes(512), segment(rng, 128))[3]
+    deal = m.put(bytes(512), segment(rng, 128))[3]
     strayed = deal[:31] + b"\x40" + deal[32:]
     for n in (0, 32, 479, 481, 512, 992):
         tree = rng.randbytes(n)
-        forms = lambda data: (m.fill(data, tree)[0], m.book_with_tree(data, tree, deal[:128])[0],
+        forms = lambda data: (m.fill(data, tree)[0], m.book_with_tree(data, tree, b"\1\0\0\0", 1, deal[:128])[0],
                               m.build(data, NUMBER, 300, tree)[0], m.settle_deal(data, NUMBER, b"", tree)[0])
         expect(f"a tree of {n} bytes", forms(deal), (12,) * 4)
         expect(f"a tree of {n} bytes with stray bits", forms(strayed), (11,) * 4)
         expect(f"a tree of {n} bytes with a deal of 500", forms(deal[:500]), (2,) * 4)
-        expect(f"a tree of {n} bytes with a long segment", m.book_with_tree(strayed, tree, bytes(257)), (4, 0, 0, strayed, tree))
+        expect(f"a tree of {n} bytes with a long segment", m.book_with_tree(strayed, tree, bytes(4), 2, bytes(257)),
+               (4, 0, 0, strayed, tree, bytes(4)))
 
 
 def same_as_plain(m, rng, deal):
@@ -308,9 +331,10 @@ def same_as_plain(m, rng, deal):
     code, tree = m.fill(deal, bytes(d - 32))
     for size in (1, 100, 128, 130, d // 4, d // 2):
         for s in (segment(rng, 1024)[:size], deal[:size]):
-            got = m.book_with_tree(deal, tree, s)
-            expect("booking with the deal's tree", got[:4], m.book(deal, s))
-            expect("the tree after booking", (code, got[4]), m.fill(got[3], tree) if got[0] == 0 else (code, tree))
+            table = bytes(rng.choices((0, 1, 2), k=4))
+            *got, after, renewed, owned = m.book_with_tree(deal, tree, table, 1, s)
+            expect("booking with the deal's tree", (*got, after, owned), m.book(deal, table, 1, s))
+            expect("the tree after booking", (code, renewed), m.fill(after, tree) if got[0] == 0 else (code, tree))
     start = index_numbers(d)[2]
     for place in (*range(start, d, 64), 0, 300):
         code, record = m.build(deal, NUMBER, place)
@@ -327,9 +351,10 @@ def true_trees():
         m = Model() if seed % 2 else Model(Weak(4))
         d = rng.choice((512, 1024, 2048))
         deal = segment(rng, d) if seed < 4 else bytes(d)
-        tree = m.fill(deal, bytes(d - 32))[1]
-        for _ in range(5):
-            *_, deal, tree = m.book_with_tree(deal, tree, segment(rng, 256)[: rng.choice((1, 100, 128, 130, 256))])
+        tree, table = m.fill(deal, bytes(d - 32))[1], bytes(4)
+        for i in range(5):
+            s = segment(rng, 256)[: rng.choice((1, 100, 128, 130, 256))]
+            *_, deal, tree, table = m.book_with_tree(deal, tree, table, 1 + i % 2, s)
             expect("the tree kept over bookings", (0, tree), m.fill(deal, tree))
             same_as_plain(m, rng, deal)
         deal = bytearray(deal)
@@ -342,10 +367,10 @@ def stale_trees():
     m, rng = Model(), random.Random(9)
     tree = m.fill(bytes(1024), bytes(992))[1]
     for s in (b"x", segment(rng, 130)):
-        code, o, p, deal = m.book(bytes(1024), s)
+        code, o, p, deal, table = m.book(bytes(1024), bytes(4), 1, s)
         expect("booked by the plain form", (code, o, p), (0, 0, 768))
         expect("building with the stale tree", m.build(deal, NUMBER, p, tree), (16, b""))
-        code, again, q, after, renewed = m.book_with_tree(deal, tree, s)
+        code, again, q, after, renewed, _ = m.book_with_tree(deal, tree, table, 1, s)
         expect("booking with the stale tree", (code, again, q), (0, area(len(s)), 832))
         record = m.build(deal, NUMBER, p)[1]
         expect("settling with the stale tree", m.settle_deal(deal, NUMBER, record, tree), (9, ZERO64, ZERO64))
@@ -356,7 +381,8 @@ def other_trees():
     """Whatever a tree holds, its nodes are taken as they stand there: kept, the paths, the last node, the deal's strings."""
     m, rng = Model(), random.Random(10)
     deal, s = bytes(1024), segment(rng, 256)
-    _, o, p, deal = m.book(m.book(deal, segment(rng, 128))[3], s)
+    _, o, p, deal = m.put(m.put(deal, segment(rng, 128))[3], s)
+    own_table = b"\0\1\0\0"
     tree, record = m.fill(deal, bytes(992))[1], m.build(deal, NUMBER, p)[1]
     put = lambda node, h, i: tree[: node_place(1024, h, i)] + node + tree[node_place(1024, h, i) + 32:]
     root = put(node_of(rng), 5, 0)
@@ -371,13 +397,13 @@ def other_trees():
     code, v, w = m.settle_deal(deal, NUMBER, record, sibling)
     expect("a pair that does not collide", (code, v[32:], m.h.node(v) == m.h.node(w)), (17, w[32:], False))
     own = put(node_of(rng), 3, 1)
-    expect("kept by the bytes alone", (m.build(deal, NUMBER, p, own)[0], m.book_with_tree(deal, own, s)[0]), (16, 0))
+    expect("kept by the bytes alone", (m.build(deal, NUMBER, p, own)[0], m.book_with_tree(deal, own, own_table, 1, s)[0]), (16, 0))
     named = node_of(rng)
     forged = deal[:p] + m.entry(named, o, 256) + deal[p + 64:]
     own = put(named, 3, 1)
-    expect("kept by no tree but this one", (m.build(forged, NUMBER, p)[0], m.book(forged, s)[0]), (16, 0))
+    expect("kept by no tree but this one", (m.build(forged, NUMBER, p)[0], m.book(forged, own_table, 1, s)[0]), (16, 0))
     expect("kept by this tree, built", m.build(forged, NUMBER, p, own)[0], 0)
-    expect("kept by this tree, booked", m.book_with_tree(forged, own, s)[:3], (15, o, p))
+    expect("kept by this tree, booked", m.book_with_tree(forged, own, own_table, 1, s)[:3], (15, o, p))
 
 
 def renewed_trees():
@@ -387,7 +413,7 @@ def renewed_trees():
     for d in (512, 1024, 4096):
         for size in (1, 128, 130, d // 2):
             old = rng.randbytes(d - 32)
-            code, o, p, deal, new = m.book_with_tree(bytes(d), old, segment(rng, d)[:size])
+            code, o, p, deal, new, _ = m.book_with_tree(bytes(d), old, bytes(4), 1, segment(rng, d)[:size])
             expect(f"booking {size} bytes", code, 0)
             whole, entry = (o, area(size)), (p, 64)
             for first, second in ((whole, entry), (entry, whole)):
@@ -407,9 +433,19 @@ def booked(m, d, *segments):
     """A deal of d zeros with these segments booked."""
     deal = bytes(d)
     for s in segments:
-        code, _, _, deal = m.book(deal, s)
+        code, _, _, deal = m.put(deal, s)
         expect("a booking", code, 0)
     return deal
+
+
+def drop_with_tree(m, deal, tree, place):
+    """Cancelled by a house that owns every slot: code, the deal and the tree afterwards."""
+    return m.cancel_with_tree(deal, tree, owners(deal, 1), 1, place)[:3]
+
+
+def pack_with_tree(m, deal, second, tree):
+    """Nobody's entries collected: code, the second deal and its tree afterwards."""
+    return m.collect_with_tree(deal, owners(deal, 0), second, tree, owners(deal, 0))[:3]
 
 
 def cancellations():
@@ -419,17 +455,17 @@ def cancellations():
     a, b, c = (segment(rng, 128) for _ in range(3))
     deal = booked(m, 512, a, b)
     after = a + b + bytes(64) + m.entry(m.commitment(b)[1], 128, 128) + bytes(128)
-    expect("A cancelled", m.cancel(deal, 256), (0, after))
-    expect("A cancelled twice", m.cancel(after, 256), (16, after))
-    expect("A booked again", m.book(after, a), (0, 0, 256, deal))
-    expect("another one in its place", m.book(after, c)[:3], (0, 0, 256))
-    expect("a shorter one over its bytes", m.book(after, c[:100])[3][:128], c[:100] + bytes(28))
+    expect("A cancelled", m.drop(deal, 256), (0, after))
+    expect("A cancelled twice", m.drop(after, 256), (16, after))
+    expect("A booked again", m.put(after, a), (0, 0, 256, deal))
+    expect("another one in its place", m.put(after, c)[:3], (0, 0, 256))
+    expect("a shorter one over its bytes", m.put(after, c[:100])[3][:128], c[:100] + bytes(28))
     false = put(deal, 256, m.entry(node_of(rng), 0, 128))
-    expect("an entry that is not kept", (m.build(false, NUMBER, 256)[0], m.cancel(false, 256)), (16, (0, after)))
+    expect("an entry that is not kept", (m.build(false, NUMBER, 256)[0], m.drop(false, 256)), (16, (0, after)))
     damaged, valid = put(deal[256:320], 40, b"\1"), m.entry(node_of(rng), 64, 128)
     for what, slot in (("blank", bytes(64)), ("damaged", damaged), ("valid", valid)):
         spoilt = put(deal, 256, slot)
-        expect(f"a slot that is {what}", m.cancel(spoilt, 256), (16, spoilt))
+        expect(f"a slot that is {what}", m.drop(spoilt, 256), (16, spoilt))
 
 
 def cancelled_overlaps():
@@ -437,12 +473,12 @@ def cancelled_overlaps():
     m, rng = Model(), random.Random(13)
     deal = booked(m, 1024, segment(rng, 256))
     deal = put(deal, 896, m.entry(node_of(rng), 0, 100))
-    inner, outer = m.cancel(deal, 896)[1], m.cancel(deal, 768)[1]
+    inner, outer = m.drop(deal, 896)[1], m.drop(deal, 768)[1]
     s = segment(rng, 128)
-    expect("both stand", m.book(deal, s)[:3], (0, 256, 832))
-    expect("the outer one stands", m.book(inner, s)[:3], (0, 256, 832))
-    expect("the inner one stands", m.book(outer, s)[:3], (0, 128, 768))
-    expect("none stands", m.book(m.cancel(outer, 896)[1], s)[:3], (0, 0, 768))
+    expect("both stand", m.put(deal, s)[:3], (0, 256, 832))
+    expect("the outer one stands", m.put(inner, s)[:3], (0, 256, 832))
+    expect("the inner one stands", m.put(outer, s)[:3], (0, 128, 768))
+    expect("none stands", m.put(m.drop(outer, 896)[1], s)[:3], (0, 0, 768))
 
 
 def cancelling_order():
@@ -454,13 +490,13 @@ def cancelling_order():
     no_deals = strayed[:511], deal[:256], bytes(768), b"", bytes(1 << 25)
     for p in (256, 320, *places):
         for data, code in ((strayed, 11), *((data, 2) for data in no_deals)):
-            expect(f"cancelling at {p}", m.cancel(data, p), (code, data))
-            expect(f"cancelling at {p} with a tree", m.cancel_with_tree(data, tree[:-1], p), (code, data, tree[:-1]))
+            expect(f"cancelling at {p}", m.drop(data, p), (code, data))
+            expect(f"cancelling at {p} with a tree", drop_with_tree(m, data, tree[:-1], p), (code, data, tree[:-1]))
         for other in (b"", tree[:1], tree[:-1], tree + b"\0"):
-            expect(f"a tree of {len(other)} bytes", m.cancel_with_tree(deal, other, p), (12, deal, other))
+            expect(f"a tree of {len(other)} bytes", drop_with_tree(m, deal, other, p), (12, deal, other))
     for p, code in (*((p, 6) for p in places), (320, 16), (448, 16)):
-        expect(f"place {p}", m.cancel(deal, p), (code, deal))
-        expect(f"place {p} with a tree", m.cancel_with_tree(deal, tree, p), (code, deal, tree))
+        expect(f"place {p}", m.drop(deal, p), (code, deal))
+        expect(f"place {p} with a tree", drop_with_tree(m, deal, tree, p), (code, deal, tree))
 
 
 def cancelling_trees():
@@ -470,15 +506,15 @@ def cancelling_trees():
     deal = booked(m, 1024, *(segment(rng, 128) for _ in range(4)))
     for p in (768, 832, 896, 960):
         own, other = m.fill(deal, bytes(992))[1], rng.randbytes(992)
-        code, after, tree = m.cancel_with_tree(deal, own, p)
-        expect("the deal's own tree", (code, after, tree), (*m.cancel(deal, p), m.fill(after, own)[1]))
+        code, after, tree = drop_with_tree(m, deal, own, p)
+        expect("the deal's own tree", (code, after, tree), (*m.drop(deal, p), m.fill(after, own)[1]))
         renewed, node = other, m.h.node(bytes(64))
         for h in range(1, 6):
             i = p // (32 << h)
             renewed = put(renewed, node_place(1024, h, i), node)
             pair = node_place(1024, h, i & ~1)
             node = m.h.node(renewed[pair : pair + 64])
-        expect("another tree", m.cancel_with_tree(deal, other, p), (0, after, renewed))
+        expect("another tree", drop_with_tree(m, deal, other, p), (0, after, renewed))
 
 
 def collections():
@@ -489,17 +525,17 @@ def collections():
     e = e[:100]
     deal = booked(m, 1024, a, b, c, e)
     expect("where they are", deal[:768], a + c + b + filled(e) + bytes(128))
-    deal = m.cancel(deal, 768)[1]
+    deal = m.drop(deal, 768)[1]
     entry = lambda s, o: m.entry(m.commitment(filled(s))[1], o, len(s))
     new = b + c + filled(e) + bytes(256) + entry(b, 0) + entry(c, 256) + entry(e, 384) + bytes(64)
     tree = m.fill(new, bytes(992))[1]
     for second in (bytes(1024), b"\xff" * 1024, deal):
-        expect("the new deal", m.collect(deal, second), (0, new))
-        expect("the new deal and its tree", m.collect_with_tree(deal, second, rng.randbytes(992)), (0, new, tree))
-    expect("a new deal collected", m.collect(new, bytes(1024)), (0, new))
+        expect("the new deal", m.pack(deal, second), (0, new))
+        expect("the new deal and its tree", pack_with_tree(m, deal, second, rng.randbytes(992)), (0, new, tree))
+    expect("a new deal collected", m.pack(new, bytes(1024)), (0, new))
     expect("all are kept", [m.inspect(new, p)[1] for p in (768, 832, 896, 960)], [2, 2, 2, 0])
-    expect("A booked again", m.book(new, a)[:3], (0, 512, 960))
-    expect("old bytes that no entry names", m.collect(put(segment(rng, 1024), 768, bytes(256)), deal), (0, bytes(1024)))
+    expect("A booked again", m.put(new, a)[:3], (0, 512, 960))
+    expect("old bytes that no entry names", m.pack(put(segment(rng, 1024), 768, bytes(256)), deal), (0, bytes(1024)))
 
 
 def collected_entries():
@@ -512,10 +548,10 @@ def collected_entries():
     slots = m.entry(right, 640, 1), damaged, m.entry(left, 384, 100), m.entry(left, 0, 130)
     new = data[:256] + data[384:512] + data[640:768] + bytes(256)
     new += m.entry(left, 0, 130) + m.entry(left, 256, 100) + m.entry(right, 384, 1) + bytes(64)
-    expect("entries that are not kept", m.collect(data + b"".join(slots), bytes(1024)), (0, new))
+    expect("entries that are not kept", m.pack(data + b"".join(slots), bytes(1024)), (0, new))
     for o, s in ((64, 128), (256, 0), (0, 513), ((1 << 64) - 128, 128)):
         other = data + slots[0] + m.entry(left, o, s) + slots[2] + slots[3]
-        expect("a valid entry that does not stand", m.collect(other, bytes(1024)), (0, new))
+        expect("a valid entry that does not stand", m.pack(other, bytes(1024)), (0, new))
 
 
 def overlaps():
@@ -527,13 +563,13 @@ def overlaps():
     for first, other in (((0, 128), (0, 128)), ((0, 256), (128, 128)), ((128, 1), (0, 129)), ((0, 257), (384, 128)),
                          ((512, 512), (896, 1))):
         for pair in ((first, other), (other, first)):
-            expect(f"{pair}", m.collect(rows(*pair), second), (20, second))
-            expect(f"{pair}", m.collect_with_tree(rows((1536, 128), *pair), second, tree), (20, second, tree))
+            expect(f"{pair}", m.pack(rows(*pair), second), (20, second))
+            expect(f"{pair}", pack_with_tree(m, rows((1536, 128), *pair), second, tree), (20, second, tree))
     for pair in (((0, 128), (128, 128)), ((0, 100), (256, 256)), ((512, 257), (256, 256)), ((1664, 128), (1536, 128))):
-        expect(f"{pair}", m.collect(rows(*pair), second)[0], 0)
+        expect(f"{pair}", m.pack(rows(*pair), second)[0], 0)
     deal = rows((0, 128), (0, 256))
-    expect("one of them cancelled", m.collect(m.cancel(deal, 1792)[1], second)[0], 0)
-    expect("one of them damaged", m.collect(put(deal, 1800, b"\1\2"), second)[0], 0)
+    expect("one of them cancelled", m.pack(m.drop(deal, 1792)[1], second)[0], 0)
+    expect("one of them damaged", m.pack(put(deal, 1800, b"\1\2"), second)[0], 0)
 
 
 def collecting_order():
@@ -546,17 +582,17 @@ def collecting_order():
     for n in (0, 1, 256, 480, 511, 513, 544, 1024):
         other, short = b"\xff" * n, tree[:-1]
         for data, code in ((deal, 12), (clash, 12), (strayed, 12), (strayed[:511], 2), (deal[:256], 2), (b"", 2)):
-            expect(f"a second deal of {n} bytes", m.collect(data, other), (code, other))
-            expect("the same with a short tree", m.collect_with_tree(data, other, short), (code, other, short))
+            expect(f"a second deal of {n} bytes", m.pack(data, other), (code, other))
+            expect("the same with a short tree", pack_with_tree(m, data, other, short), (code, other, short))
     large = bytes(1 << 25)
-    expect("a deal that is too large", m.collect(large, large), (2, large))
+    expect("a deal that is too large", m.pack(large, large), (2, large))
     second = b"\xff" * 512
-    expect("stray bits", m.collect(strayed, second), (11, second))
+    expect("stray bits", m.pack(strayed, second), (11, second))
     for n in (0, 1, 479, 481, 512):
         for data, code in ((deal, 12), (clash, 12), (strayed, 11)):
-            expect(f"a tree of {n} bytes", m.collect_with_tree(data, second, bytes(n)), (code, second, bytes(n)))
-    expect("two that overlap", m.collect_with_tree(clash, second, tree), (20, second, tree))
-    expect("a deal", m.collect_with_tree(deal, second, tree)[0], 0)
+            expect(f"a tree of {n} bytes", pack_with_tree(m, data, second, bytes(n)), (code, second, bytes(n)))
+    expect("two that overlap", pack_with_tree(m, clash, second, tree), (20, second, tree))
+    expect("a deal", pack_with_tree(m, deal, second, tree)[0], 0)
 
 
 def half_a_deal():
@@ -565,13 +601,13 @@ def half_a_deal():
     m, rng = Model(), random.Random(20)
     half, small = segment(rng, 512), segment(rng, 128)
     deal = booked(m, 1024, half, small)
-    deal = m.cancel(deal, 768)[1]
-    expect("the half again", m.book(deal, half)[:3], (0, 0, 768))
-    deal = m.collect(deal, bytes(1024))[1]
+    deal = m.drop(deal, 768)[1]
+    expect("the half again", m.put(deal, half)[:3], (0, 0, 768))
+    deal = m.pack(deal, bytes(1024))[1]
     expect("a smaller one moved to 0", deal[:128], small)
-    expect("the half afterwards", m.book(deal, half)[:3], (14, 0, 0))
-    deal = m.cancel(deal, 768)[1]
-    expect("the half once none stands", m.book(deal, half)[:3], (0, 0, 768))
+    expect("the half afterwards", m.put(deal, half)[:3], (14, 0, 0))
+    deal = m.drop(deal, 768)[1]
+    expect("the half once none stands", m.put(deal, half)[:3], (0, 0, 768))
 
 
 def old_records():
@@ -579,7 +615,7 @@ def old_records():
     m, rng = Model(), random.Random(21)
     deal = booked(m, 1024, segment(rng, 128), segment(rng, 256))
     old, records = m.commitment(deal)[1], [m.build(deal, NUMBER, p)[1] for p in (768, 832)]
-    for after in (m.cancel(deal, 768)[1], m.collect(deal, bytes(1024))[1]):
+    for after in (m.drop(deal, 768)[1], m.pack(deal, bytes(1024))[1]):
         new = m.commitment(after)[1]
         for r in records:
             codes = m.check(old, 1024, NUMBER, r), m.check(new, 1024, NUMBER, r)
@@ -587,33 +623,150 @@ def old_records():
     expect("new records", [m.check(new, 1024, NUMBER, m.build(after, NUMBER, p)[1]) for p in (768, 832)], [0, 0])
 
 
+def kept_rows(m, deal, table):
+    """House and bytes of every entry that stands, all of which are kept."""
+    rows = [(table[i], m.kept(deal, i)) for i in range(4) if m.standing(deal, i)]
+    return sorted((owner, deal[o : o + s]) for owner, (_, o, s) in rows)
+
+
 def whole_runs():
-    """Bookings, cancellations and collections from zeros: each segment that was booked and not cancelled since is kept,
-    with its size and bytes; nothing else stands; areas do not overlap, so that 20 is never met; the tree kept over all
-    of it is the deal's own."""
-    for seed in range(40):
+    """Bookings, cancellations and collections of both houses from zeros: each segment that was booked and not cancelled
+    since is kept for its house, with its size and bytes; nothing else stands; no house has a segment twice, or more than
+    half of the slots; areas do not overlap, so that 20 is never met, and neither is 13; bytes at free slots are zero; the
+    tree kept over all of it is the deal's own."""
+    for seed in range(60):
         rng = random.Random(f"whole/{seed}")
         m, d = Model() if seed % 2 else Model(Weak(4)), rng.choice((512, 1024, 2048))
-        deal, wanted = bytes(d), []
+        deal, table, wanted = bytes(d), bytes(4), []
         tree = m.fill(deal, bytes(d - 32))[1]
+        segments = [segment(rng, 512)[: min(d // 2, rng.choice((1, 100, 128, 130, 256, 300)))] for _ in range(6)]
         for _ in range(30):
-            kind = rng.randrange(5)
+            kind, house = rng.randrange(5), rng.choice((1, 2))
             if kind < 3:
-                s = segment(rng, 512)[: rng.choice((1, 100, 128, 130, 256, 300))]
-                code, _, _, deal, tree = m.book_with_tree(deal, tree, s)
-                wanted += [s] if code == 0 else []
+                s = rng.choice(segments)
+                code, _, _, deal, tree, table = m.book_with_tree(deal, tree, table, house, s)
+                expect("a booking", (code == 15, code in (0, 14, 15, 22)), ((house, s) in wanted, True))
+                wanted += [(house, s)] if code == 0 else []
             elif kind == 3:
                 i = rng.randrange(4)
-                row = m.standing(deal, i)
-                code, deal, tree = m.cancel_with_tree(deal, tree, d - 256 + 64 * i)
-                expect("a cancellation", code, 0 if row else 16)
-                wanted = [s for s in wanted if code or s != deal[row[1] : row[1] + row[2]]]
+                row, owner = m.standing(deal, i), table[i]
+                code, deal, tree, table = m.cancel_with_tree(deal, tree, table, house, d - 256 + 64 * i)
+                expect("a cancellation", code, 0 if row and owner == house else 16)
+                if code == 0:
+                    wanted.remove((house, deal[row[1] : row[1] + row[2]]))
             else:
-                code, deal, tree = m.collect_with_tree(deal, rng.randbytes(d), rng.randbytes(d - 32))
+                code, deal, tree, table = m.collect_with_tree(deal, table, rng.randbytes(d), rng.randbytes(d - 32), rng.randbytes(4))
                 expect("a collection", code, 0)
-            rows = [m.kept(deal, i) for i in range(4) if m.standing(deal, i)]
-            expect("what is kept", sorted(deal[o : o + s] for _, o, s in rows), sorted(wanted))
+            expect("what is kept", kept_rows(m, deal, table), sorted(wanted))
+            expect("no house has more than half", max(table.count(1), table.count(2)) <= 2, True)
+            expect("bytes at free slots", all(m.standing(deal, i) for i in range(4) if table[i]), True)
             expect("the tree", (0, tree), m.fill(deal, tree))
+
+
+def house_orders():
+    """23, 2, 23, 4, 11, 12, 15, 22, 13, 14 for a booking; 23, 2, 23, 11, 12, 6, 16 for a cancellation; 2, 23 for either
+    table, 12, 11, 12, 20 for a collection. A fault alone gets its code, of two the earlier one's; nothing is written."""
+    met = {op: set() for op in (*house_cases.FAULTS, *map(PLAIN_FORM.get, house_cases.FAULTS))}
+    for codes, lent in house_cases.faulty(random.Random(25)):
+        code, *after = answer(lent).split()
+        expect(f"{codes} by operation {lent.op}", int(code), codes[0] if codes else 0)
+        memory = {COLLECT: "be", COLLECT_TREE: "bce"}.get(lent.op, "ad" if lent.op in (BOOK, CANCEL) else "acd")
+        before = [sha256(getattr(lent, name))[1].hex() for name in memory]
+        expect("what is written", after[-len(before):] == before, bool(codes))
+        met[lent.op].update(codes)
+    expect("the codes of bookings", met[BOOK_TREE], {23, 2, 4, 11, 12, 15, 22, 13, 14})
+    expect("the codes of plain bookings", met[BOOK], {23, 2, 4, 11, 15, 22, 13, 14})
+    expect("the codes of cancellations", (met[CANCEL_TREE], met[CANCEL]), ({23, 2, 11, 12, 6, 16}, {23, 2, 11, 6, 16}))
+    expect("the codes of collections", met[COLLECT_TREE] == met[COLLECT] == {2, 23, 12, 11, 20}, True)
+
+
+def quotas():
+    """22 where twice the slots in which an entry of the house stands, kept or not, are all slots or more: whatever the
+    bytes at other slots are."""
+    m, rng, seen = Model(), random.Random(26), set()
+    for lent in house_cases.quotas(rng):
+        n = len(lent.d)
+        held = sum(owner == lent.y and m.standing(lent.a, i) is not None for i, owner in enumerate(lent.d))
+        free = any(m.standing(lent.a, i) is None for i in range(n))
+        code = m.book(lent.a, lent.d, lent.y, lent.b)[0]
+        expect(f"{held} of {n} slots", code, 22 if 2 * held >= n else 0 if free else 13)
+        seen.add((n, held))
+    expect("numbers of slots held", seen, {(4, held) for held in range(5)} | {(8, 3), (8, 4), (8, 5)})
+    for count in range(5):
+        for kept in (0, 1):
+            deal = bytes(768) + b"".join(house_cases.standing_at(rng, i, kept) for i in range(count)) + bytes(256 - 64 * count)
+            code = m.book(deal, b"\1" * 4, 1, b"x")[0]
+            expect(f"{count} entries, kept or not: {kept}", code, 22 if count >= 2 else 0)
+
+
+def written_owners():
+    """Booking sets the slot's byte to the house whatever it was, cancelling clears it, and neither changes another one."""
+    m, rng = Model(), random.Random(27)
+    for byte in range(256):
+        for house in (1, 2):
+            i = rng.randrange(4)
+            deal = house_cases.slots(rng, 1024, [j != i and rng.randrange(3) == 0 for j in range(4)])
+            table = bytes(byte if j == i else rng.choice((0, 3, byte | 4)) for j in range(4))
+            code, _, p, after, owned = m.book(deal, table, house, segment(rng, 128))
+            slot = (p - 768) // 64
+            expect("booked", (code, owned), (0, put(table, slot, bytes([house]))))
+            expect("the other house", m.cancel(after, owned, 3 - house, p), (16, after, owned))
+            expect("cancelled", m.cancel(after, owned, house, p), (0, put(after, p, bytes(64)), put(table, slot, b"\0")))
+
+
+def own_entries():
+    """15 is answered for the house's lowest slot that keeps the segment, and for no other's; only an owner cancels."""
+    m, rng = Model(), random.Random(28)
+    s = segment(rng, 128)
+    deal = booked(m, 1024, s, s, s, s)
+    for table in product((0, 1, 2, 7), repeat=4):
+        for house in (1, 2):
+            own = [i for i, owner in enumerate(table) if owner == house]
+            got = m.book(deal, bytes(table), house, s)[:3]
+            expect(f"owners {table}", got, (15, 128 * own[0], 768 + 64 * own[0]) if own else (13, 0, 0))
+            for i, owner in enumerate(table):
+                expect(f"owners {table}", m.cancel(deal, bytes(table), house, 768 + 64 * i)[0], 0 if owner == house else 16)
+
+
+def moved_owners():
+    """Collection carries each standing entry's byte as it was to its new slot, with zeros after them; bytes at other slots
+    are left behind."""
+    m, rng = Model(), random.Random(29)
+    deal = m.drop(booked(m, 1024, *(segment(rng, size) for size in (128, 128, 256, 128))), 832)[1]
+    for a, b, c, free in product((0, 1, 2, 7, 255), repeat=4):
+        moved = m.collect(deal, bytes((a, free, b, c)), rng.randbytes(1024), rng.randbytes(4))
+        expect("the table", (moved[0], moved[2]), (0, bytes((b, a, c, 0))))
+
+
+def isolated():
+    """Where no standing area overlaps another, a house's bookings and cancellations have the same code, offset and place
+    in two deals that differ in segments which are not its own; where one does, they may not."""
+    differ, codes = 0, set()
+    for calls in house_cases.twin_calls(random.Random(30), 60):
+        numbers = 3 if calls[0].op in (BOOK, BOOK_TREE) else 1
+        first, second = (answer(lent).split()[:numbers] for lent in calls)
+        expect("the answers", second, first)
+        differ += calls[0].a != calls[1].a
+        codes.add((numbers, int(first[0])))
+    expect("deals that differ", differ > 500, True)
+    expect("codes", codes, {(3, code) for code in (0, 4, 13, 14, 15, 22)} | {(1, code) for code in (0, 6, 16)})
+    for calls in house_cases.overlapped_twins(random.Random(31)):
+        answers = [answer(lent).split()[:3] for lent in calls]
+        expect("areas that overlap", answers, [["15", "0", "768"], ["0", "256", "896"]])
+
+
+def one_rule_decides():
+    """The calls of edge_cases.py have the codes that are written beside them, and bookings their offset and place. Of the
+    valid entries there that do not stand each breaks one rule alone."""
+    m = Model()
+    rng = random.Random(32)
+    for numbers, lent in (*edge_cases.judged(rng), *edge_cases.eight_slots(rng), *edge_cases.longest_deals()):
+        got = tuple(map(int, answer(lent).split()[:len(numbers)]))
+        expect(f"operation {lent.op} on {len(lent.a)} bytes", got, numbers)
+    for d, rows in edge_cases.NOT_STANDING.items():
+        for o, s in rows:
+            rules = m.size_allowed(d, s), o % area(s) == 0, o + area(s) <= index_numbers(d)[2]
+            expect(f"rules that {s} bytes at {o} keep", sorted(rules), [False, True, True])
 
 
 published_values()
@@ -645,4 +798,11 @@ collecting_order()
 half_a_deal()
 old_records()
 whole_runs()
+house_orders()
+quotas()
+written_owners()
+own_entries()
+moved_owners()
+isolated()
+one_rule_decides()
 print(f"model_test: the papers' values hold in the model; with a weak node hash {collisions()} collisions were shown")

@@ -21,8 +21,8 @@ class Held(NamedTuple):
 
 def held(rng, d, size):
     """A deal that keeps a segment of this size, after another one where there is room for two."""
-    deal = bytes(d) if area(size) == d // 2 else MODEL.book(bytes(d), b"".join(node(rng) for _ in range(4)))[3]
-    _, _, place, deal = MODEL.book(deal, run(rng, size))
+    deal = bytes(d) if area(size) == d // 2 else MODEL.put(bytes(d), b"".join(node(rng) for _ in range(4)))[3]
+    _, _, place, deal = MODEL.put(deal, run(rng, size))
     return Held(deal, MODEL.fill(deal, bytes(d - 32))[1], MODEL.commitment(deal)[1], place)
 
 

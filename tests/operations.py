@@ -1,7 +1,8 @@
 """The operations that a case can ask for, and the answers of the independent model.
 
-A case is a header of six little-endian u64 (operation, lengths of a, b and c, x, y), then the bytes a, b and c. Its answer is one
-line of text: the code, the numbers in decimal, the bytes in hex. `encode` writes it; ANSWERS says what each operation takes and prints.
+A case is a header of eight little-endian u64 (operation, lengths of a, b, c, d and e, x, y), then the bytes a, b, c, d and e. Its answer
+is one line of text: the code, the numbers in decimal, the bytes in hex. `encode` writes it; ANSWERS says what each operation takes and
+prints.
 """
 import hashlib
 from typing import NamedTuple
@@ -19,7 +20,8 @@ NAMES = {SHA256: "sha256", COMMITMENT: "commitment", NUMBERS: "index_numbers", M
          SETTLE_TREE: "settle_with_tree", CANCEL: "cancel", CANCEL_TREE: "cancel_with_tree", COLLECT: "collect",
          COLLECT_TREE: "collect_with_tree", ROW: "tree_row"}
 
-# The forms that take a tree, in c; their other arguments are those of the plain forms.
+# The forms that take a tree, in c; their other arguments are those of the plain forms. A table of owners is in d, a second one in e,
+# and a house in y.
 PLAIN_FORM = {BOOK_TREE: BOOK, BUILD_TREE: BUILD, SETTLE_TREE: SETTLE_DEAL, CANCEL_TREE: CANCEL, COLLECT_TREE: COLLECT}
 
 MODEL = Model()
@@ -33,19 +35,28 @@ class Case(NamedTuple):
     x: int = 0
     y: int = 0
     c: bytes = b""
+    d: bytes = b""
+    e: bytes = b""
 
 
 def encode(case):
-    op, a, b, x, y, c = Case(*case)
-    return b"".join(map(le, (op, len(a), len(b), len(c), x, y))) + a + b + c
+    op, a, b, x, y, *more = Case(*case)
+    memory = a, b, *more
+    return b"".join(map(le, (op, *map(len, memory), x, y))) + b"".join(memory)
 
 
 def line(*parts):
     return " ".join(p.hex() if isinstance(p, (bytes, bytearray)) else str(int(p)) for p in parts) + "\n"
 
 
+PART = 1 << 24  # the longest message that the library's sha256 takes
+
+
 def digest(data):
-    return hashlib.sha256(data).digest()
+    """The SHA-256 by which a line shows bytes; of more than PART, that of the SHA-256s of their parts."""
+    if len(data) <= PART:
+        return hashlib.sha256(data).digest()
+    return digest(b"".join(digest(data[at : at + PART]) for at in range(0, len(data), PART)))
 
 
 # ---- the answers; bytes that may be many are shown by their SHA-256
@@ -57,16 +68,18 @@ def found(case):
     return code, o, s, p, s, digest(case.a[o : o + s])
 
 
+def shown(*memory):
+    """What lent memory holds afterwards."""
+    return [digest(each) for each in memory]
+
+
 def booked(case):
-    """b is the segment; the deal afterwards."""
-    code, o, p, deal = MODEL.book(case.a, case.b)
-    return code, o, p, digest(deal)
-
-
-def booked_with_tree(case):
-    """The deal and the tree afterwards."""
-    code, o, p, deal, tree = MODEL.book_with_tree(case.a, case.c, case.b)
-    return code, o, p, digest(deal), digest(tree)
+    """b is the segment, y the house, d the table; the deal, with a tree in hand the tree, and the table afterwards."""
+    if case.op == BOOK:
+        code, o, p, *after = MODEL.book(case.a, case.d, case.y, case.b)
+    else:
+        code, o, p, *after = MODEL.book_with_tree(case.a, case.c, case.d, case.y, case.b)
+    return code, o, p, *shown(*after)
 
 
 def tree_filled(case):
@@ -82,27 +95,22 @@ def row_written(case):
 
 
 def cancelled(case):
-    """x is the place; the deal afterwards."""
-    code, deal = MODEL.cancel(case.a, case.x)
-    return code, digest(deal)
-
-
-def cancelled_with_tree(case):
-    """The deal and the tree afterwards."""
-    code, deal, tree = MODEL.cancel_with_tree(case.a, case.c, case.x)
-    return code, digest(deal), digest(tree)
+    """x is the place, y the house, d the table; the deal, with a tree in hand the tree, and the table afterwards."""
+    if case.op == CANCEL:
+        code, *after = MODEL.cancel(case.a, case.d, case.y, case.x)
+    else:
+        code, *after = MODEL.cancel_with_tree(case.a, case.c, case.d, case.y, case.x)
+    return code, *shown(*after)
 
 
 def collected(case):
-    """b is the second deal before; the second deal afterwards."""
-    code, second = MODEL.collect(case.a, case.b)
-    return code, digest(second)
-
-
-def collected_with_tree(case):
-    """The second deal and its tree afterwards."""
-    code, second, tree = MODEL.collect_with_tree(case.a, case.b, case.c)
-    return code, digest(second), digest(tree)
+    """b is the second deal before, d the table, e the second table before; the second deal, with a tree for it in hand the tree, and the
+    second table afterwards."""
+    if case.op == COLLECT:
+        code, *after = MODEL.collect(case.a, case.d, case.b, case.e)
+    else:
+        code, *after = MODEL.collect_with_tree(case.a, case.d, case.b, case.c, case.e)
+    return code, *shown(*after)
 
 
 def tree_of(case):
@@ -191,13 +199,13 @@ ANSWERS = {
     UNPAD: unpadded,
     TALLY: lambda case: MODEL.tally(case.a),
     FILL: tree_filled,
-    BOOK_TREE: booked_with_tree,
+    BOOK_TREE: booked,
     BUILD_TREE: built,
     SETTLE_TREE: lambda case: MODEL.settle_deal(case.a, case.y, case.b, case.c),
     CANCEL: cancelled,
-    CANCEL_TREE: cancelled_with_tree,
+    CANCEL_TREE: cancelled,
     COLLECT: collected,
-    COLLECT_TREE: collected_with_tree,
+    COLLECT_TREE: collected,
     ROW: row_written,
 }
 

@@ -41,7 +41,7 @@ class Image(unittest.TestCase):
             self.assertEqual(vz.meaning(number), stated.get(number, "unknown code"))
 
     def test_lengths_and_version_are_the_headers(self):
-        for name in ("MAX_DEAL", "MAX_RAW", "MAX_RECORD", "MAX_STREAM", "STREAM_STATE"):
+        for name in ("MAX_DEAL", "MAX_RAW", "MAX_RECORD", "MAX_STREAM", "MAX_TABLE", "STREAM_STATE"):
             self.assertEqual(getattr(vz, name), header.defined(f"VZ_{name}"), name)
         self.assertEqual(vz.version(), header.defined("VZ_VERSION"))
         self.assertEqual(_library.NAME, "libvizhuthamen.so." + vz.version().rsplit(".", 1)[0])
@@ -73,20 +73,24 @@ def methods(value):
 
 class Memory(unittest.TestCase):
     def setUp(self):
-        self.deal = bytearray(512)
-        vz.book(self.deal, b"\1" * 128)
+        self.deal, self.table = bytearray(512), bytearray(4)
+        vz.book(self.deal, self.table, 1, b"\1" * 128)
 
     def test_written_memory_overlaps_nothing(self):
-        before = bytes(self.deal)
-        view = memoryview(self.deal)
-        tree = bytearray(480)
-        for refused in (lambda: vz.collect(self.deal, self.deal), lambda: vz.collect(self.deal, view),
-                        lambda: vz.book(self.deal, view[:128]), lambda: vz.book(self.deal, view[384:]),
-                        lambda: vz.tree_fill(self.deal, view[32:]), lambda: vz.book(self.deal, b"\2", tree=view[32:]),
-                        lambda: vz.book(self.deal, memoryview(tree)[:100], tree=tree), lambda: vz.build_into(self.deal, 9, 256, self.deal),
+        deal, table, view = self.deal, self.table, memoryview(self.deal)
+        before = bytes(deal)
+        tree, other = bytearray(480), bytearray(512)
+        for refused in (lambda: vz.collect(deal, table, deal, bytearray(4)), lambda: vz.collect(deal, table, view, bytearray(4)),
+                        lambda: vz.collect(deal, table, other, table), lambda: vz.collect(deal, table, other, view[508:]),
+                        lambda: vz.collect(deal, view[:4], deal, bytearray(4)), lambda: vz.collect(deal, table, other, memoryview(other)[:4]),
+                        lambda: vz.book(deal, table, 1, view[:128]), lambda: vz.book(deal, table, 1, view[384:]),
+                        lambda: vz.book(deal, view[:4], 1, b"\2"), lambda: vz.book(deal, table, 1, memoryview(table)[3:]),
+                        lambda: vz.cancel(deal, view[508:], 1, 256), lambda: vz.cancel(deal, memoryview(tree)[:4], 1, 256, tree=tree),
+                        lambda: vz.tree_fill(deal, view[32:]), lambda: vz.book(deal, table, 1, b"\2", tree=view[32:]),
+                        lambda: vz.book(deal, table, 1, memoryview(tree)[:100], tree=tree), lambda: vz.build_into(deal, 9, 256, deal),
                         lambda: vz.pad_into(view[:100], view[50:300]), lambda: vz.tree_row(view[:128], view[127:191])):
             self.assertRaises(ValueError, refused)
-        self.assertEqual((bytes(self.deal), bytes(tree)), (before, bytes(480)))
+        self.assertEqual((bytes(deal), bytes(table), bytes(tree), bytes(other)), (before, b"\1\0\0\0", bytes(480), bytes(512)))
 
     def test_memory_that_is_beside_or_empty_may_be_lent(self):
         view = memoryview(bytearray(192))
@@ -105,8 +109,10 @@ class Memory(unittest.TestCase):
             self.assertEqual(vz.find(lent, whole[256:288]).segment, whole[:128])
 
     def test_memory_that_cannot_be_lent(self):
-        for refused in (lambda: vz.book(bytes(512), b"\1"), lambda: vz.book(memoryview(bytes(512)), b"\1"),
-                        lambda: vz.sha256(memoryview(self.deal)[::2]), lambda: vz.sha256("text"), lambda: vz.sha256(7)):
+        for refused in (lambda: vz.book(bytes(512), bytearray(4), 1, b"\1"), lambda: vz.book(bytearray(512), bytes(4), 1, b"\1"),
+                        lambda: vz.book(memoryview(bytes(512)), bytearray(4), 1, b"\1"),
+                        lambda: vz.cancel(self.deal, bytes(self.table), 1, 256),
+                        lambda: vz.collect(self.deal, self.table, bytearray(512), bytes(4)), lambda: vz.sha256(memoryview(self.deal)[::2]), lambda: vz.sha256("text"), lambda: vz.sha256(7)):
             self.assertRaises(TypeError, refused)
 
     def test_what_is_found_is_a_part_of_the_deal(self):
@@ -127,7 +133,43 @@ class Answers(unittest.TestCase):
             self.assertRaises(OverflowError, vz.inspect, bytes(512), refused)
             self.assertRaises(OverflowError, vz.check, bytes(32), 512, refused, b"")
             self.assertRaises(OverflowError, vz.unpad, refused, b"")
+            self.assertRaises(OverflowError, vz.cancel, bytearray(512), bytearray(4), 1, refused)
         self.assertRaises(vz.Refusal, vz.index_numbers, (1 << 64) - 1)
+
+    def test_a_house_has_8_bits(self):
+        deal, table = bytearray(512), bytearray(4)
+        for refused in (-1, 256, 257, 1 << 64):
+            self.assertRaises(OverflowError, vz.book, deal, table, refused, b"x")
+            self.assertRaises(OverflowError, vz.cancel, deal, table, refused, 256)
+        for house in (0, 3, 255):
+            with self.assertRaises(vz.Refusal) as caught:
+                vz.book(deal, table, house, b"x")
+            self.assertEqual(caught.exception.code, vz.Refusal.HOUSE)
+        self.assertEqual((deal, table), (bytes(512), bytes(4)))
+
+    def test_two_houses(self):
+        deal, table = bytearray(1024), bytearray(vz.table_length(1024))
+        for house, segment, place in ((1, b"x", 768), (2, b"x", 832), (1, b"y", 896)):
+            self.assertEqual(vz.book(deal, table, house, segment).position.place, place)
+        self.assertIsInstance(vz.book(deal, table, 2, b"x"), vz.AlreadyKept)
+        self.assertEqual(self.code(lambda: vz.book(deal, table, 1, b"z")), vz.Refusal.QUOTA)
+        self.assertEqual(self.code(lambda: vz.cancel(deal, table, 2, 768)), vz.Refusal.NOT_KEPT)
+        vz.cancel(deal, table, 1, 768)
+        self.assertEqual(table, bytes((0, 2, 1, 0)))
+        second, owners = bytearray(1024), bytearray(4)
+        self.assertEqual(self.code(lambda: vz.collect(deal, table, second, bytearray(3))), vz.Refusal.HOUSE)
+        vz.collect(deal, table, second, owners)
+        self.assertEqual(owners, bytes((2, 1, 0, 0)))
+
+    def code(self, call):
+        with self.assertRaises(vz.Refusal) as caught:
+            call()
+        return caught.exception.code
+
+    def test_a_table_has_a_byte_for_each_slot(self):
+        for size in (1 << k for k in range(9, 25)):
+            self.assertEqual(vz.table_length(size), vz.index_numbers(size).entries)
+        self.assertEqual(vz.table_length(vz.MAX_DEAL), vz.MAX_TABLE)
 
     def test_a_refusal_says_its_code(self):
         with self.assertRaises(vz.Refusal) as caught:
@@ -138,9 +180,9 @@ class Answers(unittest.TestCase):
         self.assertEqual(str(pickle.loads(pickle.dumps(refusal))), str(refusal))
 
     def test_outputs_that_are_made_here(self):
-        deal = bytearray(1024)
-        self.assertEqual(vz.book(deal, b"x"), vz.Booked(vz.Position(0, 768)))
-        self.assertEqual(vz.book(deal, b"x"), vz.AlreadyKept(vz.Position(0, 768)))
+        deal, table = bytearray(1024), bytearray(4)
+        self.assertEqual(vz.book(deal, table, 2, b"x"), vz.Booked(vz.Position(0, 768)))
+        self.assertEqual(vz.book(deal, table, 2, b"x"), vz.AlreadyKept(vz.Position(0, 768)))
         tree = vz.filled_tree(deal)
         self.assertEqual(vz.build(deal, 9, 768, tree=tree), vz.build(deal, 9, 768))
         self.assertEqual(tree[-32:], vz.commitment(deal))

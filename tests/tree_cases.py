@@ -3,15 +3,15 @@ that stand beside another deal than the one they were filled for."""
 from itertools import product
 
 from cases import deal, deal_number, place, run, segment_size, spoil, standing_places, strayed
-from model import area, index_numbers
-from operations import BOOK_TREE, BUILD_TREE, FILL, MODEL, ROW, SETTLE_TREE
+from model import area, index_numbers, owners
+from operations import BOOK_TREE, BUILD_TREE, FILL, MODEL, ROW, SETTLE_TREE, Case
 
 
 def orders(rng):
     """Every choice of faults in deal, tree, segment, place, output and record at once: the first in the order decides."""
     whole = bytes(512)
     for size in (128, 100):
-        whole = MODEL.book(whole, run(rng, size))[3]
+        whole = MODEL.put(whole, run(rng, size))[3]
     number = deal_number(rng)
     own, record = MODEL.fill(whole, bytes(480))[1], MODEL.build(whole, number, 256)[1]
     stray = strayed(whole, 31, 64)
@@ -19,8 +19,8 @@ def orders(rng):
     segments = (fresh, whole[:128], whole[128:228], b"", bytes(257), strayed(fresh, 63, 128))
     for data, tree in product((whole, stray, whole[:500], stray[:511], bytes(512)), (own, own[:-1], own + b"\0", b"")):
         yield FILL, data, b"", 0, 0, tree
-        for segment in segments:
-            yield BOOK_TREE, data, segment, 0, 0, tree
+        for segment, owner in product(segments, (1, 2)):  # of the second slot: one house has half of the slots, or each a quarter
+            yield Case(BOOK_TREE, data, segment, y=1, c=tree, d=bytes([1, owner, 0, 0]))
         for p, n in product((256, 300, 384), (245, 244)):
             yield BUILD_TREE, data, rng.randbytes(n), p, number, tree
         for r in (record, record[:-1], spoil(rng, record), b""):
@@ -49,20 +49,20 @@ def looked_at(rng, data, tree):
 
 
 def kept_tree(rng, d, sizes, mixed):
-    """A deal, of zeros or of old bytes, with its tree: filled, and kept over bookings of these sizes, each followed by the same segment
-    again. Where plain bookings are mixed in, the tree is stale from there on."""
+    """A deal, of zeros or of old bytes, with its tree: filled, and kept over bookings of these sizes by either house, each followed by
+    the same segment again. Where plain bookings are mixed in, the tree is stale from there on."""
     start = index_numbers(d)[2]
     data = rng.choice((bytes(start), run(rng, start))) + bytes(d - start)
     old = rng.randbytes(d - 32)
     yield FILL, data, b"", 0, 0, old
-    tree = MODEL.fill(data, old)[1]
+    tree, table = MODEL.fill(data, old)[1], owners(data, 0)
     for size in sizes:
-        segment = run(rng, size)
+        house, segment = rng.choice((1, 2)), run(rng, size)
         if mixed and not rng.randrange(3):
-            data = MODEL.book(data, segment)[3]
+            *_, data, table = MODEL.book(data, table, house, segment)
         for _ in range(2):
-            yield BOOK_TREE, data, segment, 0, 0, tree
-            *_, data, tree = MODEL.book_with_tree(data, tree, segment)
+            yield Case(BOOK_TREE, data, segment, y=house, c=tree, d=table)
+            *_, data, tree, table = MODEL.book_with_tree(data, tree, table, house, segment)
         yield from looked_at(rng, data, tree)
 
 
@@ -91,4 +91,4 @@ def changed_deals(rng, count):
             changed = data[:at] + part + data[at + len(part):]
             yield SETTLE_TREE, changed, record, 0, number, tree
             yield BUILD_TREE, changed, rng.randbytes(2000), p, number, tree
-            yield BOOK_TREE, changed, data[o : o + s], 0, 0, tree
+            yield Case(BOOK_TREE, changed, data[o : o + s], y=2, c=tree, d=owners(data, rng.choice((1, 2))))

@@ -3,8 +3,8 @@ import hashlib
 
 from model import MAX_RAW, area, filled, le, pad, segment_bit, segment_length
 from operations import MODEL
-from vector_parts import (CUT_DEAL, OTHER, STRAY_DEAL, call, changed, deal_of, joined, nodes, orders, own_entry, repeat, segment, stray,
-                          with_entries, zeros)
+from vector_parts import (CUT_DEAL, CUT_TABLE, NO_HOUSE, OTHER, STRAY_DEAL, call, changed, deal_of, joined, nodes, orders, own_entry,
+                          repeat, segment, stray, with_entries, zeros)
 
 
 def hashes():
@@ -113,61 +113,108 @@ def kinds_of_entries():
 
 
 def two_runs():
-    """Document 01's two runs, and the all-zero segment."""
+    """Document 01's two runs, done by one house and by two, and the all-zero segment."""
     one, two, three = segment(1), segment(2), segment(3)
-    yield call("book", "first", "A, into 512 zeros", deal=zeros(512), segment=one)
-    yield call("book", "again", "A again", deal=deal_of(512, one), segment=one)
-    yield call("book", "second", "B: the next offset, the next slot", deal=deal_of(512, one), segment=two)
-    yield call("book", "third", "no place is left: 14", deal=deal_of(512, one, two), segment=three)
-    yield call("book", "again-where-full", "15 before 14", deal=deal_of(512, one, two), segment=two)
+    book = lambda name, how, deal, table, house, data: call("book", name, how, deal=deal, table=bytes(table), house=house, segment=data)
+    yield book("first", "A, into 512 zeros", zeros(512), (0, 0, 0, 0), 1, one)
+    yield book("again", "A again", deal_of(512, one), (1, 0, 0, 0), 1, one)
+    yield book("second", "B: the next offset, the next slot", deal_of(512, one), (1, 0, 0, 0), 1, two)
+    yield book("third", "the house holds half of the slots: 22", deal_of(512, one, two), (1, 1, 0, 0), 1, three)
+    yield book("third-of-two", "neither house holds half of the slots, and no place is left: 14", deal_of(512, one, two), (1, 2, 0, 0), 1,
+               three)
+    yield book("again-where-full", "15 before 22 and 14", deal_of(512, one, two), (1, 1, 0, 0), 1, two)
     full = deal_of(1024, *map(segment, range(1, 5)))
-    yield call("book", "fourth", "into 1,024 bytes", deal=deal_of(1024, one, two, three), segment=segment(4))
-    yield call("book", "fifth", "no slot is left, though there is room: 13", deal=full, segment=segment(5))
-    yield call("book", "fifth-again", "15 before 13", deal=full, segment=segment(4))
-    yield call("book", "zeros", "the all-zero segment is booked like any other", deal=zeros(512), segment=zeros(128))
-    yield call("book", "zeros-again", "and kept like any other", deal=deal_of(512, zeros(128)), segment=zeros(128))
+    yield book("fourth", "into 1,024 bytes", deal_of(1024, one, two, three), (1, 1, 2, 0), 2, segment(4))
+    yield book("fifth", "each house holds half of the slots, and none is left: 22 before 13", full, (1, 1, 2, 2), 1, segment(5))
+    yield book("fifth-of-nobody", "no slot is left, though there is room, and neither house holds one: 13", full, (0, 0, 0, 0), 1, segment(5))
+    yield book("fifth-again", "15 before 22 and 13", full, (1, 1, 2, 2), 2, segment(4))
+    yield book("zeros", "the all-zero segment is booked like any other", zeros(512), (0, 0, 0, 0), 1, zeros(128))
+    yield book("zeros-again", "and kept like any other", deal_of(512, zeros(128)), (2, 0, 0, 0), 2, zeros(128))
 
 
 def booked_sizes():
+    one = {"table": zeros(4), "house": 1}
     for n in (1, 31, 32, 127, 129, 130, 255, 256):
-        yield call("book", f"size-{n}", f"{n} bytes, and zeros after them to {area(n)}", deal=repeat(b"\x07", 768) + bytes(256),
+        yield call("book", f"size-{n}", f"{n} bytes, and zeros after them to {area(n)}", deal=repeat(b"\x07", 768) + bytes(256), **one,
                    segment=segment(9, n))
     for n in (0, 257, 512):
-        yield call("book", f"size-{n}-of-512", "a segment has 1 byte to half of the deal", deal=zeros(512), segment=zeros(n))
+        yield call("book", f"size-{n}-of-512", "a segment has 1 byte to half of the deal", deal=zeros(512), **one, segment=zeros(n))
     yield call("book", "longer", "the same bytes and one zero more are another segment", deal=deal_of(1024, segment(9, 100)),
-               segment=segment(9, 100) + b"\0")
-    yield call("book", "2-to-20", "over old bytes in 2^20", deal=joined(nodes("deal", 32752), zeros(512)), segment=nodes("segment", 1000))
+               table=b"\1\0\0\0", house=1, segment=segment(9, 100) + b"\0")
+    yield call("book", "2-to-20", "over old bytes in 2^20", deal=joined(nodes("deal", 32752), zeros(512)), table=zeros(8), house=2,
+               segment=nodes("segment", 1000))
 
 
 def bookings_in_foreign_deals():
+    owned = {"table": b"\1\0\0\0", "house": 1}
     standing = with_entries(bytes(512), MODEL.entry(OTHER, 0, 128))
-    yield call("book", "standing-not-kept", "an entry that stands and is not kept has its slot and its bytes", deal=standing,
+    yield call("book", "standing-not-kept", "an entry that stands and is not kept has its slot and its bytes", deal=standing, **owned,
                segment=segment(1))
-    yield call("book", "standing-not-kept-same", "the segment is there, and no entry keeps it", deal=standing, segment=zeros(128))
+    yield call("book", "standing-not-kept-same", "the segment is there, and no entry keeps it", deal=standing, **owned, segment=zeros(128))
     wrap = with_entries(bytes(512), MODEL.entry(OTHER, (1 << 64) - 128, 128))
-    yield call("book", "wrapping-offset", "offset and area would wrap: the entry does not stand, its slot is free", deal=wrap,
+    yield call("book", "wrapping-offset", "offset and area would wrap: the entry does not stand, its slot is free", deal=wrap, **owned,
                segment=segment(1))
     damaged = changed(deal_of(512, segment(1), segment(2)), 300, b"\x01")
-    yield call("book", "damaged-slot", "a damaged slot is free, and so are its bytes", deal=damaged, segment=segment(3))
+    yield call("book", "damaged-slot", "a damaged slot is free, and so are its bytes", deal=damaged, **owned, segment=segment(3))
     inner = with_entries(bytes(1024), own_entry(bytes(1024), 256, 256))
-    yield call("book", "inside", "overlap is by areas, not by equal offsets", deal=joined(repeat(b"\x01", 256), inner[256:]),
+    yield call("book", "inside", "overlap is by areas, not by equal offsets", deal=joined(repeat(b"\x01", 256), inner[256:]), **owned,
                segment=segment(8, 257))
     cut = bytes(repeat(b"\x06", 256)) + bytes(768)
     yield call("book", "other-trailer", "a kept entry of 130 bytes with other bytes than zeros after them is not this segment",
-               deal=with_entries(cut, own_entry(cut, 0, 130)), segment=segment(6, 130))
+               deal=with_entries(cut, own_entry(cut, 0, 130)), **owned, segment=segment(6, 130))
     taken = with_entries(bytes(512), *(MODEL.entry(OTHER, 0, 256) for _ in range(4)))
-    yield call("book", "13-before-14", "no slot and no place is free", deal=taken, segment=segment(1))
+    yield call("book", "13-before-14", "no slot and no place is free", deal=taken, **owned, segment=segment(1))
 
 
 def refused_bookings():
-    yield from orders("book", {"deal": deal_of(1024, segment(1)), "segment": segment(2)}, {
-        **CUT_DEAL,
+    yield from orders("book", {"deal": deal_of(1024, segment(1), segment(3)), "table": b"\1\2\0\0", "house": 1, "segment": segment(2)}, {
+        **NO_HOUSE, **CUT_DEAL, **CUT_TABLE,
         "segment-size": lambda i: {"segment": b""},
         **STRAY_DEAL,
         "kept": lambda i: {"segment": segment(1)},
+        "quota": lambda i: {"table": b"\1\1\0\0"},
+        "no-slot": lambda i: {"deal": changed(i["deal"], 896, MODEL.entry(OTHER, 640, 128) * 2)},
+        "no-place": lambda i: {"deal": changed(i["deal"], 832, MODEL.entry(OTHER, 0, 512) + MODEL.entry(OTHER, 512, 256))},
     })
-    yield call("book", "stray-segment", "11 for the segment", deal=zeros(512), segment=stray(segment(2), 96, 0x80))
-    yield call("book", "stray-cut-short", "the last node is cut short: its bits are none of byte 31", deal=zeros(512), segment=b"\xff" * 31)
+    one = {"deal": zeros(512), "table": zeros(4), "house": 1}
+    yield call("book", "stray-segment", "11 for the segment", **one, segment=stray(segment(2), 96, 0x80))
+    yield call("book", "stray-cut-short", "the last node is cut short: its bits are none of byte 31", **one, segment=b"\xff" * 31)
+
+
+def houses():
+    """Two houses in one deal: whose entries count for what."""
+    deal = deal_of(1024, segment(1), segment(1), segment(2))
+    spoilt = changed(deal, 0, b"\2")
+    free = with_entries(deal, bytes(64))
+    for name, how, lent, table, house, data in (
+            ("same-segment", "what the other house keeps does not count for 15", deal_of(1024, segment(1)), (2, 0, 0, 0), 1, segment(1)),
+            ("nobodys-segment", "nor what is nobody's", deal_of(1024, segment(1)), (7, 0, 0, 0), 1, segment(1)),
+            ("own-slot", "15 is answered for the house's own slot", deal, (2, 1, 2, 0), 1, segment(1)),
+            ("lowest-own-slot", "and for the lowest of them", deal, (1, 1, 2, 0), 1, segment(1)),
+            ("one-below-half", "the house holds one slot of four", deal, (1, 2, 2, 0), 1, segment(3)),
+            ("half", "the house holds two slots of four", deal, (1, 2, 2, 0), 2, segment(3)),
+            ("half-not-kept", "entries that stand count for the quota, kept or not", spoilt, (1, 1, 2, 0), 1, segment(3)),
+            ("bytes-at-free-slots", "bytes at free slots count nothing", free, (1, 1, 2, 1), 1, segment(3)),
+            ("any-byte-is-set", "the slot's byte becomes the house's, whatever it was", deal, (1, 2, 2, 255), 1, segment(3))):
+        yield call("book", name, how, deal=lent, table=bytes(table), house=house, segment=data)
+    for house in (0, 3, 4, 129, 255):
+        yield call("book", f"house-{house}", "a house is 1 or 2: 23 before all else", deal=b"", table=b"", house=house, segment=b"")
+        yield call("cancel", f"house-{house}", "a house is 1 or 2: 23 before all else", deal=b"", table=b"", house=house, place=0)
+    for n in (0, 1, 3, 5, 8, 128, 1024):
+        yield call("book", f"table-{n}", "a table has one byte a slot", deal=deal, table=repeat(b"\1", n), house=2, segment=b"")
+
+
+def table_of_2_to_24():
+    yield call("book", "table-2-to-24", "128 slots, of which the house has 63", deal=held_slots(63), table=repeat(b"\1", 128), house=1,
+               segment=segment(3))
+    yield call("book", "half-of-2-to-24", "128 slots, of which the house has 64", deal=held_slots(64), table=repeat(b"\1", 128), house=1,
+               segment=segment(3))
+
+
+def held_slots(count):
+    """A deal of 2^24 zeros in whose first slots so many entries stand."""
+    slots = b"".join(MODEL.entry(OTHER, 128 * i, 128) for i in range(count))
+    return joined(zeros((1 << 24) - 8192), slots + bytes(8192 - len(slots)))
 
 
 def inspections():
@@ -205,37 +252,48 @@ def findings():
 
 def cancellations():
     deal = deal_of(1024, segment(1), segment(2, 200), segment(3))
-    for place in (768, 832, 896):
-        yield call("cancel", f"place-{place}", "the 64 bytes become zeros, and no other byte changes", deal=deal, place=place)
+    owned = {"table": b"\1\2\1\7", "house": 1}
+    for place in (768, 896):
+        yield call("cancel", f"place-{place}", "the 64 bytes and the slot's byte become zeros, and no other byte changes", deal=deal, **owned,
+                   place=place)
+    yield call("cancel", "the-others", "only the owner cancels an entry", deal=deal, **owned, place=832)
+    for byte in (0, 3, 7, 255):
+        yield call("cancel", f"nobodys-{byte}", "nobody's entry is cancelled by no house", deal=deal, table=bytes([byte] * 4), house=1, place=768)
     standing, not_standing = (with_entries(deal, MODEL.entry(OTHER, *row)) for row in ((128, 100), (64, 128)))
-    yield call("cancel", "standing-not-kept", "what stands and is not kept is cancelled too", deal=standing, place=768)
-    yield call("cancel", "valid-not-standing", "what does not stand is not cancelled", deal=not_standing, place=768)
-    yield from orders("cancel", {"deal": deal, "place": 768}, {
-        **CUT_DEAL, **STRAY_DEAL,
+    yield call("cancel", "standing-not-kept", "what stands and is not kept is cancelled too", deal=standing, **owned, place=768)
+    yield call("cancel", "valid-not-standing", "what does not stand is not cancelled", deal=not_standing, **owned, place=768)
+    yield from orders("cancel", {"deal": deal, **owned, "place": 768}, {
+        **NO_HOUSE, **CUT_DEAL, **CUT_TABLE, **STRAY_DEAL,
         "place": lambda i: {"place": i["place"] + 32},
-        "nothing-stands": lambda i: {"place": i["place"] + 192},
+        "nothing-stands": lambda i: {"place": i["place"] + 192, "table": b"\1\2\1\1"},
     })
 
 
 def collections():
     deal, old = deal_of(1024, segment(1), segment(2, 200), segment(3)), repeat(b"\xff", 1024)
-    gap = MODEL.cancel(deal, 768)[1]
-    yield call("collect", "gap", "the larger area first; all else is zero, whatever the second deal held", deal=gap, second=old)
-    yield call("collect", "nothing", "a deal without entries", deal=repeat(b"\x01", 768) + bytes(256), second=old)
-    yield call("collect", "not-kept", "commitment and size are as they were, kept or not", second=old,
+    tables = {"table": b"\0\1\2\7", "second_table": repeat(b"\xa5", 4)}
+    gap = MODEL.drop(deal, 768)[1]
+    yield call("collect", "gap", "the larger area first; all else is zero, whatever the second deal and the second table held", deal=gap,
+               second=old, **tables)
+    yield call("collect", "nothing", "a deal without entries", deal=repeat(b"\x01", 768) + bytes(256), second=old, **tables)
+    yield call("collect", "not-kept", "commitment and size are as they were, kept or not", second=old, **tables,
                deal=with_entries(deal, MODEL.entry(OTHER, 640, 100)))
     trailer = bytes(256) + bytes(repeat(b"\x05", 256)) + bytes(512)
-    yield call("collect", "bytes-after-the-size", "all bytes of the area are moved", second=old,
+    yield call("collect", "bytes-after-the-size", "all bytes of the area are moved", second=old, **tables,
                deal=with_entries(trailer, MODEL.entry(OTHER, 256, 130)))
     rows = (512, 128), (0, 256), (640, 100), (256, 1)
     shuffled = with_entries(bytes(range(48)) * 16 + bytes(256), *(MODEL.entry(OTHER, *row) for row in rows))
-    yield call("collect", "order", "by falling area, equal ones by old offset", deal=shuffled, second=old)
+    yield call("collect", "order", "by falling area, equal ones by old offset", deal=shuffled, second=old, **tables)
+    for table in ((1, 1, 2, 2), (255, 0, 7, 2)):
+        yield call("collect", "owners-" + bytes(table).hex(), "each byte as it was, for the entry's new slot", deal=shuffled, second=old,
+                   table=bytes(table), second_table=zeros(4))
     for name, other in (("same", (0, 128)), ("inside", (128, 100)), ("beside", (256, 128))):
         clash = with_entries(bytes(1024), *(MODEL.entry(bytes(32), *row) for row in ((0, 256), other)))
-        yield call("collect", f"overlap-{name}", "two areas: (0, 256) and " + str(other), deal=clash, second=old)
+        yield call("collect", f"overlap-{name}", "two areas: (0, 256) and " + str(other), deal=clash, second=old, **tables)
     clash = with_entries(deal, *(MODEL.entry(bytes(32), 0, 128) for _ in range(2)))
-    yield from orders("collect", {"deal": gap, "second": old}, {
-        **CUT_DEAL,
+    yield from orders("collect", {"deal": gap, "second": old, **tables}, {
+        **CUT_DEAL, **CUT_TABLE,
+        "second-table-length": lambda i: {"second_table": zeros(5)},
         "second-length": lambda i: {"second": zeros(1025)},
         **STRAY_DEAL,
         "overlap": lambda i: {"deal": clash},
@@ -243,4 +301,4 @@ def collections():
 
 
 GROUPS = (hashes, commitments, streams, paddings, refused_paddings, sizes, entries, kinds_of_entries, two_runs, booked_sizes,
-          bookings_in_foreign_deals, refused_bookings, inspections, tallies, findings, cancellations, collections)
+          bookings_in_foreign_deals, refused_bookings, houses, table_of_2_to_24, inspections, tallies, findings, cancellations, collections)

@@ -73,10 +73,10 @@ def segment(byte, n=128):
 
 
 def deal_of(d, *segments):
-    """An all-zero deal into which these were booked."""
+    """An all-zero deal into which these were booked, by whatever house."""
     deal = bytes(d)
     for each in segments:
-        code, _, _, deal = MODEL.book(deal, each)
+        code, _, _, deal = MODEL.put(deal, each)
         assert code == 0
     return deal
 
@@ -110,6 +110,8 @@ def orders(routine, base, faults):
         yield call(routine, "fault-" + "-and-".join(chosen), "faults in their order: " + ", ".join(chosen), **inputs)
 
 
-# Faults of a deal, for `orders`.
+# Faults of a house, a deal and a table, for `orders`.
+NO_HOUSE = {"house": lambda i: {"house": 3}}
+CUT_TABLE = {"table-length": lambda i: {"table": i["table"][:-1]}}
 CUT_DEAL = {"deal-size": lambda i: {"deal": i["deal"][:-12]}}
 STRAY_DEAL = {"stray-bits": lambda i: {"deal": stray(i["deal"], 0)}}

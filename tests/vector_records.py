@@ -4,8 +4,8 @@ import random
 from cases import sparse_record
 from model import index_numbers, le
 from operations import CHECK, MODEL, Case
-from vector_parts import (CUT_DEAL, NUMBER, OTHER, STRAY_DEAL, call, changed, deal_of, joined, nodes, orders, repeat, segment, stray,
-                          with_entries, zeros)
+from vector_parts import (CUT_DEAL, CUT_TABLE, NO_HOUSE, NUMBER, OTHER, STRAY_DEAL, call, changed, deal_of, joined, nodes, orders, repeat,
+                          segment, stray, with_entries, zeros)
 from vectors import stray_paths
 
 # A deal of 512 bytes with two segments, its tree, its commitment, and the record of the second.
@@ -175,27 +175,34 @@ def rows():
 
 
 def changes_with_tree():
-    one = deal_of(512, segment(1))
-    yield from orders("book_with_tree", {"deal": one, "segment": segment(2, 100), "tree": MODEL.fill(one, bytes(480))[1]}, {
-        **CUT_DEAL,
+    one, owned = deal_of(512, segment(1)), {"table": b"\1\0\0\0", "house": 1}
+    yield from orders("book_with_tree", {"deal": one, **owned, "segment": segment(2, 100), "tree": MODEL.fill(one, bytes(480))[1]}, {
+        **NO_HOUSE, **CUT_DEAL, **CUT_TABLE,
         "segment-size": lambda i: {"segment": b""},
         **STRAY_DEAL, **TREE_LENGTH,
         "kept": lambda i: {"segment": segment(1)},
+        "quota": lambda i: {"deal": changed(i["deal"], 320, MODEL.entry(OTHER, 128, 128)), "table": b"\1\1\0\0"},
     })
-    yield call("book_with_tree", "stale", "kept is read from the tree: one filled before the booking books again", deal=one,
+    yield call("book_with_tree", "stale", "kept is read from the tree: one filled before the booking books again", deal=one, **owned,
                tree=MODEL.fill(bytes(512), bytes(480))[1], segment=segment(1))
-    yield call("book_with_tree", "any-bytes", "only nodes above what is written are worked out anew", deal=zeros(512),
-               tree=nodes("tree", 15), segment=segment(1))
-    yield from orders("cancel_with_tree", {"deal": DEAL, "tree": TREE, "place": 256}, {
-        **CUT_DEAL, **STRAY_DEAL, **TREE_LENGTH,
+    yield call("book_with_tree", "any-bytes", "only nodes above what is written are worked out anew", deal=zeros(512), table=zeros(4),
+               house=2, tree=nodes("tree", 15), segment=segment(1))
+    yield call("book_with_tree", "the-others", "what the other house keeps does not count for 15", deal=one, table=b"\1\0\0\0", house=2,
+               tree=MODEL.fill(one, bytes(480))[1], segment=segment(1))
+    both = {"table": b"\1\2\0\0", "house": 1}
+    yield from orders("cancel_with_tree", {"deal": DEAL, **both, "tree": TREE, "place": 256}, {
+        **NO_HOUSE, **CUT_DEAL, **CUT_TABLE, **STRAY_DEAL, **TREE_LENGTH,
         "place": lambda i: {"place": i["place"] + 32},
-        "nothing-stands": lambda i: {"place": i["place"] + 128},
+        "the-others": lambda i: {"place": i["place"] + 64},
     })
-    yield call("cancel_with_tree", "any-bytes", "one node of each height is worked out anew", deal=DEAL, tree=nodes("tree", 15), place=256)
+    yield call("cancel_with_tree", "any-bytes", "one node of each height is worked out anew", deal=DEAL, **both, tree=nodes("tree", 15),
+               place=256)
     clash = with_entries(DEAL, *(MODEL.entry(bytes(32), 0, 128) for _ in range(2)))
-    gap = {"deal": MODEL.cancel(DEAL, 256)[1], "second": repeat(b"\xff", 512), "tree": repeat(b"\xa5", 480)}
+    gap = {"deal": MODEL.drop(DEAL, 256)[1], "table": b"\1\7\2\2", "second": repeat(b"\xff", 512), "tree": repeat(b"\xa5", 480),
+           "second_table": repeat(b"\xa5", 4)}
     yield from orders("collect_with_tree", gap, {
-        **CUT_DEAL,
+        **CUT_DEAL, **CUT_TABLE,
+        "second-table-length": lambda i: {"second_table": b""},
         "second-length": lambda i: {"second": zeros(511)},
         **STRAY_DEAL, **TREE_LENGTH,
         "overlap": lambda i: {"deal": clash},

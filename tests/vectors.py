@@ -8,13 +8,15 @@ import sys
 from pathlib import Path
 
 import change_cases
+import edge_cases
+import house_cases
 import number_cases
 import refusal_cases
 import tree_cases
 from cases import any_number, case, deal_number, node, other_number, paddings, run, sparse_record, streams
-from model import index_numbers, le
+from model import index_numbers, le, owners
 from operations import (BOOK, BUILD, CHECK, CHECK_INPUT, COMMITMENT, COMPARE, FIELDS, FIND, MAKE, MODEL, NAMES, NUMBERS, READ, SETTLE,
-                        SETTLE_DEAL, TALLY, answer, encode)
+                        SETTLE_DEAL, TALLY, Case, answer, encode)
 
 ROOT = Path(__file__).resolve().parent.parent
 
@@ -26,22 +28,26 @@ def table_of_sizes():
         yield NUMBERS, b"", b"", d, 0
 
 
-def bookings(rng, size, segments):
-    """A run of bookings: each call gets the deal that the one before left."""
+def bookings(rng, size, calls):
+    """A run of bookings, each by a house: each call gets the deal and the table that the one before left."""
     deal = bytes(size)
-    for s in segments:
-        yield BOOK, deal, s, 0, 0
-        deal = MODEL.book(deal, s)[3]
+    table = owners(deal, 0)
+    for house, s in calls:
+        yield Case(BOOK, deal, s, y=house, d=table)
+        *_, deal, table = MODEL.book(deal, table, house, s)
     number = deal_number(rng)
     yield SETTLE_DEAL, deal, MODEL.build(deal, number, index_numbers(size)[2])[1], 0, number
 
 
 def worked_runs(rng):
-    """Document 01's two runs, and the all-zero segment and slot."""
-    a, b, c = (run(rng, 128) for _ in range(3))
-    yield from bookings(rng, 512, (a, a, b, c, a))
-    yield from bookings(rng, 1024, [b"".join(node(rng) for _ in range(4)) for _ in range(5)])
-    yield from bookings(rng, 512, (bytes(128), bytes(128)))
+    """Document 01's two runs, done by one house and by two, and the all-zero segment and slot."""
+    a, b, c = (b"".join(node(rng) for _ in range(4)) for _ in range(3))
+    yield from bookings(rng, 512, ((1, a), (1, a), (1, b), (1, c), (1, a)))
+    yield from bookings(rng, 512, ((1, a), (1, a), (2, b), (1, c), (2, c), (2, a), (1, a)))
+    four = [b"".join(node(rng) for _ in range(4)) for _ in range(4)]
+    for houses in ((1, 1, 1, 1), (2, 2, 2, 2), (1, 1, 2, 2), (2, 1, 2, 1)):
+        yield from bookings(rng, 1024, [*zip(houses, four), (1, a), (2, a)])
+    yield from bookings(rng, 512, ((1, bytes(128)), (1, bytes(128)), (2, bytes(128))))
     yield READ, bytes(64), b"", 0, 0
     yield MAKE, bytes(32), b"", 0, 0  # its checksum is not zero: the all-zero slot's is wrong
 
@@ -54,9 +60,9 @@ def sizes_in_deals(rng):
         segment = node(rng) * (size // 32) + rng.randbytes(size % 32)
         shorter, longer = segment[:-1] or bytes(2), segment + b"\0"
         for deal in (bytes(d), run(rng, start) + bytes(d - start)):
-            code, o, p, after = MODEL.book(deal, segment)
-            yield BOOK, deal, segment, 0, 0
-            yield from ((BOOK, after, s, 0, 0) for s in (segment, shorter, longer))
+            code, o, p, after, table = MODEL.book(deal, owners(deal, 0), 1, segment)
+            yield Case(BOOK, deal, segment, y=1, d=owners(deal, 0))
+            yield from (Case(BOOK, after, s, y=1, d=table) for s in (segment, shorter, longer))
             yield FIND, after, after[p : p + 32], 0, 0
             number = deal_number(rng)
             yield BUILD, after, bytes(2000), p, number
@@ -64,7 +70,7 @@ def sizes_in_deals(rng):
             yield CHECK, record, MODEL.commitment(after)[1], d, number
             yield SETTLE_DEAL, after, record, 0, number
     for size in (0, 257, 512):
-        yield BOOK, bytes(512), bytes(size), 0, 0
+        yield Case(BOOK, bytes(512), bytes(size), y=1, d=bytes(4))
 
 
 def other_trailer(rng):
@@ -79,14 +85,14 @@ def other_trailer(rng):
     record = MODEL.build(deal, number, 768)[1]
     yield CHECK, record, MODEL.commitment(deal)[1], 1024, number
     yield SETTLE_DEAL, deal, record, 0, number
-    yield BOOK, deal, deal[:130], 0, 0
+    yield Case(BOOK, deal, deal[:130], y=2, d=owners(deal, 2))
 
 
 def two_places(rng):
     """Two records of one deal for two entry places."""
     deal = bytes(1024)
     for size in (100, 130):
-        deal = MODEL.book(deal, run(rng, size))[3]
+        deal = MODEL.put(deal, run(rng, size))[3]
     number = deal_number(rng)
     r, s = (MODEL.build(deal, number, p)[1] for p in (768, 832))
     root = MODEL.commitment(deal)[1]
@@ -142,8 +148,9 @@ def tallies(rng):
         deal = bytes(768) + b"".join(slot(rng, form) for form in forms)
         segment = b"".join(node(rng) for _ in range(4))
         yield TALLY, deal, b"", 0, 0
-        yield BOOK, deal, segment, 0, 0
-        yield TALLY, MODEL.book(deal, segment)[3], b"", 0, 0
+        table = bytes(rng.choices((0, 1, 2), k=4))
+        yield Case(BOOK, deal, segment, y=1, d=table)
+        yield TALLY, MODEL.book(deal, table, 1, segment)[3], b"", 0, 0
     for deal in (bytes(0), bytes(511), bytes(768), bytes(8192), bytes(1023) + b"\x40", bytes(767) + b"\x80" + bytes(256)):
         yield TALLY, deal, b"", 0, 0
 
@@ -218,6 +225,8 @@ def all_cases():
     yield from change_cases.one_rule(random.Random(2048))
     yield from change_cases.runs(random.Random(16), 3, (512, 1024), 12)
     yield from change_cases.foreign_deals(random.Random(256), 8, (512, 1024))
+    yield from house_cases.stored(random.Random(22))
+    yield from edge_cases.stored(random.Random(23))
     yield from number_cases.stored(random.Random(21))
     yield from refusal_cases.stored()
     yield COMMITMENT, run(rng, 8192), b"", 0, 0
@@ -240,8 +249,8 @@ def main():
         else:
             path.write_bytes(data)
     codes = sorted({int(line.split()[0]) for line in texts["crates/vectors/stdout"].decode().splitlines()})
-    if codes != [*range(22), 24]:
-        sys.exit(f"vectors: the codes {codes} are not 0 to 21 and 24")
+    if codes != [*range(25)]:
+        sys.exit(f"vectors: the codes {codes} are not 0 to 24")
     print(f"vectors: {len(calls)} calls, codes {codes}")
 
 

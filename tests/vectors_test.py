@@ -47,7 +47,7 @@ class Argument:
 
     def __init__(self, kind, name, inputs):
         self.kind, self.name = kind, name
-        if kind == "u64":
+        if kind in ("u8", "u64"):
             self.value = int(inputs[name])
         elif kind == "in":
             self.value = data(inputs[name])
@@ -59,7 +59,7 @@ class Argument:
             self.before = self.value.value = PATTERN
 
     def is_right(self, outputs):
-        if self.kind in ("in", "u64"):
+        if self.kind in ("in", "u8", "u64"):
             return self.name not in outputs
         if self.name not in outputs:
             return (self.value if self.kind == "out" else self.value.value) == self.before

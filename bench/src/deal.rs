@@ -5,7 +5,7 @@ use crate::record::{filled, DEAL_NUMBER};
 use crate::timing::Work;
 use crate::{DEAL, SEGMENT};
 use std::hint::black_box;
-use vizhuthamen::{Booking, Node, Settled};
+use vizhuthamen::{table_length, Booking, Node, Settled, MAX_TABLE};
 
 const HASHING: &str = "one pass: commitment of the deal";
 const BUILD: &str = "build: the record of the last of 64 entries";
@@ -62,8 +62,14 @@ fn deal_with_half() -> (Vec<u8>, u64) {
     (deal, place)
 }
 
+/// A table of a deal of 16 MiB: the houses take turns, from slot to slot.
+pub fn owners() -> Vec<u8> {
+    (0..table_length(DEAL)).map(|slot| 1 + slot as u8 % 2).collect()
+}
+
+/// Books a segment for a house that holds no slot.
 fn booked(deal: &mut [u8], segment: &[u8]) -> u64 {
-    match vizhuthamen::book(deal, None, segment) {
+    match vizhuthamen::book(deal, None, &mut [0; MAX_TABLE], 1, segment) {
         Ok(Booking::Booked(position)) => position.place,
         other => panic!("booking: {other:?}"),
     }
@@ -148,13 +154,13 @@ fn records<'a>(deal: &'a [u8], last: u64, (half, place): &'a (Vec<u8>, u64)) -> 
     ]
 }
 
-/// Booking one more segment and taking it out again; or booking one that is kept.
+/// Booking one more segment and taking it out again; or booking one that is kept. The house has each second slot.
 fn booking<'a>(deal: &[u8], fresh: bool) -> (&'static str, Work<'a>) {
-    let mut deal = deal.to_vec();
+    let (mut deal, mut table) = (deal.to_vec(), owners());
     let mut segment = filled(SEGMENT);
     segment[0] = if fresh { 200 } else { 63 };
     let name = if fresh { "book: a 65th segment of 64 KiB" } else { "book: the 64th segment again (15)" };
-    let book = move || match vizhuthamen::book(black_box(&mut deal), None, &segment) {
+    let book = move || match vizhuthamen::book(black_box(&mut deal), None, &mut table, 2, &segment) {
         Ok(Booking::Booked(position)) if fresh => {
             deal[position.offset as usize..][..SEGMENT].fill(0);
             deal[position.place as usize..][..64].fill(0);
@@ -169,7 +175,10 @@ fn booking<'a>(deal: &[u8], fresh: bool) -> (&'static str, Work<'a>) {
 /// and each byte of the second deal written.
 fn collecting(deal: &[u8]) -> Works<'_> {
     let (mut second, mut copy) = (vec![0; DEAL], vec![0; DEAL]);
-    let collect = move || assert_eq!(vizhuthamen::collect(black_box(deal), &mut second, None), Ok(()));
+    let (table, mut second_table) = (owners(), [0; MAX_TABLE]);
+    let collect = move || {
+        assert_eq!(vizhuthamen::collect(black_box(deal), &table, &mut second, None, &mut second_table), Ok(()));
+    };
     let work = move || {
         black_box(vizhuthamen::tally(black_box(deal)).unwrap());
         black_box(&mut copy).copy_from_slice(deal);

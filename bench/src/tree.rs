@@ -1,6 +1,6 @@
 //! The routines over a deal of 16 MiB with its tree in hand, beside the work that they cannot do without.
 use crate::aims::Aim;
-use crate::deal::booked_deal;
+use crate::deal::{booked_deal, owners};
 use crate::passes::{Passes, Works};
 use crate::record::{filled, DEAL_NUMBER};
 use crate::timing::Work;
@@ -132,9 +132,9 @@ fn records(full: &InHand) -> Works<'_> {
 /// Booking a segment and taking its entry out again; and the work that is named for it: the tally has the stray-bit pass and the
 /// checksums of all slots, the segment is hashed for its entry and for the tree, and each node above it and above the entry once.
 fn bookings<'a>(InHand { mut deal, mut tree, .. }: InHand) -> Works<'a> {
-    let (lent, segment) = (deal.clone(), filled(BOOKED));
+    let (lent, segment, mut table) = (deal.clone(), filled(BOOKED), owners());
     let hashed = segment.clone();
-    let book = move || match vizhuthamen::book(black_box(&mut deal), Some(&mut tree), &segment) {
+    let book = move || match vizhuthamen::book(black_box(&mut deal), Some(&mut tree), &mut table, 2, &segment) {
         Ok(Booking::Booked(position)) => deal[position.place as usize..][..64].fill(0),
         other => panic!("booking: {other:?}"),
     };
@@ -153,10 +153,11 @@ fn bookings<'a>(InHand { mut deal, mut tree, .. }: InHand) -> Works<'a> {
 /// finds more of it in the processor's cache.
 fn cancellations<'a>(full: &InHand) -> Works<'a> {
     let (InHand { mut deal, mut tree, last }, lent) = (full.clone(), full.clone());
-    let entry = deal[last as usize..][..64].to_vec();
+    let (entry, owners) = (deal[last as usize..][..64].to_vec(), owners());
     let cancel = move || {
         deal[last as usize..][..64].copy_from_slice(&entry);
-        assert_eq!(vizhuthamen::cancel(black_box(&mut deal), Some(&mut tree), last), Ok(()));
+        let mut table = owners.clone();
+        assert_eq!(vizhuthamen::cancel(black_box(&mut deal), Some(&mut tree), &mut table, 2, last), Ok(()));
     };
     let work = move || {
         lent.stray_pass();

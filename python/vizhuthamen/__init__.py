@@ -4,8 +4,9 @@ Every function here is a call of one function of the library, or of one of two w
 Rust crate. A refusal is an exception, Refusal, which carries the code and its meaning in words. The answers with a code that is not 0
 and yet carry values (15 of a booking, 17 of a settling) are the cases AlreadyKept and Collision.
 
-    deal = bytearray(512)
-    booked = vizhuthamen.book(deal, bytes(128))
+    deal, table = bytearray(512), bytearray(vizhuthamen.table_length(512))
+    house = 1  # of two, 1 and 2, that book in one deal; the table, beside the deal, says whose entry a slot holds
+    booked = vizhuthamen.book(deal, table, house, bytes(128))
     number = 2026  # the deal's, which its bytes do not hold
     record = vizhuthamen.build(deal, number, booked.position.place)
     vizhuthamen.check(vizhuthamen.commitment(deal), 512, number, record)
@@ -14,8 +15,8 @@ What is written, a deal that is booked into among them, is a bytearray or a memo
 where it is a memoryview that may not be written. No other thread may change lent memory during a call.
 """
 from ._codes import Refusal, meaning, version
-from ._deal import (MAX_DEAL, AlreadyKept, Booked, Booking, Found, Free, Kept, Position, Slot, Standing, Tally, book, cancel, collect,
-                    find, inspect, tally)
+from ._deal import (MAX_DEAL, MAX_TABLE, AlreadyKept, Booked, Booking, Found, Free, Kept, Position, Slot, Standing, Tally, book, cancel,
+                    collect, find, inspect, table_length, tally)
 from ._entry import Blank, Damaged, Entry, IndexNumbers, ReadEntry, Valid, index_numbers, make_entry, read_entry
 from ._fr32 import MAX_RAW, pad, pad_into, segment_length, unpad, unpad_into
 from ._hash import commitment, sha256
@@ -26,10 +27,10 @@ from ._streaming import MAX_STREAM, STREAM_STATE, Streamed, Streaming
 from ._tree import filled_tree, tree_fill, tree_length, tree_row
 
 __all__ = [
-    "MAX_DEAL", "MAX_RAW", "MAX_RECORD", "MAX_STREAM", "STREAM_STATE", "AlreadyKept", "Blank", "Booked", "Booking", "Collision", "Damaged",
-    "Entry", "Field", "Found", "Free", "IndexNumbers", "Kept", "Position", "Readable", "ReadEntry", "Refusal", "Same", "Settled", "Slot",
-    "Standing", "Streamed", "Streaming", "Tally", "Valid", "Writable", "book", "build", "build_into", "cancel", "check", "collect",
+    "MAX_DEAL", "MAX_RAW", "MAX_RECORD", "MAX_STREAM", "MAX_TABLE", "STREAM_STATE", "AlreadyKept", "Blank", "Booked", "Booking",
+    "Collision", "Damaged", "Entry", "Field", "Found", "Free", "IndexNumbers", "Kept", "Position", "Readable", "ReadEntry", "Refusal", "Same", "Settled",
+    "Slot", "Standing", "Streamed", "Streaming", "Tally", "Valid", "Writable", "book", "build", "build_into", "cancel", "check", "collect",
     "commitment", "fields", "filled_tree", "find", "index_numbers", "inspect", "make_entry", "meaning", "pad", "pad_into", "read_entry",
-    "read_field", "segment_length", "settle_records", "settle_with_deal", "sha256", "tally", "tree_fill", "tree_length", "tree_row",
-    "unpad", "unpad_into", "version",
+    "read_field", "segment_length", "settle_records", "settle_with_deal", "sha256", "table_length", "tally", "tree_fill", "tree_length",
+    "tree_row", "unpad", "unpad_into", "version",
 ]

@@ -40,6 +40,8 @@ class Refusal(Exception):
     PATH_BITS: Final = 19
     OVERLAP: Final = 20
     DEAL_NUMBER: Final = 21
+    QUOTA: Final = 22
+    HOUSE: Final = 23
     SEGMENT_LENGTH: Final = 24
 
     def __init__(self, code: int) -> None:

@@ -1,4 +1,4 @@
-"""A deal in memory: its slots, finding a segment, booking and cancelling one, collecting all."""
+"""A deal in memory: its slots and their owners, finding a segment, booking and cancelling one, collecting all."""
 from __future__ import annotations
 
 from dataclasses import dataclass
@@ -10,6 +10,8 @@ from ._library import Readable, Writable, byte_view, call, numbers
 
 MAX_DEAL: Final = 1 << 24
 """The largest deal that is held in memory, in bytes."""
+MAX_TABLE: Final = 128
+"""The longest table of owners, in bytes: that of the largest deal."""
 
 
 @dataclass(frozen=True)
@@ -70,12 +72,19 @@ class Booked:
 
 @dataclass(frozen=True)
 class AlreadyKept:
-    """Code 15: the deal has the segment, and was not changed."""
+    """Code 15: the house has the segment in the deal, which was not changed. It is kept here, in its lowest such slot."""
 
     position: Position
 
 
 Booking = Union[Booked, AlreadyKept]
+
+
+def table_length(size: int) -> int:
+    """The length of the table of owners of a deal of that many bytes: a byte for each slot. The table is kept beside the deal; a new
+    deal's is all zeros. A slot's byte is 1 or 2 for the house that owns the entry there, and any other one for nobody; it counts only
+    where an entry stands. Booking sets it, cancelling clears it, and collecting writes a second table."""
+    return max(4, size // 131072)
 
 
 def inspect(deal: Readable, place: int) -> Slot:
@@ -99,15 +108,16 @@ def find(deal: Readable, commitment: Readable) -> Found:
     return Found(offset, size, place, byte_view(deal)[offset : offset + size])
 
 
-def book(deal: Writable, segment: Readable, *, tree: Optional[Writable] = None) -> Booking:
-    """Books a segment of 1 byte to half of the deal: it, zeros to the end of its area (the smallest power of two at or above both its
-    size and 128) and its entry are written, unless the deal has it. Refusals: 2, 4, 11, 13, 14; with a tree 12 after 11. A tree is
-    brought up to date."""
+def book(deal: Writable, table: Writable, house: int, segment: Readable, *, tree: Optional[Writable] = None) -> Booking:
+    """Books a segment of 1 byte to half of the deal for a house, 1 or 2: it, zeros to the end of its area (the smallest power of two at
+    or above both its size and 128), its entry, and the house in the slot's byte of the table (see table_length) are written, unless the
+    house has the segment in the deal. Refusals: 23 for another house, 2, 23 for a table of another length, 4, 11, 22 where the house's
+    entries stand in half of the slots or more, 13, 14; with a tree 12 after 11. A tree is brought up to date."""
     offset, place = numbers(2)
     if tree is None:
-        code = call("vz_book", deal, segment, offset, place)
+        code = call("vz_book", deal, table, house, segment, offset, place)
     else:
-        code = call("vz_book_with_tree", deal, tree, segment, offset, place)
+        code = call("vz_book_with_tree", deal, tree, table, house, segment, offset, place)
     position = Position(offset.value, place.value)
     if code == Refusal.ALREADY_KEPT:
         return AlreadyKept(position)
@@ -115,19 +125,21 @@ def book(deal: Writable, segment: Readable, *, tree: Optional[Writable] = None) 
     return Booked(position)
 
 
-def cancel(deal: Writable, place: int, *, tree: Optional[Writable] = None) -> None:
-    """Cancels the entry that stands at a place, kept or not: its 64 bytes are zeros afterwards, and no other byte changes. Refusals: 2,
-    11, 6, 16; with a tree 12 after 11. A tree is brought up to date."""
+def cancel(deal: Writable, table: Writable, house: int, place: int, *, tree: Optional[Writable] = None) -> None:
+    """Cancels the house's entry that stands at a place, kept or not: its 64 bytes and its slot's byte of the table are zeros afterwards,
+    and no other byte changes. Refusals: 23 for a house other than 1 or 2, 2, 23 for a table of another length, 11, 6, 16 where no entry
+    of the house stands; with a tree 12 after 11. A tree is brought up to date."""
     if tree is None:
-        accepted(call("vz_cancel", deal, place))
+        accepted(call("vz_cancel", deal, table, house, place))
     else:
-        accepted(call("vz_cancel_with_tree", deal, tree, place))
+        accepted(call("vz_cancel_with_tree", deal, tree, table, house, place))
 
 
-def collect(deal: Readable, second: Writable, *, tree: Optional[Writable] = None) -> None:
-    """Collects a deal into a second one of the same length, without gaps; the deal itself stays. Refusals: 2, 12, 11, 20; with a tree
-    12 after 11. The tree is one for the second deal, and is left filled."""
+def collect(deal: Readable, table: Readable, second: Writable, second_table: Writable, *, tree: Optional[Writable] = None) -> None:
+    """Collects a deal into a second one of the same length, without gaps; each moved entry's byte of the table stands in the second
+    table, as it was, for its new slot, with zeros after them. The deal itself and its table stay. Refusals: 2, 23 for a table of another
+    length, 12, 11, 20; with a tree 12 after 11. The tree is one for the second deal, and is left filled."""
     if tree is None:
-        accepted(call("vz_collect", deal, second))
+        accepted(call("vz_collect", deal, table, second, second_table))
     else:
-        accepted(call("vz_collect_with_tree", deal, second, tree))
+        accepted(call("vz_collect_with_tree", deal, table, second, tree, second_table))

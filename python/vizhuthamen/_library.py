@@ -14,10 +14,10 @@ Readable = Union[bytes, bytearray, memoryview]
 Writable = Union[bytearray, memoryview]
 Number = Union[ctypes.c_uint32, ctypes.c_uint64]
 
-NAME = "libvizhuthamen.so.0.2"
+NAME = "libvizhuthamen.so.0.3"
 
-# The functions of vizhuthamen.h: `in` and `out` are memory that is read, and that is written, a pointer and a length each; u64 is a
-# number; u32* and u64* are numbers that are written.
+# The functions of vizhuthamen.h: `in` and `out` are memory that is read, and that is written, a pointer and a length each; u8 and u64
+# are numbers; u32* and u64* are numbers that are written.
 FUNCTIONS = {
     "vz_sha256": "in out",
     "vz_commitment": "in out",
@@ -32,18 +32,18 @@ FUNCTIONS = {
     "vz_inspect": "in u64 u32* out u64* u64*",
     "vz_tally": "in u64* u64* u64*",
     "vz_find": "in in u64* u64* u64*",
-    "vz_book": "out in u64* u64*",
-    "vz_cancel": "out u64",
-    "vz_collect": "in out",
+    "vz_book": "out out u8 in u64* u64*",
+    "vz_cancel": "out out u8 u64",
+    "vz_collect": "in in out out",
     "vz_build": "in u64 u64 out u64*",
     "vz_check": "in u64 u64 in",
     "vz_settle_records": "in u64 u64 in in out out",
     "vz_settle_with_deal": "in u64 in out out",
     "vz_tree_fill": "in out",
     "vz_tree_row": "in out",
-    "vz_book_with_tree": "out out in u64* u64*",
-    "vz_cancel_with_tree": "out out u64",
-    "vz_collect_with_tree": "in out out",
+    "vz_book_with_tree": "out out out u8 in u64* u64*",
+    "vz_cancel_with_tree": "out out out u8 u64",
+    "vz_collect_with_tree": "in in out out out",
     "vz_build_with_tree": "in in u64 u64 out u64*",
     "vz_settle_with_tree": "in in u64 in out out",
     "vz_read_field": "in u64 u32* u64* u64* u64*",
@@ -52,6 +52,7 @@ FUNCTIONS = {
 _TYPES: Dict[str, List[Any]] = {
     "in": [ctypes.c_void_p, ctypes.c_size_t],
     "out": [ctypes.c_void_p, ctypes.c_size_t],
+    "u8": [ctypes.c_uint8],
     "u64": [ctypes.c_uint64],
     "u32*": [ctypes.POINTER(ctypes.c_uint32)],
     "u64*": [ctypes.POINTER(ctypes.c_uint64)],
@@ -126,9 +127,9 @@ class _Lent:
                     raise ValueError("memory that is written overlaps another argument")
 
 
-def _number(value: int) -> int:
-    if not 0 <= value < 1 << 64:
-        raise OverflowError(f"{value} is no number of 64 bits")
+def _number(value: int, bits: int) -> int:
+    if not 0 <= value < 1 << bits:
+        raise OverflowError(f"{value} is no number of {bits} bits")
     return value
 
 
@@ -139,8 +140,8 @@ def call(name: str, *arguments: Union[Readable, int, Number]) -> int:
     for kind, argument in zip(kinds, arguments):
         if kind in ("in", "out"):
             values.extend(lent.memory(argument, kind == "out"))
-        elif kind == "u64":
-            values.append(_number(argument))
+        elif kind in ("u8", "u64"):
+            values.append(_number(argument, int(kind[1:])))
         else:
             values.append(ctypes.byref(argument))
     lent.judge()

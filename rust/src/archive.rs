@@ -124,10 +124,10 @@ fn fill(nodes: &mut Streaming, count: u64, part: usize) -> Result<(), Refusal> {
 #[cfg(test)]
 mod tests {
     use super::*;
-    use crate::deal::{book, find, Booking};
+    use crate::deal::find;
     use crate::fr32::{pad, MAX_RAW};
     use crate::hash::commitment;
-    use crate::testing::noise;
+    use crate::testing::{noise, put};
 
     /// The commitment of an archive whose segment can be held: padded in pieces, filled with zeros, and asked.
     fn held(raw: &[u8]) -> RawStreamed {
@@ -172,7 +172,7 @@ mod tests {
         for length in [1, 127, 128, 1000, RAW_PART + 1] {
             let raw = noise(3, length);
             let mut deal = vec![0; 1 << 21];
-            let Ok(Booking::Booked(position)) = book(&mut deal, None, &pad(&raw).unwrap()) else { panic!("{length}") };
+            let position = put(&mut deal, &pad(&raw).unwrap());
             let streamed = RawStreaming::new().end(&raw).unwrap();
             let found = find(&deal, streamed.commitment.as_ref()).unwrap();
             assert_eq!((found.place, found.size), (position.place, streamed.size), "{length}");

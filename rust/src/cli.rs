@@ -8,6 +8,7 @@ mod help;
 mod json;
 mod mend;
 mod output;
+mod owners;
 mod pieces;
 mod progress;
 mod state;

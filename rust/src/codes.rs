@@ -24,7 +24,7 @@ macro_rules! refusals {
     };
 }
 
-// In rising order. Some numbers between them are no codes.
+// In rising order.
 refusals! {
     1 COMMITMENT_LENGTH "a commitment is not 32 bytes long"
     2 SIZE "a deal, run, stream, message, raw archive or entry size is not allowed"
@@ -41,12 +41,14 @@ refusals! {
     13 NO_SLOT "no slot is free"
     14 NO_PLACE "no free place"
     15 ALREADY_KEPT "the segment is kept already"
-    16 NOT_KEPT "no kept entry at that place, or with that commitment; to cancel, no standing entry"
+    16 NOT_KEPT "no kept entry at that place, or with that commitment; to cancel, none of the house stands"
     17 COLLISION "two different 64-byte strings with one node hash are shown"
     18 OTHER_PLACE "the two records name different entry places"
     19 PATH_BITS "a node of a path has stray bits"
     20 OVERLAP "two standing entries overlap"
     21 DEAL_NUMBER "the record's deal number differs from the caller's"
+    22 QUOTA "the house holds half the slots or more"
+    23 HOUSE "the house is neither 1 nor 2, or a table of owners has not one byte a slot"
     24 SEGMENT_LENGTH "the segment has another length than the raw length gives"
 }
 
@@ -104,7 +106,7 @@ mod tests {
             assert_eq!(refusal.meaning(), *text);
             assert!(REFUSALS[..i].iter().all(|other| other.0.code() < refusal.code() && other.2 != *text), "{refusal}");
         }
-        for code in [22, 23, 25, u32::MAX] {
+        for code in [25, 26, u32::MAX] {
             assert_eq!(meaning(code), "unknown code");
         }
     }

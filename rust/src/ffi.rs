@@ -81,21 +81,35 @@ extern "C" {
         place: *mut u64,
     ) -> u32;
 
-    /// Books a segment into a deal. Numbers are written with 0 and 15. Codes: 2, 4, 11, 15, 13, 14.
+    /// Books a segment into a deal for a house, 1 or 2. `table`: a byte for each slot. Numbers are written with 0 and 15.
+    /// Codes: 23 (house), 2, 23 (table), 4, 11, 15, 22, 13, 14.
     pub fn vz_book(
         deal: *mut u8,
         deal_len: usize,
+        table: *mut u8,
+        table_len: usize,
+        house: u8,
         segment: *const u8,
         segment_len: usize,
         offset: *mut u64,
         place: *mut u64,
     ) -> u32;
 
-    /// Cancels the entry that stands at a place of a deal: its 64 bytes are zeros with 0. Codes: 2, 11, 6, 16.
-    pub fn vz_cancel(deal: *mut u8, deal_len: usize, place: u64) -> u32;
+    /// Cancels a house's entry that stands at a place of a deal: its 64 bytes and its byte of the table are zeros with 0.
+    /// Codes: 23 (house), 2, 23 (table), 11, 6, 16.
+    pub fn vz_cancel(deal: *mut u8, deal_len: usize, table: *mut u8, table_len: usize, house: u8, place: u64) -> u32;
 
-    /// Collects a deal into a second one of the same length. Codes: 2, 12, 11, 20.
-    pub fn vz_collect(deal: *const u8, deal_len: usize, second: *mut u8, second_len: usize) -> u32;
+    /// Collects a deal and its table into a second deal and a second table of the same lengths. Codes: 2, 23, 12, 11, 20.
+    pub fn vz_collect(
+        deal: *const u8,
+        deal_len: usize,
+        table: *const u8,
+        table_len: usize,
+        second: *mut u8,
+        second_len: usize,
+        second_table: *mut u8,
+        second_table_len: usize,
+    ) -> u32;
 
     /// Builds the record of the entry at a place, for the deal of this number, into the first bytes of `record`. Codes:
     /// 2, 11, 6, 16, 12.
@@ -156,29 +170,47 @@ extern "C" {
     /// Writes the nodes over the pairs of nodes of `below` into `above`, which is half as long. Codes: 12.
     pub fn vz_tree_row(below: *const u8, below_len: usize, above: *mut u8, above_len: usize) -> u32;
 
-    /// [`vz_book`] with the deal's tree in hand, which is brought up to date. Codes: 2, 4, 11, 12, 15, 13, 14.
+    /// [`vz_book`] with the deal's tree in hand, which is brought up to date. Codes: 23 (house), 2, 23 (table), 4, 11, 12,
+    /// 15, 22, 13, 14.
     pub fn vz_book_with_tree(
         deal: *mut u8,
         deal_len: usize,
         tree: *mut u8,
         tree_len: usize,
+        table: *mut u8,
+        table_len: usize,
+        house: u8,
         segment: *const u8,
         segment_len: usize,
         offset: *mut u64,
         place: *mut u64,
     ) -> u32;
 
-    /// [`vz_cancel`] with the deal's tree in hand, which is brought up to date. Codes: 2, 11, 12, 6, 16.
-    pub fn vz_cancel_with_tree(deal: *mut u8, deal_len: usize, tree: *mut u8, tree_len: usize, place: u64) -> u32;
+    /// [`vz_cancel`] with the deal's tree in hand, which is brought up to date. Codes: 23 (house), 2, 23 (table), 11, 12, 6,
+    /// 16.
+    pub fn vz_cancel_with_tree(
+        deal: *mut u8,
+        deal_len: usize,
+        tree: *mut u8,
+        tree_len: usize,
+        table: *mut u8,
+        table_len: usize,
+        house: u8,
+        place: u64,
+    ) -> u32;
 
-    /// [`vz_collect`] with a tree for the second deal, which is filled. Codes: 2, 12 (second deal), 11, 12 (tree), 20.
+    /// [`vz_collect`] with a tree for the second deal, which is filled. Codes: 2, 23, 12 (second deal), 11, 12 (tree), 20.
     pub fn vz_collect_with_tree(
         deal: *const u8,
         deal_len: usize,
+        table: *const u8,
+        table_len: usize,
         second: *mut u8,
         second_len: usize,
         tree: *mut u8,
         tree_len: usize,
+        second_table: *mut u8,
+        second_table_len: usize,
     ) -> u32;
 
     /// [`vz_build`] with the deal's tree in hand. Codes: 2, 11, 12 (tree), 6, 16, 12 (record).
@@ -226,7 +258,6 @@ extern "C" {
 #[cfg(test)]
 mod tests {
     use super::*;
-    use crate::testing::segment;
     use crate::STREAM_STATE;
 
     const LENGTHS: [usize; 8] = [0, 31, 32, 33, 63, 65, 1071, 1073];
@@ -333,16 +364,21 @@ mod tests {
     #[test]
     fn numbers_stay_with_refusals() {
         let (mut a, mut b, mut c, mut tag) = (NUMBER, NUMBER, NUMBER, 7);
-        let (mut deal, mut tree) = ([0; 512], [0; 480]);
+        let (mut deal, mut tree, mut table) = ([0; 512], [0; 480], [0; 4]);
+        let stray = [0xff; 128];
         unsafe {
             assert_eq!(vz_index_numbers(511, &mut a, &mut b), 2);
             assert_eq!(vz_tally(deal.as_ptr(), 511, &mut a, &mut b, &mut c), 2);
             assert_eq!(vz_find(deal.as_ptr(), 512, deal.as_ptr(), 32, &mut a, &mut b, &mut c), 16);
-            assert_eq!(vz_book(deal.as_mut_ptr(), 512, segment(1, 512).as_ptr(), 512, &mut a, &mut b), 4);
             assert_eq!(vz_build(deal.as_ptr(), 512, 9, 256, [0; 300].as_mut_ptr(), 300, &mut a), 16);
-            let (lent, t) = (deal.as_mut_ptr(), tree.as_mut_ptr());
-            assert_eq!(vz_book_with_tree(lent, 512, t, 479, [0; 128].as_ptr(), 128, &mut a, &mut b), 12);
-            assert_eq!(vz_book_with_tree(lent, 512, t, 480, [0; 512].as_ptr(), 512, &mut a, &mut b), 4);
+            let (lent, t, owners) = (deal.as_mut_ptr(), tree.as_mut_ptr(), table.as_mut_ptr());
+            for (house, slots, length, code) in [(3, 4, 128, 23), (1, 3, 128, 23), (1, 4, 0, 4), (2, 4, 128, 11)] {
+                assert_eq!(vz_book(lent, 512, owners, slots, house, stray.as_ptr(), length, &mut a, &mut b), code);
+                let with_tree =
+                    vz_book_with_tree(lent, 512, t, 479, owners, slots, house, stray.as_ptr(), length, &mut a, &mut b);
+                assert_eq!(with_tree, code);
+            }
+            assert_eq!(vz_book_with_tree(lent, 512, t, 479, owners, 4, 1, [0; 128].as_ptr(), 128, &mut a, &mut b), 12);
             assert_eq!(vz_build_with_tree(lent, 512, t, 479, 9, 256, [0; 300].as_mut_ptr(), 300, &mut a), 12);
             assert_eq!(vz_build_with_tree(lent, 512, t, 480, 9, 256, [0; 300].as_mut_ptr(), 300, &mut a), 16);
             assert_eq!(vz_read_field(deal.as_ptr(), 2, 0, &mut tag, &mut a, &mut b, &mut c), 3);

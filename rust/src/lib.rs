@@ -11,10 +11,13 @@
 //! [`cancel`], [`build`] and [`settle_with_deal`], which then hash little of the deal. [`collect`] fills one for the
 //! second deal.
 //!
+//! Two houses, 1 and 2, book in one deal; whose entry a slot holds says a table beside the deal ([`table_length`]).
+//!
 //! ```
 //! let mut deal = vec![0; 512];
-//! let segment = [1; 128];
-//! let vizhuthamen::Booking::Booked(position) = vizhuthamen::book(&mut deal, None, &segment)? else {
+//! let mut table = vec![0; vizhuthamen::table_length(512)];
+//! let (house, segment) = (1, [1; 128]);
+//! let vizhuthamen::Booking::Booked(position) = vizhuthamen::book(&mut deal, None, &mut table, house, &segment)? else {
 //!     unreachable!("an all-zero deal keeps nothing");
 //! };
 //! let number = 2026; // the deal's, which its bytes do not hold
@@ -42,7 +45,10 @@ mod tree;
 
 pub use archive::{RawStreamed, RawStreaming, MAX_RAW_STREAM, RAW_PART};
 pub use codes::{meaning, Refusal};
-pub use deal::{book, cancel, collect, find, inspect, tally, Booking, Found, Position, Slot, Tally, MAX_DEAL};
+pub use deal::{
+    book, cancel, collect, find, inspect, table_length, tally, Booking, Found, Position, Slot, Tally, MAX_DEAL,
+    MAX_TABLE,
+};
 pub use entry::{index_numbers, make_entry, read_entry, Entry, IndexNumbers, ReadEntry};
 pub use fr32::{pad, pad_into, segment_length, unpad, unpad_into, MAX_RAW};
 pub use hash::{commitment, commitment_with_threads, sha256};

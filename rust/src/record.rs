@@ -176,17 +176,16 @@ impl<'r> Iterator for Fields<'r> {
 #[cfg(test)]
 mod tests {
     use super::*;
-    use crate::deal::book;
     use crate::hash::commitment;
-    use crate::testing::segment;
+    use crate::testing::{put, segment};
 
     const NUMBER: u64 = 0x0102_0304_0506_0708;
 
     /// A deal of 512 bytes that keeps two segments, with its commitment and the records of both.
     fn example() -> ([u8; 512], [u8; 32], Vec<u8>, Vec<u8>) {
         let mut deal = [0; 512];
-        book(&mut deal, None, &segment(1, 128)).unwrap();
-        book(&mut deal, None, &segment(2, 128)).unwrap();
+        put(&mut deal, &segment(1, 128));
+        put(&mut deal, &segment(2, 128));
         let root = commitment(&deal).unwrap().0;
         let (first, second) = (build(&deal, None, NUMBER, 256).unwrap(), build(&deal, None, NUMBER, 320).unwrap());
         (deal, root, first, second)

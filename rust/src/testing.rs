@@ -1,4 +1,5 @@
 //! What the unit tests share.
+use crate::deal::{book, table_length, Booking, Position};
 
 /// Bytes that look random, without stray bits; others for every seed.
 pub fn noise(seed: u64, length: usize) -> Vec<u8> {
@@ -24,4 +25,13 @@ pub fn segment(seed: u8, size: usize) -> Vec<u8> {
         _ => (i / 32) as u8,
     };
     (0..size).map(byte).collect()
+}
+
+/// Books a segment for a house that holds no slot, whatever stands in the deal, and keeps no table.
+pub fn put(deal: &mut [u8], segment: &[u8]) -> Position {
+    let mut table = vec![0; table_length(deal.len())];
+    match book(deal, None, &mut table, 1, segment) {
+        Ok(Booking::Booked(position)) => position,
+        other => panic!("the segment is not booked: {other:?}"),
+    }
 }

@@ -97,7 +97,7 @@ mod tests {
     use crate::deal::{book, cancel, collect, Booking, Position};
     use crate::hash::commitment;
     use crate::record::{build, settle_with_deal, Settled};
-    use crate::testing::{noise, segment};
+    use crate::testing::{noise, put, segment};
 
     /// Every node of the tree, from the definition: the commitments of all runs of a power of two of nodes.
     fn nodes(deal: &[u8]) -> Vec<u8> {
@@ -217,12 +217,15 @@ mod tests {
 
     #[test]
     fn a_tree_kept_over_bookings_is_that_of_the_deal() {
-        let (mut plain, mut deal) = (vec![0; 2048], vec![0; 2048]);
+        let (mut plain, mut plain_table) = (vec![0; 2048], [0; 4]);
+        let (mut deal, mut table) = (vec![0; 2048], [0; 4]);
         let mut tree = filled_tree(&deal).unwrap();
-        for (seed, size) in [(1, 128), (2, 300), (1, 128), (3, 1), (4, 512), (5, 128)] {
+        let calls = [(1, 1, 128), (2, 2, 300), (1, 1, 128), (2, 3, 1), (1, 4, 512), (2, 5, 128)];
+        for (house, seed, size) in calls {
             let segment = segment(seed, size);
-            assert_eq!(book(&mut deal, Some(&mut tree), &segment), book(&mut plain, None, &segment));
-            assert_eq!(deal, plain);
+            let expected = book(&mut plain, None, &mut plain_table, house, &segment);
+            assert_eq!(book(&mut deal, Some(&mut tree), &mut table, house, &segment), expected);
+            assert_eq!((&deal, table), (&plain, plain_table));
             assert_eq!(tree, nodes(&deal));
         }
         for place in (1792..2048).step_by(64) {
@@ -236,25 +239,27 @@ mod tests {
     fn a_tree_kept_over_cancellations_is_that_of_the_deal() {
         let mut deal = vec![0; 2048];
         for (seed, size) in [(1, 128), (2, 300), (3, 1), (4, 512)] {
-            book(&mut deal, None, &segment(seed, size)).unwrap();
+            put(&mut deal, &segment(seed, size));
         }
-        let mut plain = deal.clone();
+        let (mut plain, mut plain_table, mut table) = (deal.clone(), [1, 2, 1, 0], [1, 2, 1, 0]);
         let mut tree = filled_tree(&deal).unwrap();
-        for place in [1856, 1856, 1792, 1984, 1920, 1800] {
-            assert_eq!(cancel(&mut deal, Some(&mut tree), place), cancel(&mut plain, None, place));
-            assert_eq!(deal, plain);
+        for (house, place) in [(1, 1856), (2, 1856), (2, 1856), (1, 1792), (1, 1984), (1, 1920), (1, 1800)] {
+            let expected = cancel(&mut plain, None, &mut plain_table, house, place);
+            assert_eq!(cancel(&mut deal, Some(&mut tree), &mut table, house, place), expected);
+            assert_eq!((&deal, table), (&plain, plain_table));
             assert_eq!(tree, nodes(&deal));
         }
+        assert_eq!(table, [0; 4]);
     }
 
     #[test]
     fn cancelling_writes_one_node_of_each_height() {
         let mut deal = [0; 1024];
-        book(&mut deal, None, &segment(1, 128)).unwrap();
-        book(&mut deal, None, &segment(2, 128)).unwrap();
+        put(&mut deal, &segment(1, 128));
+        put(&mut deal, &segment(2, 128));
         let before = segment(9, tree_length(1024)); // any other bytes
         let mut tree = before.clone();
-        assert_eq!(cancel(&mut deal, Some(&mut tree), 832), Ok(()));
+        assert_eq!(cancel(&mut deal, Some(&mut tree), &mut [1; 4], 1, 832), Ok(()));
         let changed: Vec<usize> =
             (0..992).step_by(32).filter(|at| tree[*at..at + 32] != before[*at..at + 32]).collect();
         assert_eq!(changed, [32 * 13, 512 + 32 * 6, 768 + 32 * 3, 896 + 32, 960]);
@@ -265,33 +270,36 @@ mod tests {
     fn a_collected_deal_has_its_tree() {
         let mut deal = vec![0; 2048];
         for (seed, size) in [(1, 128), (2, 300), (3, 1)] {
-            book(&mut deal, None, &segment(seed, size)).unwrap();
+            put(&mut deal, &segment(seed, size));
         }
-        cancel(&mut deal, None, 1792).unwrap();
+        let mut table = [1, 2, 7, 0];
+        cancel(&mut deal, None, &mut table, 1, 1792).unwrap();
         let (mut plain, mut second, mut tree) = (vec![7; 2048], vec![0xff; 2048], vec![0xff; tree_length(2048)]);
-        assert_eq!(collect(&deal, &mut plain, None), Ok(()));
-        assert_eq!(collect(&deal, &mut second, Some(&mut tree)), Ok(()));
-        assert_eq!(second, plain);
+        let (mut plain_table, mut second_table) = ([9; 4], [0; 4]);
+        assert_eq!(collect(&deal, &table, &mut plain, None, &mut plain_table), Ok(()));
+        assert_eq!(collect(&deal, &table, &mut second, Some(&mut tree), &mut second_table), Ok(()));
+        assert_eq!((&second, second_table), (&plain, plain_table));
+        assert_eq!(second_table, [2, 7, 0, 0]);
         assert_eq!(tree, nodes(&second));
         assert_eq!(build(&second, Some(&tree), 9, 1856), build(&second, None, 9, 1856));
     }
 
     #[test]
     fn a_stale_tree_is_believed() {
-        let mut deal = [0; 1024];
+        let (mut deal, mut table) = ([0; 1024], [0; 4]);
         let mut tree = filled_tree(&deal).unwrap();
-        book(&mut deal, None, b"x").unwrap();
+        book(&mut deal, None, &mut table, 1, b"x").unwrap();
         assert_eq!(build(&deal, Some(&tree), 9, 768), Err(Refusal::NOT_KEPT));
         let record = build(&deal, None, 9, 768).unwrap();
         assert_eq!(settle_with_deal(&deal, Some(&tree), 9, &record), Err(Refusal::SEGMENT_PATH));
         let again = Ok(Booking::Booked(Position { offset: 128, place: 832 }));
-        assert_eq!(book(&mut deal, Some(&mut tree), b"x"), again);
+        assert_eq!(book(&mut deal, Some(&mut tree), &mut table, 1, b"x"), again);
     }
 
     #[test]
     fn a_spoilt_tree_shows_strings_that_do_not_collide() {
         let mut deal = [0; 1024];
-        book(&mut deal, None, &segment(1, 256)).unwrap();
+        put(&mut deal, &segment(1, 256));
         let mut tree = filled_tree(&deal).unwrap();
         let record = build(&deal, None, 9, 768).unwrap();
         tree[896] ^= 1; // the left one of the two nodes below the top
@@ -304,18 +312,20 @@ mod tests {
 
     #[test]
     fn trees_of_another_length() {
-        let (mut deal, mut tree) = ([0; 512], [0; 512]);
-        book(&mut deal, None, &segment(1, 128)).unwrap();
+        let (mut deal, mut tree, mut table) = ([0; 512], [0; 512], [1; 4]);
+        put(&mut deal, &segment(1, 128));
         let before = deal;
         for length in [0, 479, 481, 512] {
-            assert_eq!(book(&mut deal, Some(&mut tree[..length]), &segment(1, 128)), Err(Refusal::OUTPUT));
+            let lent = Some(&mut tree[..length]);
+            assert_eq!(book(&mut deal, lent, &mut table, 1, &segment(1, 128)), Err(Refusal::OUTPUT));
             assert_eq!(build(&deal, Some(&tree[..length]), 9, 300), Err(Refusal::OUTPUT));
             assert_eq!(settle_with_deal(&deal, Some(&tree[..length]), 9, &[]), Err(Refusal::OUTPUT));
-            assert_eq!(cancel(&mut deal, Some(&mut tree[..length]), 300), Err(Refusal::OUTPUT));
-            let mut second = [7; 512];
-            assert_eq!(collect(&deal, &mut second, Some(&mut tree[..length])), Err(Refusal::OUTPUT));
-            assert_eq!(second, [7; 512]);
+            assert_eq!(cancel(&mut deal, Some(&mut tree[..length]), &mut table, 1, 300), Err(Refusal::OUTPUT));
+            let (mut second, mut owners) = ([7; 512], [7; 4]);
+            let collected = collect(&deal, &table, &mut second, Some(&mut tree[..length]), &mut owners);
+            assert_eq!(collected, Err(Refusal::OUTPUT));
+            assert_eq!((second, owners), ([7; 512], [7; 4]));
         }
-        assert_eq!((deal, tree), (before, [0; 512]));
+        assert_eq!((deal, tree, table), (before, [0; 512], [1; 4]));
     }
 }

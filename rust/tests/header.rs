@@ -1,5 +1,5 @@
 //! The lengths and the version that include/vizhuthamen.h states are those of the crate.
-use vizhuthamen::{MAX_DEAL, MAX_RAW, MAX_RECORD, MAX_STREAM, STREAM_STATE};
+use vizhuthamen::{MAX_DEAL, MAX_RAW, MAX_RECORD, MAX_STREAM, MAX_TABLE, STREAM_STATE};
 
 /// What the header defines a name of no arguments as, without the comment after it.
 fn defined(name: &str) -> &'static str {
@@ -11,8 +11,9 @@ fn defined(name: &str) -> &'static str {
 
 #[test]
 fn lengths() {
-    let stated = ["VZ_MAX_DEAL", "VZ_MAX_RECORD", "VZ_MAX_RAW", "VZ_MAX_STREAM", "VZ_STREAM_STATE"].map(defined);
-    let here = [MAX_DEAL as u64, MAX_RECORD as u64, MAX_RAW, MAX_STREAM, STREAM_STATE as u64];
+    let stated =
+        ["VZ_MAX_DEAL", "VZ_MAX_TABLE", "VZ_MAX_RECORD", "VZ_MAX_RAW", "VZ_MAX_STREAM", "VZ_STREAM_STATE"].map(defined);
+    let here = [MAX_DEAL as u64, MAX_TABLE as u64, MAX_RECORD as u64, MAX_RAW, MAX_STREAM, STREAM_STATE as u64];
     let number = |text: &str| text.trim_start_matches("UINT64_C(").trim_end_matches(')').parse::<u64>();
     assert_eq!(stated.map(number), here.map(Ok));
 }

@@ -1,7 +1,8 @@
 /*
- * Every function of include/vizhuthamen.h once, from C: two segments in an all-zero deal of 512 bytes (document 01,
- * "Run and compared"), the first one's record built, checked and settled; then the same with the deal's tree in hand;
- * then the first one cancelled, and the deal collected. Prints each code, and fails where an answer is another one.
+ * Every function of include/vizhuthamen.h once, from C: a segment of each of two houses in an all-zero deal of 512
+ * bytes (document 01, "Run and compared"), the first one's record built, checked and settled; then the same with the
+ * deal's tree in hand; then the first one cancelled, and the deal collected. Prints each code, and fails where an
+ * answer is another one.
  *
  *   rt staticlib vizhuthamen
  *   gcc -Iinclude tests/c/smoke.c target/staticlib/libvizhuthamen.a -o target/smoke
@@ -23,7 +24,7 @@ static void answer(const char *what, uint64_t got, uint64_t expected) {
   }
 }
 
-static uint8_t deal[512], first_segment[128], second_segment[128], third_segment[128];
+static uint8_t deal[512], table[4], first_segment[128], second_segment[128], third_segment[128];
 static uint8_t commitment[32], deal_commitment[32], entry[64], record[VZ_MAX_RECORD], left[64], right[64];
 static uint64_t offset, place, size, length, start, next, entries, blank, damaged, valid;
 static uint32_t kind, state, tag;
@@ -101,16 +102,40 @@ static void index_entries(void) {
 }
 
 static void booking(void) {
-  answer("book", vz_book(deal, 512, first_segment, 128, &offset, &place), VZ_OK);
+  answer("book", vz_book(deal, 512, table, 4, 1, first_segment, 128, &offset, &place), VZ_OK);
   answer("book, offset", offset, 0);
   answer("book, place", place, 256);
-  answer("book again", vz_book(deal, 512, first_segment, 128, &offset, &place), VZ_ALREADY_KEPT);
+  answer("book, owner", table[0], 1);
+  answer("book again", vz_book(deal, 512, table, 4, 1, first_segment, 128, &offset, &place), VZ_ALREADY_KEPT);
   answer("book again, place", place, 256);
-  answer("book another", vz_book(deal, 512, second_segment, 128, &offset, &place), VZ_OK);
+  answer("book another", vz_book(deal, 512, table, 4, 2, second_segment, 128, &offset, &place), VZ_OK);
   answer("book another, offset", offset, 128);
   answer("book another, place", place, 320);
-  answer("book a third", vz_book(deal, 512, third_segment, 128, &offset, &place), VZ_NO_PLACE);
+  answer("book another, owner", table[1], 2);
+  answer("book a third", vz_book(deal, 512, table, 4, 1, third_segment, 128, &offset, &place), VZ_NO_PLACE);
   answer("book a third, place left as it was", place, 320);
+  answer("book a third, owners left as they were", table[0] + 16 * table[1] + table[2] + table[3], 33);
+}
+
+/* Document 01's run done by one house: it holds half of the slots after two segments. Then houses and tables that are
+ * none. */
+static void houses(void) {
+  static uint8_t one[512], owners[VZ_MAX_TABLE];
+  answer("one house, first", vz_book(one, 512, owners, 4, 2, first_segment, 128, &offset, &place), VZ_OK);
+  answer("one house, second", vz_book(one, 512, owners, 4, 2, second_segment, 128, &offset, &place), VZ_OK);
+  answer("one house, third", vz_book(one, 512, owners, 4, 2, third_segment, 128, &offset, &place), VZ_QUOTA);
+  answer("one house, second again", vz_book(one, 512, owners, 4, 2, second_segment, 128, &offset, &place),
+         VZ_ALREADY_KEPT);
+  answer("the other house", vz_book(one, 512, owners, 4, 1, second_segment, 128, &offset, &place), VZ_NO_PLACE);
+  answer("house 0", vz_book(one, 511, owners, 3, 0, first_segment, 0, &offset, &place), VZ_HOUSE);
+  answer("house 255", vz_cancel(one, 511, owners, 3, 255, 300), VZ_HOUSE);
+  answer("a table of 3 bytes, 511 bytes", vz_book(one, 511, owners, 3, 1, first_segment, 0, &offset, &place), VZ_SIZE);
+  answer("a table of 3 bytes", vz_book(one, 512, owners, 3, 1, first_segment, 0, &offset, &place), VZ_HOUSE);
+  answer("a table of 128 bytes", vz_cancel(one, 512, owners, VZ_MAX_TABLE, 1, 300), VZ_HOUSE);
+  answer("cancel the other's", vz_cancel(one, 512, owners, 4, 1, 256), VZ_NOT_KEPT);
+  owners[0] = 7;
+  answer("cancel nobody's", vz_cancel(one, 512, owners, 4, 2, 256), VZ_NOT_KEPT);
+  answer("owners", owners[0] == 7 && owners[1] == 2 && owners[2] == 0 && owners[3] == 0 && owners[4] == 0, 1);
 }
 
 static void looking(void) {
@@ -168,22 +193,25 @@ static void settling(void) {
 
 /* The same two bookings with a tree beside the deal: deal, commitment and first record are those from above. */
 static void with_tree(void) {
-  static uint8_t booked[512], tree[480], before[481], built[245];
+  static uint8_t booked[512], owners[4], tree[480], before[481], built[245];
   memset(tree, 7, sizeof tree);
   answer("tree fill", vz_tree_fill(booked, 512, tree, 480), VZ_OK);
   answer("tree fill, 479 bytes", vz_tree_fill(booked, 512, tree, 479), VZ_OUTPUT);
-  answer("book with tree", vz_book_with_tree(booked, 512, tree, 480, first_segment, 128, &offset, &place), VZ_OK);
+  answer("book with tree",
+         vz_book_with_tree(booked, 512, tree, 480, owners, 4, 1, first_segment, 128, &offset, &place), VZ_OK);
   answer("book with tree, offset", offset, 0);
   answer("book with tree, place", place, 256);
   answer("book with tree, another",
-         vz_book_with_tree(booked, 512, tree, 480, second_segment, 128, &offset, &place), VZ_OK);
+         vz_book_with_tree(booked, 512, tree, 480, owners, 4, 2, second_segment, 128, &offset, &place), VZ_OK);
   answer("book with tree, deal", memcmp(booked, deal, 512) == 0, 1);
+  answer("book with tree, table", memcmp(owners, table, 4) == 0, 1);
   answer("book with tree, last node", memcmp(tree + 448, deal_commitment, 32) == 0, 1);
   memcpy(before, tree, 480);
   answer("tree fill again", vz_tree_fill(booked, 512, tree, 480), VZ_OK);
   answer("tree fill again, tree", memcmp(tree, before, 480) == 0, 1);
   answer("book with tree, again",
-         vz_book_with_tree(booked, 512, tree, 480, first_segment, 128, &offset, &place), VZ_ALREADY_KEPT);
+         vz_book_with_tree(booked, 512, tree, 480, owners, 4, 1, first_segment, 128, &offset, &place),
+         VZ_ALREADY_KEPT);
   answer("build with tree", vz_build_with_tree(booked, 512, tree, 480, number, 256, built, 245, &length), VZ_OK);
   answer("build with tree, record", memcmp(built, record, 245) == 0, 1);
   answer("build with a tree of 481",
@@ -207,15 +235,20 @@ static void with_tree(void) {
 
 /* The first segment is cancelled and the deal collected: the second one moves to 0, and its entry to the first slot. */
 static void changing(void) {
-  static uint8_t second[512], moved[64];
+  static uint8_t second[512], moved[64], owners[4];
   memset(second, 7, 512);
-  answer("cancel", vz_cancel(deal, 512, 256), VZ_OK);
-  answer("cancel again", vz_cancel(deal, 512, 256), VZ_NOT_KEPT);
-  answer("cancel no place", vz_cancel(deal, 512, 300), VZ_PLACE);
+  memset(owners, 7, 4);
+  answer("cancel", vz_cancel(deal, 512, table, 4, 1, 256), VZ_OK);
+  answer("cancel, owner", table[0], 0);
+  answer("cancel again", vz_cancel(deal, 512, table, 4, 1, 256), VZ_NOT_KEPT);
+  answer("cancel no place", vz_cancel(deal, 512, table, 4, 1, 300), VZ_PLACE);
   answer("cancel, the segment's bytes stay", memcmp(deal, first_segment, 128) == 0, 1);
-  answer("collect into 511 bytes", vz_collect(deal, 512, second, 511), VZ_OUTPUT);
+  answer("collect into 511 bytes", vz_collect(deal, 512, table, 4, second, 511, owners, 4), VZ_OUTPUT);
+  answer("collect with a table of 5", vz_collect(deal, 512, table, 4, second, 511, moved, 5), VZ_HOUSE);
   answer("collect, the second deal stays with 12", second[0] + second[511], 14);
-  answer("collect", vz_collect(deal, 512, second, 512), VZ_OK);
+  answer("collect, the second table stays with 12", owners[0] + owners[3], 14);
+  answer("collect", vz_collect(deal, 512, table, 4, second, 512, owners, 4), VZ_OK);
+  answer("collect, owners", owners[0] + 16 * owners[1] + owners[2] + owners[3], 2);
   answer("collect, bytes", memcmp(second, second_segment, 128) == 0, 1);
   answer("collect, zeros after them", second[128] + second[255], 0);
   answer("collect, commitment of the second segment", vz_commitment(second_segment, 128, commitment, 32), VZ_OK);
@@ -223,23 +256,27 @@ static void changing(void) {
   answer("collect, first slot", memcmp(second + 256, moved, 64) == 0, 1);
   answer("collect, next slot", second[320] + second[383], 0);
   memcpy(second + 448, moved, 64);
-  answer("collect two that overlap", vz_collect(second, 512, deal, 512), VZ_OVERLAP);
+  answer("collect two that overlap", vz_collect(second, 512, owners, 4, deal, 512, table, 4), VZ_OVERLAP);
   answer("collect two that overlap, the second deal stays", memcmp(deal, first_segment, 128) == 0, 1);
 }
 
 /* The same with trees: each is that of its deal afterwards. */
 static void changing_with_tree(void) {
-  static uint8_t booked[512], tree[480], second[512], second_tree[480], filled[480];
+  static uint8_t booked[512], owners[4], tree[480], second[512], second_owners[4], second_tree[480], filled[480];
   answer("tree fill", vz_tree_fill(booked, 512, tree, 480), VZ_OK);
-  vz_book_with_tree(booked, 512, tree, 480, first_segment, 128, &offset, &place);
-  vz_book_with_tree(booked, 512, tree, 480, second_segment, 128, &offset, &place);
-  answer("cancel with a tree of 479", vz_cancel_with_tree(booked, 512, tree, 479, 300), VZ_OUTPUT);
-  answer("cancel with tree", vz_cancel_with_tree(booked, 512, tree, 480, 256), VZ_OK);
+  vz_book_with_tree(booked, 512, tree, 480, owners, 4, 1, first_segment, 128, &offset, &place);
+  vz_book_with_tree(booked, 512, tree, 480, owners, 4, 2, second_segment, 128, &offset, &place);
+  answer("cancel with a tree of 479", vz_cancel_with_tree(booked, 512, tree, 479, owners, 4, 1, 300), VZ_OUTPUT);
+  answer("cancel with tree", vz_cancel_with_tree(booked, 512, tree, 480, owners, 4, 1, 256), VZ_OK);
   answer("cancel with tree, deal", memcmp(booked, deal, 512) == 0, 1);
+  answer("cancel with tree, table", memcmp(owners, table, 4) == 0, 1);
   answer("tree fill", vz_tree_fill(booked, 512, filled, 480), VZ_OK);
   answer("cancel with tree, tree", memcmp(tree, filled, 480) == 0, 1);
-  answer("collect with a tree of 512", vz_collect_with_tree(booked, 512, second, 512, deal, 512), VZ_OUTPUT);
-  answer("collect with tree", vz_collect_with_tree(booked, 512, second, 512, second_tree, 480), VZ_OK);
+  answer("collect with a tree of 512",
+         vz_collect_with_tree(booked, 512, owners, 4, second, 512, deal, 512, second_owners, 4), VZ_OUTPUT);
+  answer("collect with tree",
+         vz_collect_with_tree(booked, 512, owners, 4, second, 512, second_tree, 480, second_owners, 4), VZ_OK);
+  answer("collect with tree, owner", second_owners[0], 2);
   answer("collect with tree, bytes", memcmp(second, second_segment, 128) == 0, 1);
   answer("tree fill", vz_tree_fill(second, 512, filled, 480), VZ_OK);
   answer("collect with tree, tree", memcmp(second_tree, filled, 480) == 0, 1);
@@ -254,6 +291,7 @@ int main(void) {
   padding();
   index_entries();
   booking();
+  houses();
   looking();
   records();
   with_tree();

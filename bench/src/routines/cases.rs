@@ -1,5 +1,5 @@
 //! Each function of the library on short inputs, and on longer ones where its time grows with them.
-use super::inputs::{Inputs, Kept};
+use super::inputs::{Inputs, Kept, HOUSE};
 use super::Case;
 use crate::library::Library;
 use crate::peers::Peer;
@@ -209,12 +209,14 @@ fn records_of_deal<'a>(kept: &'a Kept, input: &'static str, repeats: usize) -> V
     let (deal, length) = (&kept.deal, kept.deal.len());
     vec![
         case("vz_book", input, repeats, move |library| {
-            let (mut deal, segment) = (deal.clone(), &kept.segment);
+            let (mut deal, mut table, segment) = (deal.clone(), kept.table.clone(), &kept.segment);
             let (mut offset, mut place) = (0, 0);
             Work::new(move || {
-                let (deal, lent) = (black_box(&mut deal).as_mut_ptr(), segment.as_ptr());
+                let (deal, owners, slots) = (black_box(&mut deal).as_mut_ptr(), table.as_mut_ptr(), table.len());
+                let (lent, size) = (segment.as_ptr(), segment.len());
                 // SAFETY: the slices are live and apart.
-                let code = unsafe { (library.book)(deal, length, lent, segment.len(), &mut offset, &mut place) };
+                let code =
+                    unsafe { (library.book)(deal, length, owners, slots, HOUSE, lent, size, &mut offset, &mut place) };
                 assert_eq!(code, 15);
             })
         }),
@@ -276,51 +278,56 @@ fn over_tree<'a>(kept: &'a Kept, input: &'static str, repeats: usize) -> Vec<Cas
 }
 
 fn booking_with_tree<'a>(library: &'a Library, kept: &'a Kept) -> Work<'a> {
-    let (mut deal, mut tree, segment) = (kept.deal.clone(), kept.tree.clone(), &kept.segment);
+    let (mut deal, mut tree, mut table) = (kept.deal.clone(), kept.tree.clone(), kept.table.clone());
     let (mut offset, mut place) = (0, 0);
     Work::new(move || {
         deal[kept.place as usize..][..64].fill(0);
-        let (lent, t) = (black_box(&mut deal).as_mut_ptr(), tree.as_mut_ptr());
-        let (d, n, s) = (kept.deal.len(), kept.tree.len(), segment.as_ptr());
+        let (lent, d, t, n) = (black_box(&mut deal).as_mut_ptr(), kept.deal.len(), tree.as_mut_ptr(), kept.tree.len());
+        let (o, k, s, m) = (table.as_mut_ptr(), table.len(), kept.segment.as_ptr(), kept.segment.len());
         // SAFETY: the slices are live and apart.
-        let code = unsafe { (library.book_with_tree)(lent, d, t, n, s, segment.len(), &mut offset, &mut place) };
+        let code = unsafe { (library.book_with_tree)(lent, d, t, n, o, k, HOUSE, s, m, &mut offset, &mut place) };
         assert_eq!(code, 0);
     })
 }
 
 /// Cancelling, and collecting into a second deal.
 fn changes<'a>(kept: &'a Kept, input: &'static str, repeats: usize) -> Vec<Case<'a>> {
-    let (d, n, place) = (kept.deal.as_ptr(), kept.deal.len(), kept.place);
+    let (d, n, o, k, place) = (kept.deal.as_ptr(), kept.deal.len(), kept.table.as_ptr(), kept.table.len(), kept.place);
     // SAFETY: here and below, the slices are live and apart.
     vec![
-        change("vz_cancel", input, 20 * repeats, kept, move |library, deal, _| unsafe {
-            (library.cancel)(deal.as_mut_ptr(), deal.len(), place)
+        change("vz_cancel", input, 20 * repeats, kept, move |library, deal, _, table| unsafe {
+            (library.cancel)(deal.as_mut_ptr(), deal.len(), table.as_mut_ptr(), table.len(), HOUSE, place)
         }),
-        change("vz_cancel_with_tree", input, 20 * repeats, kept, move |library, deal, tree| unsafe {
-            (library.cancel_with_tree)(deal.as_mut_ptr(), deal.len(), tree.as_mut_ptr(), tree.len(), place)
+        change("vz_cancel_with_tree", input, 20 * repeats, kept, move |library, deal, tree, table| unsafe {
+            let (t, m) = (tree.as_mut_ptr(), tree.len());
+            let (owners, slots) = (table.as_mut_ptr(), table.len());
+            (library.cancel_with_tree)(deal.as_mut_ptr(), deal.len(), t, m, owners, slots, HOUSE, place)
         }),
-        change("vz_collect", input, 20 * repeats, kept, move |library, second, _| unsafe {
-            (library.collect)(d, n, second.as_mut_ptr(), second.len())
+        change("vz_collect", input, 20 * repeats, kept, move |library, second, _, table| unsafe {
+            (library.collect)(d, n, o, k, second.as_mut_ptr(), second.len(), table.as_mut_ptr(), table.len())
         }),
-        change("vz_collect_with_tree", input, repeats, kept, move |library, second, tree| unsafe {
-            (library.collect_with_tree)(d, n, second.as_mut_ptr(), second.len(), tree.as_mut_ptr(), tree.len())
+        change("vz_collect_with_tree", input, repeats, kept, move |library, second, tree, table| unsafe {
+            let (s, m, t, l) = (second.as_mut_ptr(), second.len(), tree.as_mut_ptr(), tree.len());
+            (library.collect_with_tree)(d, n, o, k, s, m, t, l, table.as_mut_ptr(), table.len())
         }),
     ]
 }
 
-/// A case that writes to a copy of the deal, into which the entry is put again before each call, and of the tree.
+/// A case that writes to a copy of the deal, into which the entry is put again before each call, of the tree, and of the
+/// table, in which the entry is the house's again.
 fn change<'a>(
     function: &'static str,
     input: &'static str,
     repeats: usize,
     kept: &'a Kept,
-    call: impl Fn(&Library, &mut [u8], &mut [u8]) -> u32 + Copy + 'a,
+    call: impl Fn(&Library, &mut [u8], &mut [u8], &mut [u8]) -> u32 + Copy + 'a,
 ) -> Case<'a> {
     case(function, input, repeats, move |library| {
-        let (mut deal, mut tree) = (kept.deal.clone(), kept.tree.clone());
+        let (mut deal, mut tree, mut table) = (kept.deal.clone(), kept.tree.clone(), kept.table.clone());
         Work::new(move || {
             deal[kept.place as usize..][..64].copy_from_slice(&kept.entry);
-            assert_eq!(call(library, black_box(&mut deal), &mut tree), 0, "{function}{input}");
+            table[0] = HOUSE;
+            assert_eq!(call(library, black_box(&mut deal), &mut tree, &mut table), 0, "{function}{input}");
         })
     })
 }

@@ -1,3 +1,4 @@
 pub mod KeepingSlot
+pub mod FirstRefusal
 pub mod Deciding
 pub mod Outcome

@@ -1,22 +1,27 @@
--- Nothing refuses a booking before the slots are looked at (codes 2, 4, 11, 12), and what is known then.
-use mathlib.Core.Path.{_≡_, refl}
-use mathlib.Core.Bool.{Bool, true, false, _&&_}
-use mathlib.Core.Logic.{_↔_}
-use Prim.Native.Nat.{ℕ, _≤_, _<_}
+-- Nothing refuses a booking before the slots are looked at (codes 23, 2, 4, 11, 12), and what is known then.
+use mathlib.Core.Path.{_≡_, refl, sym}
+use mathlib.Core.Bool.{Bool, true, false, _&&_, _||_, true≢false}
+use mathlib.Core.Logic.{_↔_, _≢_}
+use Prim.Native.Nat.{ℕ, _<_}
 use native.Mathlib.Omega.{arith}
 use mathlib.Core.List.{List, [], _∷_}
 use lib.ListN.{length}
-use Rattle.rules.specs.Refusals.{rule, firstRefusal}
+use lib.Dec.{eqb}
+use borrow.Author.Tests.{eqb-true}
+use Rattle.rules.specs.Refusals.{Rule, firstOf, firstRefusal}
 use Rattle.rules.specs.RefusalLaws.{none-refused, all-passed, and-left, and-right, and-both}
 use Rattle.octets.specs.FillLaws.{filled-length}
 use Rattle.stray.specs.StrayBits.{noStrayBits}
-use Rattle.sizes.specs.Sizes.{lentSizeAllowed, segmentSizeAllowed, area}
+use Rattle.sizes.specs.Sizes.{lentSizeAllowed, segmentSizeAllowed, area, entryCount}
 use Rattle.sizes.specs.SizesLaws.{LentSize, SegmentSize, lent-size, segment-size}
 use Rattle.lent.specs.LentDeal.{LentDeal, lentDeal, dealSize}
 use Rattle.lent.specs.Usable.{Usable}
+use Rattle.houses.specs.Houses.{houseAllowed, tableSized}
+use Rattle.houses.specs.HousesLaws.{sized-length}
 use Rattle.booking.specs.Write.{areaBytes}
 use Rattle.booking.specs.Booking.{bookRules}
 
+-- as far as the deal and the segment go (2, 4, 11, 12)
 pub record Bookable (deal : LentDeal) (segment : List ℕ) : Type 0 where
   pub deal-allowed : lentSizeAllowed (dealSize deal) ≡ true
   pub segment-allowed : segmentSizeAllowed (dealSize deal) (length segment) ≡ true
@@ -24,37 +29,65 @@ pub record Bookable (deal : LentDeal) (segment : List ℕ) : Type 0 where
   pub segment-clear : noStrayBits (areaBytes segment) ≡ true
   pub tree-sized : deal .treeSized ≡ true
 
-refusals-end : (a b c d : Bool) → firstRefusal (rule a 2 ∷ rule b 4 ∷ rule c 11 ∷ rule d 12 ∷ []) ≤ 12
-refusals-end true true true true = omega arith
-refusals-end true true true false = omega arith
-refusals-end true true false d = omega arith
-refusals-end true false c d = omega arith
-refusals-end false b c d = omega arith
+-- for a house, with a table of owners (23 twice)
+pub record BookableFor (deal : LentDeal) (table : List ℕ) (house : ℕ) (segment : List ℕ) : Type 0 where
+  pub house-allowed : houseAllowed house ≡ true
+  pub table-sized : tableSized (dealSize deal) table ≡ true
+  pub bookable : Bookable deal segment
 
-module _ (deal : LentDeal) (segment : List ℕ) where
+-- what holds of every rule's code holds of a refusal
+EachCode : (ℕ → Type 0) → List Rule → Type 0
+EachCode P [] = Unit {0}
+EachCode P (r ∷ rs) = P (r .code) × EachCode P rs
+
+first-each : (P : ℕ → Type 0) (passed : Bool) (code later : ℕ) → P code → (later ≢ 0 → P later)
+    → firstOf passed code later ≢ 0 → P (firstOf passed code later)
+first-each P true code later c f h = f h
+first-each P false code later c f h = c
+
+refused-each : (P : ℕ → Type 0) (rs : List Rule) → EachCode P rs → firstRefusal rs ≢ 0 → P (firstRefusal rs)
+unfolding EachCode
+refused-each P [] c h = absurd (h refl)
+refused-each P (r ∷ rs) c h =
+    first-each P (r .passed) (r .code) (firstRefusal rs) (c .0) (λ k. refused-each P rs (c .1) k) h
+
+-- a refusal by these rules is 23, 2, 4, 11 or 12, and so none of the codes that are given after them
+abbrev pub RuleCode : ℕ → Type 0
+RuleCode c = (c ≢ 0) × (c ≢ 15) × (c ≢ 22) × (c ≢ 13) × (c ≢ 14)
+
+module _ (deal : LentDeal) (table : List ℕ) (house : ℕ) (segment : List ℕ) where
   abbrev clear : Bool
   clear = noStrayBits (deal .bytes) && noStrayBits (areaBytes segment)
 
-  pub refused-end : firstRefusal (bookRules deal segment) ≤ 12
-  refused-end =
-      refusals-end (lentSizeAllowed (dealSize deal)) (segmentSizeAllowed (dealSize deal) (length segment)) clear
-      (deal .treeSized)
+  pub refused-code : firstRefusal (bookRules deal table house segment) ≢ 0
+      → RuleCode (firstRefusal (bookRules deal table house segment))
+  unfolding EachCode
+  refused-code h = refused-each RuleCode (bookRules deal table house segment) (omega arith) h
 
-  pub not-refused : (firstRefusal (bookRules deal segment) ≡ 0) ↔ Bookable deal segment
+  pub not-refused : (firstRefusal (bookRules deal table house segment) ≡ 0) ↔ BookableFor deal table house segment
   not-refused = (
     λ e.
-        let p = none-refused (bookRules deal segment) (omega arith) e in
+        let p = none-refused (bookRules deal table house segment) (omega arith) e in
+        let s = p .1 .1 .1 in
         record {
-          deal-allowed = p .0;
-          segment-allowed = p .1 .0;
-          deal-clear = and-left (noStrayBits (deal .bytes)) (noStrayBits (areaBytes segment)) (p .1 .1 .0);
-          segment-clear = and-right (noStrayBits (deal .bytes)) (noStrayBits (areaBytes segment)) (p .1 .1 .0);
-          tree-sized = p .1 .1 .1 .0;
+          house-allowed = p .0;
+          table-sized = p .1 .1 .0;
+          bookable = record {
+            deal-allowed = p .1 .0;
+            segment-allowed = s .0;
+            deal-clear = and-left (noStrayBits (deal .bytes)) (noStrayBits (areaBytes segment)) (s .1 .0);
+            segment-clear = and-right (noStrayBits (deal .bytes)) (noStrayBits (areaBytes segment)) (s .1 .0);
+            tree-sized = s .1 .1 .0;
+          };
         },
-    λ b.
+    λ f.
+        let b = f .bookable in
         let c : clear ≡ true =
         and-both (noStrayBits (deal .bytes)) (noStrayBits (areaBytes segment)) (b .deal-clear) (b .segment-clear) in
-        all-passed (bookRules deal segment) (b .deal-allowed, (b .segment-allowed, (c, (b .tree-sized, tt)))),
+        all-passed (bookRules deal table house segment) (
+          f .house-allowed,
+          (b .deal-allowed, (f .table-sized, (b .segment-allowed, (c, (b .tree-sized, tt))))),
+        ),
   )
 
 -- the sizes, where they are allowed
@@ -85,3 +118,17 @@ module _ {deal : LentDeal} {segment : List ℕ} (b : Bookable deal segment) wher
         segment-clear = b .segment-clear;
         tree-sized = refl;
       }
+
+-- the table has one byte a slot, and a house is one byte
+module _ {deal : LentDeal} {table : List ℕ} {house : ℕ} {segment : List ℕ}
+    (b : BookableFor deal table house segment) where
+  pub table-length : length table ≡ entryCount (dealSize deal)
+  table-length = sized-length (dealSize deal) table (b .table-sized)
+
+  pub house-byte : house < 256
+  house-byte = by-test (eqb house 1) (eqb house 2) refl refl (b .house-allowed)
+    where
+      by-test : (x y : Bool) → eqb house 1 ≡ x → eqb house 2 ≡ y → (x || y) ≡ true → house < 256
+      by-test true y e f t = omega (arith, eqb-true house 1 e)
+      by-test false true e f t = omega (arith, eqb-true house 2 f)
+      by-test false false e f t = absurd (true≢false (sym t))

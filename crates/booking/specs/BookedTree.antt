@@ -30,5 +30,6 @@ treeAfter deal tree segment (Already i) = tree
 treeAfter deal tree segment (Place i offset) =
     renewedFor (writtenDeal deal segment i offset) tree offset (area (length segment)) (slotPlace (length deal) i)
 
-unfoldable pub bookedTree : List ℕ → List ℕ → List ℕ → List ℕ
-bookedTree deal tree segment = treeAfter deal tree segment (decision (treeDeal deal tree) segment)
+unfoldable pub bookedTree : List ℕ → List ℕ → List ℕ → ℕ → List ℕ → List ℕ
+bookedTree deal tree table house segment =
+    treeAfter deal tree segment (decision (treeDeal deal tree) table house segment)

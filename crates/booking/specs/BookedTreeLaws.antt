@@ -83,11 +83,12 @@ module _ {deal segment : List ℕ} {i o : ℕ} (facts : Fits deal segment i o) w
         either-order after tree top written-power sized-after o (area (length segment)) some
         area-in place 64 (omega arith) entry-in
 
-module _ (deal tree segment : List ℕ) where
+module _ (deal tree table : List ℕ) (house : ℕ) (segment : List ℕ) where
   -- any code but 0 leaves the tree as it is
-  pub refused-tree : bookAnswer (treeDeal deal tree) segment .code ≢ 0 → bookedTree deal tree segment ≡ tree
+  pub refused-tree : bookAnswer (treeDeal deal tree) table house segment .code ≢ 0
+      → bookedTree deal tree table house segment ≡ tree
   unfolding bookAnswer bookedTree
-  refused-tree h = by-cases (decision (treeDeal deal tree) segment) h
+  refused-tree h = by-cases (decision (treeDeal deal tree) table house segment) h
     where
       by-cases : (x : Decision) → answerTo (length deal) (rangesOf deal) x .code ≢ 0
           → treeAfter deal tree segment x ≡ tree
@@ -95,32 +96,33 @@ module _ (deal tree segment : List ℕ) where
       by-cases (Already i) k = refl
       by-cases (Place i o) k = absurd (k refl)
 
-  pub tree-is : (x : Decision) → decision (treeDeal deal tree) segment ≡ x
-      → bookedTree deal tree segment ≡ treeAfter deal tree segment x
+  pub tree-is : (x : Decision) → decision (treeDeal deal tree) table house segment ≡ x
+      → bookedTree deal tree table house segment ≡ treeAfter deal tree segment x
   unfolding bookedTree
   tree-is x e = ap (treeAfter deal tree segment) e
 
   -- with code 0, of a slot and an offset
-  module _ (i o : ℕ) (e : decision (treeDeal deal tree) segment ≡ Place i o) where
+  module _ (i o : ℕ) (e : decision (treeDeal deal tree) table house segment ≡ Place i o) where
     fits : Fits deal segment i o
-    fits = booked-fits (treeDeal deal tree) segment i o e
+    fits = booked-fits (treeDeal deal tree) table house segment i o e
 
     pub booked-sized : SizedFor deal tree
     booked-sized =
-        tree-sized deal tree (bookable-usable (booked-unkept (treeDeal deal tree) segment i o e .bookable))
+        tree-sized deal tree
+        (bookable-usable (booked-unkept (treeDeal deal tree) table house segment i o e .bookable .bookable))
 
     pub tree-renewed :
         RenewedBy (aboveEither o (area (length segment)) (slotPlace (length deal) i))
-        (bookedDeal (treeDeal deal tree) segment) tree (bookedTree deal tree segment)
+        (bookedDeal (treeDeal deal tree) table house segment) tree (bookedTree deal tree table house segment)
     tree-renewed =
-        rw (booked-is (treeDeal deal tree) segment i o e, tree-is (Place i o) e)
+        rw (booked-is (treeDeal deal tree) table house segment i o e, tree-is (Place i o) e)
         (written-renewed fits tree booked-sized)
 
     pub tree-either-part-first :
-        let bytes = bookedDeal (treeDeal deal tree) segment in
+        let bytes = bookedDeal (treeDeal deal tree) table house segment in
         let top = dealLevel (length bytes) in
-        bookedTree deal tree segment
+        bookedTree deal tree table house segment
         ≡ renewed top bytes (renewed top bytes tree (slotPlace (length deal) i) 64) o (area (length segment))
     tree-either-part-first =
-        rw (booked-is (treeDeal deal tree) segment i o e, tree-is (Place i o) e)
+        rw (booked-is (treeDeal deal tree) table house segment i o e, tree-is (Place i o) e)
         (either-part-first fits tree booked-sized)

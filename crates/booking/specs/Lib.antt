@@ -7,6 +7,7 @@ pub mod BookingLaws
 pub mod WriteLaws
 pub mod KeepRowsLaws
 pub mod KeepLaws
+pub mod OwnLaws
 pub mod BookedLaws
 pub mod AlreadyLaws
 pub mod NeverAgain

@@ -12,6 +12,7 @@ ghost use Rattle.lent.specs.LentDeal.{lentWith};
 ghost use Rattle.lent.specs.Usable.{Usable};
 ghost use Rattle.room.specs.Room.{SameBelow, rangesIn};
 ghost use Rattle.ranges.specs.Ranges.{rangesOf};
+ghost use Rattle.houses.specs.Houses.{tableSized};
 ghost use Rattle.booking.specs.Write.{segmentCommitment};
 ghost use Rattle.booking.specs.Booking.{keepsSegment, lowestKeeping};
 
@@ -76,11 +77,13 @@ fn slot_keeps(
     octets::same_filled(deal, offset as usize, segment, area as usize)
 }
 
-// The lowest slot of a lent deal that keeps the segment.
+// The lowest slot of a house in a lent deal that keeps the segment.
 pub(crate) fn lowest_keeping(
     deal: &[u8],
     tree: &[u8],
     has_tree: bool,
+    table: &[u8],
+    house: u8,
     segment: &[u8],
     commitment: [u8; 32],
     ranges: Ranges,
@@ -89,13 +92,15 @@ pub(crate) fn lowest_keeping(
     requires { ⌜ segmentSizeAllowed (length (now deal)) (length (now segment)) ≡ true ⌝ }
     requires { ⌜ commitment ≡ segmentCommitment (now segment) ⌝ }
     requires { ⌜ SameBelow (entryCount (length (now deal))) (rangesIn ranges) (rangesOf (now deal)) ⌝ }
+    requires { ⌜ tableSized (length (now deal)) (now table) ≡ true ⌝ }
     ensures { λ r. ⌜ r
-        ≡ lowestKeeping (lentWith «has_tree» (now (deal .entry)) (now (tree .entry))) (now (segment .entry)) ⌝ }
+        ≡ lowestKeeping (lentWith «has_tree» (now (deal .entry)) (now (tree .entry))) (now (table .entry)) house
+        (now (segment .entry)) ⌝ }
 {
     let slots = sizes::entry_count(deal.len() as u64) as usize;
     let mut i: usize = 0;
     while i < slots {
-        if slot_keeps(deal, tree, has_tree, segment, commitment, ranges, i) {
+        if table[i] == house && slot_keeps(deal, tree, has_tree, segment, commitment, ranges, i) {
             return Found::At(i);
         }
         i += 1;

@@ -1,3 +1,4 @@
 pub mod Cancel
 pub mod CancelLaws
+pub mod OwnerCancelLaws
 pub mod TreeCancelLaws

@@ -90,7 +90,7 @@ module _ {deal : List ℕ} {ranges : Ranges} {slots : ℕ} (r : Ready deal range
     offset-at : getD (ranges .offsets) j 0 ≡ rowOffset (rowAt deal j)
     offset-at = ap (λ (x : Range). x .offset) (r .gathered j inside)
 
-    area-at : getD (ranges .areas) j 0 ≡ rowArea (rowAt deal j)
+    pub area-at : getD (ranges .areas) j 0 ≡ rowArea (rowAt deal j)
     area-at = ap (λ (x : Range). x .area) (r .gathered j inside)
 
     pub range-in : getD (ranges .offsets) j 0 + getD (ranges .areas) j 0 ≤ length deal

@@ -1,4 +1,4 @@
--- The loops that write all areas and all entries: string j is written over those before it.
+-- The loops that write all areas, all entries and all owners: string j is written over those before it.
 use mathlib.Core.Path.{_≡_, refl, sym, ap, _∙_}
 use mathlib.Core.List.{List}
 use Prim.Native.Nat.{ℕ, _+_}

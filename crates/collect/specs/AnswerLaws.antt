@@ -1,5 +1,5 @@
--- What collection leaves, by its code: with 0 the second deal is the collected one, and a tree beside it holds that
--- one's inner nodes; with any other code both are as they were.
+-- What collection leaves, by its code: with 0 the second deal and the second table are the collected ones, and a tree
+-- beside the second deal holds that one's inner nodes; with any other code all are as they were.
 use mathlib.Core.Path.{_≡_}
 use mathlib.Core.Logic.{_≢_}
 use Prim.Native.Nat.{ℕ}
@@ -9,25 +9,48 @@ use Rattle.sizes.specs.Sizes.{dealLevel}
 use Rattle.tree.specs.Filled.{filled}
 use Rattle.lent.specs.LentDeal.{LentDeal, treeDeal}
 use Rattle.lent.specs.LentDealLaws.{answer-refused}
-use Rattle.collect.specs.Collect.{collectCode, collectedDeal, secondDeal, secondTree}
+use Rattle.collect.specs.Collect.{
+  collectCode,
+  collectedDeal,
+  collectedTable,
+  secondDeal,
+  secondOwners,
+  secondTree,
+}
 
-module _ (deal : List ℕ) (second : LentDeal) where
-  pub deal-collected : collectCode deal second ≡ 0 → secondDeal deal second ≡ collectedDeal deal
+module _ (deal table : List ℕ) (second : LentDeal) (secondTable : List ℕ) where
+  abbrev code : ℕ
+  code = collectCode deal table second secondTable
+
+  pub deal-collected : collectCode deal table second secondTable ≡ 0
+      → secondDeal deal table second secondTable ≡ collectedDeal deal
   unfolding secondDeal
   deal-collected e = rw e
 
-  pub deal-left : collectCode deal second ≢ 0 → secondDeal deal second ≡ second .bytes
+  pub deal-left : collectCode deal table second secondTable ≢ 0
+      → secondDeal deal table second secondTable ≡ second .bytes
   unfolding secondDeal
-  deal-left h = answer-refused (λ (code : ℕ). second .bytes) (collectedDeal deal) (collectCode deal second) h
+  deal-left h = answer-refused (λ (k : ℕ). second .bytes) (collectedDeal deal) code h
 
-module _ (deal second tree : List ℕ) where
-  pub tree-collected : collectCode deal (treeDeal second tree) ≡ 0
-      → secondTree deal second tree ≡ filled (dealLevel (length deal)) (collectedDeal deal)
+  pub owners-collected : collectCode deal table second secondTable ≡ 0
+      → secondOwners deal table second secondTable ≡ collectedTable deal table
+  unfolding secondOwners
+  owners-collected e = rw e
+
+  pub owners-left : collectCode deal table second secondTable ≢ 0
+      → secondOwners deal table second secondTable ≡ secondTable
+  unfolding secondOwners
+  owners-left h = answer-refused (λ (k : ℕ). secondTable) (collectedTable deal table) code h
+
+module _ (deal table second tree secondTable : List ℕ) where
+  pub tree-collected : collectCode deal table (treeDeal second tree) secondTable ≡ 0
+      → secondTree deal table second tree secondTable ≡ filled (dealLevel (length deal)) (collectedDeal deal)
   unfolding secondTree
   tree-collected e = rw e
 
-  pub tree-left : collectCode deal (treeDeal second tree) ≢ 0 → secondTree deal second tree ≡ tree
+  pub tree-left : collectCode deal table (treeDeal second tree) secondTable ≢ 0
+      → secondTree deal table second tree secondTable ≡ tree
   unfolding secondTree
   tree-left h =
-      answer-refused (λ (code : ℕ). tree) (filled (dealLevel (length deal)) (collectedDeal deal))
-      (collectCode deal (treeDeal second tree)) h
+      answer-refused (λ (k : ℕ). tree) (filled (dealLevel (length deal)) (collectedDeal deal))
+      (collectCode deal table (treeDeal second tree) secondTable) h

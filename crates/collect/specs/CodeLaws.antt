@@ -1,7 +1,7 @@
 -- The code of collection: when it is 0, and when it is 20, where two standing entries overlap and nothing that comes
 -- before refuses.
 use mathlib.Core.Path.{_≡_, refl}
-use mathlib.Core.Bool.{Bool, true, false}
+use mathlib.Core.Bool.{Bool, true, false, _&&_}
 use mathlib.Core.Logic.{_↔_}
 use Prim.Native.Nat.{ℕ, _<_}
 use native.Mathlib.Omega.{arith}
@@ -10,7 +10,7 @@ use lib.ListN.{length}
 use lib.Dec.{eqb}
 use borrow.Author.Tests.{eqb-true, eq-eqb}
 use Rattle.rules.specs.Refusals.{rule, firstRefusal}
-use Rattle.rules.specs.RefusalLaws.{none-refused, all-passed}
+use Rattle.rules.specs.RefusalLaws.{none-refused, all-passed, and-left, and-right, and-both}
 use Rattle.stray.specs.StrayBits.{noStrayBits}
 use Rattle.sizes.specs.Sizes.{lentSizeAllowed, entryCount}
 use Rattle.sizes.specs.SizesLaws.{DealSize, lent-size}
@@ -19,6 +19,7 @@ use Rattle.index.specs.Slots.{slotAt, standing}
 use Rattle.room.specs.Room.{overlaps}
 use Rattle.ranges.specs.Ranges.{rangesOf}
 use Rattle.ranges.specs.RangesLaws.{empty-start}
+use Rattle.houses.specs.Houses.{tableSized}
 use Rattle.packing.specs.Order.{noneOverlaps}
 use Rattle.packing.specs.Apart.{EmptyAtZero}
 use Rattle.packing.specs.NoOverlapLaws.{none-overlaps, two-overlap, overlap-full}
@@ -26,30 +27,38 @@ use Rattle.collect.specs.Collect.{collectRules, collectCode}
 use Rattle.collect.specs.MovesLaws.{Collectable, full-stands}
 
 -- a deal that is collected into a second one
-pub record Collects (deal : List ℕ) (second : LentDeal) : Type 0 where
+pub record Collects (deal table : List ℕ) (second : LentDeal) (secondTable : List ℕ) : Type 0 where
   pub collectable : Collectable deal
+  pub table-sized : tableSized (length deal) table ≡ true
+  pub second-sized : tableSized (length deal) secondTable ≡ true
   pub second-length : dealSize second ≡ length deal
   pub clear : noStrayBits deal ≡ true
   pub tree-sized : second .treeSized ≡ true
 
-pub collects : (deal : List ℕ) (second : LentDeal) → (collectCode deal second ≡ 0) ↔ Collects deal second
+pub collects : (deal table : List ℕ) (second : LentDeal) (secondTable : List ℕ)
+    → (collectCode deal table second secondTable ≡ 0) ↔ Collects deal table second secondTable
 unfolding collectCode
-collects deal second =
-    let apart = none-overlaps (rangesOf deal) (entryCount (length deal)) in (
+collects deal table second secondTable =
+    let apart = none-overlaps (rangesOf deal) (entryCount (length deal)) in
+    let x = tableSized (length deal) table in
+    let y = tableSized (length deal) secondTable in (
       λ e.
-          let p = none-refused (collectRules deal second)
-          (omega arith, (omega arith, (omega arith, (omega arith, (omega arith, tt))))) e in
+          let p = none-refused (collectRules deal table second secondTable)
+          (omega arith, (omega arith, (omega arith, (omega arith, (omega arith, (omega arith, tt)))))) e in
           record {
-            collectable = record { lent = p .0; apart = apart .0 (p .1 .1 .1 .1 .0) };
-            second-length = eqb-true (dealSize second) (length deal) (p .1 .0);
-            clear = p .1 .1 .0;
-            tree-sized = p .1 .1 .1 .0;
+            collectable = record { lent = p .0; apart = apart .0 (p .1 .1 .1 .1 .1 .0) };
+            table-sized = and-left x y (p .1 .0);
+            second-sized = and-right x y (p .1 .0);
+            second-length = eqb-true (dealSize second) (length deal) (p .1 .1 .0);
+            clear = p .1 .1 .1 .0;
+            tree-sized = p .1 .1 .1 .1 .0;
           },
       λ c.
+          let tables = and-both x y (c .table-sized) (c .second-sized) in
           let same = eq-eqb (dealSize second) (length deal) (c .second-length) in
-          all-passed (collectRules deal second) (
+          all-passed (collectRules deal table second secondTable) (
             c .collectable .lent,
-            (same, (c .clear, (c .tree-sized, (apart .1 (c .collectable .apart), tt)))),
+            (tables, (same, (c .clear, (c .tree-sized, (apart .1 (c .collectable .apart), tt))))),
           ),
     )
 
@@ -63,8 +72,10 @@ pub record TwoStanding (deal : List ℕ) : Type 0 where
   pub lower-stands : standing (length deal) (slotAt deal lower) ≡ true
   pub common : overlaps (rangesOf deal upper .offset) (rangesOf deal upper .area) (rangesOf deal lower) ≡ true
 
-pub record Overlaps (deal : List ℕ) (second : LentDeal) : Type 0 where
+pub record Overlaps (deal table : List ℕ) (second : LentDeal) (secondTable : List ℕ) : Type 0 where
   pub lent : lentSizeAllowed (length deal) ≡ true
+  pub table-sized : tableSized (length deal) table ≡ true
+  pub second-sized : tableSized (length deal) secondTable ≡ true
   pub second-length : dealSize second ≡ length deal
   pub clear : noStrayBits deal ≡ true
   pub tree-sized : second .treeSized ≡ true
@@ -102,36 +113,42 @@ module _ (deal : List ℕ) (t : DealSize (length deal)) where
         }),
   )
 
--- the code by its five tests
-abbrev pub codeBy : Bool → Bool → Bool → Bool → Bool → ℕ
-codeBy a b s t o = firstRefusal (rule a 2 ∷ rule b 12 ∷ rule s 11 ∷ rule t 12 ∷ rule o 20 ∷ [])
+-- the code by its six tests
+abbrev pub codeBy : Bool → Bool → Bool → Bool → Bool → Bool → ℕ
+codeBy a w b s t o = firstRefusal (rule a 2 ∷ rule w 23 ∷ rule b 12 ∷ rule s 11 ∷ rule t 12 ∷ rule o 20 ∷ [])
 
-last-fails : (a b s t o : Bool) → codeBy a b s t o ≡ 20
-    → (a ≡ true) × (b ≡ true) × (s ≡ true) × (t ≡ true) × (o ≡ false)
-last-fails false b s t o e = absurd (omega arith)
-last-fails true false s t o e = absurd (omega arith)
-last-fails true true false t o e = absurd (omega arith)
-last-fails true true true false o e = absurd (omega arith)
-last-fails true true true true true e = absurd (omega arith)
-last-fails true true true true false e = (refl, refl, refl, refl, refl)
+last-fails : (a w b s t o : Bool) → codeBy a w b s t o ≡ 20
+    → (a ≡ true) × (w ≡ true) × (b ≡ true) × (s ≡ true) × (t ≡ true) × (o ≡ false)
+last-fails false w b s t o e = absurd (omega arith)
+last-fails true false b s t o e = absurd (omega arith)
+last-fails true true false s t o e = absurd (omega arith)
+last-fails true true true false t o e = absurd (omega arith)
+last-fails true true true true false o e = absurd (omega arith)
+last-fails true true true true true true e = absurd (omega arith)
+last-fails true true true true true false e = (refl, refl, refl, refl, refl, refl)
 
-pub refused-20 : (deal : List ℕ) (second : LentDeal) → (collectCode deal second ≡ 20) ↔ Overlaps deal second
+pub refused-20 : (deal table : List ℕ) (second : LentDeal) (secondTable : List ℕ)
+    → (collectCode deal table second secondTable ≡ 20) ↔ Overlaps deal table second secondTable
 unfolding collectCode
-refused-20 deal second =
+refused-20 deal table second secondTable =
     let a = lentSizeAllowed (length deal) in
+    let x = tableSized (length deal) table in
+    let y = tableSized (length deal) secondTable in
     let b = eqb (dealSize second) (length deal) in
     let o = noneOverlaps (rangesOf deal) (entryCount (length deal)) in (
       λ e.
-          let p = last-fails a b (noStrayBits deal) (second .treeSized) o e in
+          let p = last-fails a (x && y) b (noStrayBits deal) (second .treeSized) o e in
           record {
             lent = p .0;
-            second-length = eqb-true (dealSize second) (length deal) (p .1);
-            clear = p .2;
-            tree-sized = p .3;
-            two = overlapping deal (lent-size (length deal) (p .0) .deal) .0 (p .4);
+            table-sized = and-left x y (p .1);
+            second-sized = and-right x y (p .1);
+            second-length = eqb-true (dealSize second) (length deal) (p .2);
+            clear = p .3;
+            tree-sized = p .4;
+            two = overlapping deal (lent-size (length deal) (p .0) .deal) .0 (p .5);
           },
       λ r.
           let none = overlapping deal (lent-size (length deal) (r .lent) .deal) .1 (r .two) in
-          rw
-          (r .lent, eq-eqb (dealSize second) (length deal) (r .second-length), r .clear, r .tree-sized, none),
+          let same = eq-eqb (dealSize second) (length deal) (r .second-length) in
+          rw (r .lent, r .table-sized, r .second-sized, same, r .clear, r .tree-sized, none),
     )

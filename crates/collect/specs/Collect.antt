@@ -1,7 +1,10 @@
 -- Collection (document 02, request (viii)): "a new deal into a second lent buffer of equal length (else 12): standing
 -- segments, all A bytes of each, by falling A, equal ones by old offset, packed from 0, entries (new offset and
 -- checksum) from the first slot in that order, all else zero. It is refused with 20 if two standing entries overlap.
--- Order 2, 12, 11, 20"; with a tree beside the second deal 12 for its length, right after 11 (request (vii)).
+-- Order 2, 12, 11, 20"; with a tree beside the second deal 12 for its length, right after 11 (request (vii));
+-- "collection writes each moved entry's byte, as it was, for its new slot, zeros after them, into a second table (wrong
+-- length: 23)" (request (x)): 23 for either table, right after 2.
+use mathlib.Core.Bool.{_&&_}
 use Prim.Native.Nat.{ℕ}
 use mathlib.Core.List.{List, [], _∷_}
 use lib.ListN.{length, replicate}
@@ -18,6 +21,7 @@ use Rattle.index.specs.declared.Row.{Row}
 use Rattle.index.specs.KeptRows.{areaOf}
 use Rattle.index.specs.Written.{slotOf}
 use Rattle.ranges.specs.Ranges.{rangesOf}
+use Rattle.houses.specs.Houses.{tableSized, ownerAt}
 use Rattle.packing.specs.Order.{newSlot, newOffset, noneOverlaps}
 use Rattle.collect.specs.Writes.{writeAll}
 
@@ -53,26 +57,41 @@ areasMoved deal = writeAll (offsetTo deal) (areaTo deal) (entryCount (length dea
 unfoldable pub collectedDeal : List ℕ → List ℕ
 collectedDeal deal = writeAll (entryPlaceTo deal) (entryTo deal) (entryCount (length deal)) (areasMoved deal)
 
+-- the byte of the table that slot j brings, as it was; none for a free slot
+abbrev pub ownerTo : List ℕ → List ℕ → ℕ → List ℕ
+ownerTo deal table j = choose (rowAt deal j .stands) (ownerAt table j ∷ []) []
+
+-- zeros, with the bytes of the moved entries for their new slots
+unfoldable pub collectedTable : List ℕ → List ℕ → List ℕ
+collectedTable deal table =
+    writeAll (slotTo deal) (ownerTo deal table) (entryCount (length deal)) (replicate (entryCount (length deal)) 0)
+
 -- the second deal is lent with a tree beside it or without one
-abbrev pub collectRules : List ℕ → LentDeal → List Rule
-collectRules deal second =
+abbrev pub collectRules : List ℕ → List ℕ → LentDeal → List ℕ → List Rule
+collectRules deal table second secondTable =
     rule (lentSizeAllowed (length deal)) 2
+    ∷ rule (tableSized (length deal) table && tableSized (length deal) secondTable) 23
     ∷ rule (eqb (dealSize second) (length deal)) 12
     ∷ rule (noStrayBits deal) 11
     ∷ rule (second .treeSized) 12
     ∷ rule (noneOverlaps (rangesOf deal) (entryCount (length deal))) 20
     ∷ []
 
-unfoldable pub collectCode : List ℕ → LentDeal → ℕ
-collectCode deal second = firstRefusal (collectRules deal second)
+unfoldable pub collectCode : List ℕ → List ℕ → LentDeal → List ℕ → ℕ
+collectCode deal table second secondTable = firstRefusal (collectRules deal table second secondTable)
 
 -- the second deal afterwards
-unfoldable pub secondDeal : List ℕ → LentDeal → List ℕ
-secondDeal deal second =
-    unlessRefused (collectCode deal second) (λ (code : ℕ). second .bytes) (collectedDeal deal)
+unfoldable pub secondDeal : List ℕ → List ℕ → LentDeal → List ℕ → List ℕ
+secondDeal deal table second secondTable =
+    unlessRefused (collectCode deal table second secondTable) (λ (code : ℕ). second .bytes) (collectedDeal deal)
 
--- the tree beside it afterwards: every inner node of the new deal's tree
-unfoldable pub secondTree : List ℕ → List ℕ → List ℕ → List ℕ
-secondTree deal second tree =
-    unlessRefused (collectCode deal (treeDeal second tree)) (λ (code : ℕ). tree)
+-- the second table afterwards
+unfoldable pub secondOwners : List ℕ → List ℕ → LentDeal → List ℕ → List ℕ
+secondOwners deal table second secondTable =
+    unlessRefused (collectCode deal table second secondTable) (λ (code : ℕ). secondTable) (collectedTable deal table)
+
+-- the tree beside the second deal afterwards: every inner node of the new deal's tree
+unfoldable pub secondTree : List ℕ → List ℕ → List ℕ → List ℕ → List ℕ → List ℕ
+secondTree deal table second tree secondTable =
+    unlessRefused (collectCode deal table (treeDeal second tree) secondTable) (λ (code : ℕ). tree)
     (filled (dealLevel (length deal)) (collectedDeal deal))

@@ -11,3 +11,4 @@ pub mod CollectClear
 pub mod CodeLaws
 pub mod AnswerLaws
 pub mod TreeCollectLaws
+pub mod OwnersLaws

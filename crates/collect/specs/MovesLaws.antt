@@ -3,26 +3,29 @@ use mathlib.Core.Path.{_≡_, refl, sym, ap, _∙_}
 use mathlib.Core.Bool.{Bool, true, false, not}
 use Prim.Native.Nat.{ℕ, _+_, _*_, _≤_, _<_}
 use native.Mathlib.Omega.{arith}
-use mathlib.Core.List.{List}
+use mathlib.Core.List.{List, [], _∷_}
 use lib.ListN.{length}
 use borrow.Author.Tests.{not-false}
+use Rattle.rules.specs.Choice.{choose}
 use Rattle.octets.specs.SpliceLaws.{part-length}
 use Rattle.sizes.specs.Sizes.{lentSizeAllowed, entryCount, indexStart, slotPlace}
 use Rattle.sizes.specs.SizesLaws.{DealSize, lent-size, index-area, index-start-le}
-use Rattle.entries.specs.Entry.{commitmentIn, sizeIn}
+use Rattle.entries.specs.Entry.{entryOf, commitmentIn, offsetIn, sizeIn}
 use Rattle.entries.specs.EntryLaws.{entry-length}
-use Rattle.index.specs.Slots.{slotAt, standing, rowAt, rowOffset, rowArea}
+use Rattle.index.specs.Slots.{slotAt, standing, holds, rowAt, rowOffset, rowArea}
+use Rattle.index.specs.declared.Row.{Row}
 use Rattle.index.specs.KeptLaws.{row-stands, row-free}
 use Rattle.index.specs.KeptRowsLaws.{slot-within, row-ends}
 use Rattle.room.specs.Room.{isEmpty}
 use Rattle.ranges.specs.Ranges.{rangesOf}
 use Rattle.ranges.specs.RangesLaws.{range-empty, ranges-end}
+use Rattle.houses.specs.Houses.{ownerAt}
 use Rattle.packing.specs.Order.{rangeCount, rangesCount}
 use Rattle.packing.specs.Apart.{RangesApart}
 use Rattle.packing.specs.OrderLaws.{full-count}
 use Rattle.packing.specs.SumLaws.{sum-ends}
 use Rattle.packing.specs.PackingLaws.{new-slot-in, count-le, new-ends}
-use Rattle.collect.specs.Collect.{slotTo, offsetTo, entryMoved, areaTo, entryTo, entryPlaceTo}
+use Rattle.collect.specs.Collect.{slotTo, offsetTo, entryMoved, areaTo, entryTo, entryPlaceTo, ownerTo}
 
 -- a deal that can be collected: its size is allowed, and no two standing areas overlap
 pub record Collectable (deal : List ℕ) : Type 0 where
@@ -44,6 +47,22 @@ module _ (deal : List ℕ) (t : DealSize (length deal)) (j : ℕ) where
       part-length deal (rowOffset row) (rowArea row)
       (omega (arith, row-ends (length deal) (slotAt deal j) t, index-start-le (length deal)))
 
+  -- a string that is brought for a standing entry alone, and then has n bytes
+  brought-length : (n : ℕ) (string : Row → List ℕ)
+      → length (string (holds (commitmentIn (slotAt deal j)) (offsetIn (slotAt deal j)) (sizeIn (slotAt deal j)))) ≡ n
+      → length (choose (rowAt deal j .stands) (string (rowAt deal j)) []) ≡ n * rangeCount (rangesOf deal j)
+  brought-length n string l = by-test (standing (length deal) (slotAt deal j)) refl
+    where
+      by-test : (b : Bool) → standing (length deal) (slotAt deal j) ≡ b
+          → length (choose (rowAt deal j .stands) (string (rowAt deal j)) []) ≡ n * rangeCount (rangesOf deal j)
+      by-test true e =
+          rw (full-count (rangesOf deal j) (stands-full e), row-stands (length deal) (slotAt deal j) e)
+          (omega (arith, l))
+      by-test false e = rw (row-free (length deal) (slotAt deal j) e) (omega arith)
+
+  pub owner-length : (table : List ℕ) → length (ownerTo deal table j) ≡ rangeCount (rangesOf deal j)
+  owner-length table = omega (arith, brought-length 1 (λ r. ownerAt table j ∷ []) refl)
+
   module _ (h : j < entryCount (length deal)) where
     pub commitment-length : length (commitmentIn (slotAt deal j)) ≡ 32
     unfolding commitmentIn
@@ -52,14 +71,9 @@ module _ (deal : List ℕ) (t : DealSize (length deal)) (j : ℕ) where
         (omega (arith, part-length deal (slotPlace (length deal) j) 64 (slot-within (length deal) j t h)))
 
     pub moved-length : (offset : ℕ) → length (entryMoved (rowAt deal j) offset) ≡ 64 * rangeCount (rangesOf deal j)
-    moved-length offset = by-test (standing (length deal) (slotAt deal j)) refl
-      where
-        by-test : (b : Bool) → standing (length deal) (slotAt deal j) ≡ b
-            → length (entryMoved (rowAt deal j) offset) ≡ 64 * rangeCount (rangesOf deal j)
-        by-test true e =
-            rw (full-count (rangesOf deal j) (stands-full e), row-stands (length deal) (slotAt deal j) e)
-            (entry-length (commitmentIn (slotAt deal j)) offset (sizeIn (slotAt deal j)) commitment-length)
-        by-test false e = rw (row-free (length deal) (slotAt deal j) e)
+    moved-length offset =
+        brought-length 64 (λ r. entryOf (r .commitment) offset (r .size))
+        (entry-length (commitmentIn (slotAt deal j)) offset (sizeIn (slotAt deal j)) commitment-length)
 
 module _ {deal : List ℕ} (c : Collectable deal) where
   pub sized : DealSize (length deal)
@@ -77,7 +91,8 @@ module _ {deal : List ℕ} (c : Collectable deal) where
         (ranges-end deal sized) j h
 
     -- a new slot is one of the first, as many as standing entries
-    slot-ends : slotTo deal j + rangeCount (rangesOf deal j) ≤ rangesCount (rangesOf deal) (entryCount (length deal))
+    pub slot-ends : slotTo deal j + rangeCount (rangesOf deal j)
+        ≤ rangesCount (rangesOf deal) (entryCount (length deal))
     slot-ends = sum-ends rangeCount (rangesOf deal) (entryCount (length deal)) j h
 
     pub slot-in : standing (length deal) (slotAt deal j) ≡ true → slotTo deal j < entryCount (length deal)

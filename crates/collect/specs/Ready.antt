@@ -1,5 +1,5 @@
 -- A deal that can be collected, and the ranges that were gathered of its slots: what the routines that write the new
--- deal ask for.
+-- deal and the new table ask for.
 use mathlib.Core.Path.{_≡_}
 use mathlib.Core.Bool.{true}
 use mathlib.Core.List.{List}

@@ -1,32 +1,57 @@
--- Runs of calls that change a deal: bookings and cancellations in turn, whatever their codes.
+-- Runs of calls that change a deal and its table: bookings and cancellations by either house in turn, whatever their
+-- codes (document 02, request (x)).
+use mathlib.Core.Path.{_≡_}
 use mathlib.Core.Logic.{_≢_}
 use Prim.Native.Nat.{ℕ}
 use mathlib.Core.List.{List, [], _∷_}
 use Rattle.lent.specs.LentDeal.{LentDeal, lentDeal}
-use Rattle.booking.specs.Booking.{bookedDeal}
-use Rattle.cancel.specs.Cancel.{cancelledDeal}
+use Rattle.room.specs.declared.Booked.{Booked}
+use Rattle.booking.specs.Booking.{bookAnswer, bookedDeal, bookedTable}
+use Rattle.cancel.specs.Cancel.{cancelledDeal, cancelledTable}
 
--- a call: a segment is booked, or the entry at a place is cancelled
+-- a call: a house books a segment, or cancels the entry at a place
 pub data Call : Type 0 where
-  bookSegment : List ℕ → Call
-  cancelPlace : ℕ → Call
+  bookSegment : ℕ → List ℕ → Call
+  cancelPlace : ℕ → ℕ → Call
 
--- the deal after a call, with a tree beside it or without one
-abbrev pub dealAfterCall : Call → LentDeal → List ℕ
-dealAfterCall (bookSegment segment) deal = bookedDeal deal segment
-dealAfterCall (cancelPlace place) deal = cancelledDeal deal place
+-- a deal and the table beside it
+pub record DealAndTable : Type 0 where
+  pub deal : List ℕ
+  pub table : List ℕ
 
--- the deal after calls in turn by the plain forms
-unfoldable pub runCalls : List ℕ → List Call → List ℕ
-runCalls deal [] = deal
-runCalls deal (call ∷ later) = runCalls (dealAfterCall call (lentDeal deal)) later
+-- the answer of booking a segment there for a house, by the plain form
+abbrev pub answerIn : DealAndTable → ℕ → List ℕ → Booked
+answerIn now house segment = bookAnswer (lentDeal (now .deal)) (now .table) house segment
 
--- a call does not cancel an entry place
-abbrev pub DoesNotCancel : ℕ → Call → Type 0
-DoesNotCancel place (bookSegment segment) = Unit {0}
-DoesNotCancel place (cancelPlace other) = other ≢ place
+-- the deal and the table after a call, with a tree beside the deal or without one
+abbrev pub dealAfterCall : Call → LentDeal → List ℕ → List ℕ
+dealAfterCall (bookSegment house segment) deal table = bookedDeal deal table house segment
+dealAfterCall (cancelPlace house place) deal table = cancelledDeal deal table house place
 
--- none of the calls of a run does; bookings alone cancel none
-abbrev pub NoneCancels : ℕ → List Call → Type 0
-NoneCancels place [] = Unit {0}
-NoneCancels place (call ∷ later) = DoesNotCancel place call × NoneCancels place later
+abbrev pub tableAfterCall : Call → LentDeal → List ℕ → List ℕ
+tableAfterCall (bookSegment house segment) deal table = bookedTable deal table house segment
+tableAfterCall (cancelPlace house place) deal table = cancelledTable deal table house place
+
+-- both after a call by the plain form ..
+abbrev pub afterPlainCall : Call → DealAndTable → DealAndTable
+afterPlainCall call was =
+    record {
+      deal = dealAfterCall call (lentDeal (was .deal)) (was .table);
+      table = tableAfterCall call (lentDeal (was .deal)) (was .table);
+    }
+
+-- .. and after such calls in turn
+unfoldable pub runCalls : DealAndTable → List Call → DealAndTable
+runCalls was [] = was
+runCalls was (call ∷ later) = runCalls (afterPlainCall call was) later
+
+-- a call does not cancel an entry place for a house. All bookings are let in, and so are the other house's
+-- cancellations of that place: where an entry of the house stands they get 16 (Cancelling.others-entries-get-16)
+abbrev pub DoesNotCancel : ℕ → ℕ → Call → Type 0
+DoesNotCancel house place (bookSegment by segment) = Unit {0}
+DoesNotCancel house place (cancelPlace by other) = by ≡ house → other ≢ place
+
+-- none of the calls of a run does
+abbrev pub NoneCancels : ℕ → ℕ → List Call → Type 0
+NoneCancels house place [] = Unit {0}
+NoneCancels house place (call ∷ later) = DoesNotCancel house place call × NoneCancels house place later

@@ -1,4 +1,4 @@
--- What is kept stays kept over a run of calls that does not cancel it (demand 2).
+-- What a house keeps stays kept over a run of calls in which the house does not cancel it (demand 2).
 use mathlib.Core.Path.{_≡_, refl, sym, ap, _∙_, subst}
 use mathlib.Core.List.{List, [], _∷_}
 use Prim.Native.Nat.{ℕ, _<_}
@@ -8,12 +8,12 @@ use lib.ListN.{length}
 use Rattle.sizes.specs.Sizes.{entryCount, slotPlace}
 use Rattle.lent.specs.LentDeal.{lentDeal}
 use Rattle.room.specs.declared.Booked.{Booked}
-use Rattle.booking.specs.Booking.{keepsSegment, bookAnswer}
-use Rattle.booking.specs.BookableLaws.{Bookable}
+use Rattle.booking.specs.Booking.{keepsOwn}
+use Rattle.booking.specs.BookableLaws.{BookableFor}
 use Rattle.booking.specs.BookedLaws.{booked-length}
-use Rattle.booking.specs.NeverAgain.{kept-after-booking, keeps-after-booking, bookable-after-booking}
+use Rattle.booking.specs.NeverAgain.{kept-after-booking, own-after-booking, bookable-after-booking}
 use Rattle.cancel.specs.CancelLaws.{cancelled-length}
-use Rattle.demands.specs.Calls.{Call, bookSegment, cancelPlace, dealAfterCall, runCalls}
+use Rattle.demands.specs.Calls.{Call, bookSegment, cancelPlace, DealAndTable, answerIn, afterPlainCall, runCalls}
 use Rattle.demands.specs.Calls.{DoesNotCancel, NoneCancels}
 use Rattle.demands.specs.CancelKeepLaws.{
   bookable-after-cancelling,
@@ -21,61 +21,67 @@ use Rattle.demands.specs.CancelKeepLaws.{
   kept-after-cancelling,
 }
 
--- code 15 stays, with the same numbers, after a call that does not cancel the place ..
-pub kept-after-call : (deal segment : List ℕ) (call : Call) → bookAnswer (lentDeal deal) segment .code ≡ 15
-    → DoesNotCancel (bookAnswer (lentDeal deal) segment .place) call
-    → bookAnswer (lentDeal (dealAfterCall call (lentDeal deal))) segment ≡ bookAnswer (lentDeal deal) segment
-kept-after-call deal segment (bookSegment other) h n = kept-after-booking deal segment other h
-kept-after-call deal segment (cancelPlace place) h n = kept-after-cancelling deal segment place h n
+-- the length of the deal stays
+pub call-length : (was : DealAndTable) (call : Call) → length (afterPlainCall call was .deal) ≡ length (was .deal)
+call-length was (bookSegment by other) = booked-length (lentDeal (was .deal)) (was .table) by other
+call-length was (cancelPlace by place) = cancelled-length (lentDeal (was .deal)) (was .table) by place
 
--- .. and after any run of such calls
-pub kept-after-calls : (deal segment : List ℕ) (later : List Call) → bookAnswer (lentDeal deal) segment .code ≡ 15
-    → NoneCancels (bookAnswer (lentDeal deal) segment .place) later
-    → bookAnswer (lentDeal (runCalls deal later)) segment ≡ bookAnswer (lentDeal deal) segment
+pub run-length : (was : DealAndTable) (calls : List Call) → length (runCalls was calls .deal) ≡ length (was .deal)
 unfolding runCalls
-kept-after-calls deal segment [] h n = refl
-kept-after-calls deal segment (call ∷ later) h n =
-    let next = dealAfterCall call (lentDeal deal) in
-    let once : bookAnswer (lentDeal next) segment ≡ bookAnswer (lentDeal deal) segment =
-    kept-after-call deal segment call h (n .0) in
-    kept-after-calls next segment later (ap (λ (a : Booked). a .code) once ∙ h)
-    (subst (λ (a : Booked). NoneCancels (a .place) later) (sym once) (n .1))
-    ∙ once
+run-length was [] = refl
+run-length was (call ∷ later) = run-length (afterPlainCall call was) later ∙ call-length was call
 
--- slot i of a deal keeps a segment, and no rule refuses to book that before the slots are looked at
-pub record Keeping (deal segment : List ℕ) (i : ℕ) : Type 0 where
-  pub bookable : Bookable (lentDeal deal) segment
-  pub slot-in : i < entryCount (length deal)
-  pub keeps : keepsSegment (lentDeal deal) segment i ≡ true
+module _ (house : ℕ) (segment : List ℕ) where
+  -- code 15 stays for a house, with the same numbers, after a call that does not cancel the place for it ..
+  kept-after-call : (was : DealAndTable) (call : Call) → answerIn was house segment .code ≡ 15
+      → DoesNotCancel house (answerIn was house segment .place) call
+      → answerIn (afterPlainCall call was) house segment ≡ answerIn was house segment
+  kept-after-call was (bookSegment by other) h n =
+      kept-after-booking (was .deal) (was .table) house segment by other h
+  kept-after-call was (cancelPlace by place) h n =
+      kept-after-cancelling (was .deal) (was .table) by place house segment h n
 
--- it does so after a call that does not cancel the slot's place, which stays that of the slot, ..
-pub keeping-after-call : (deal segment : List ℕ) (i : ℕ) (call : Call) → Keeping deal segment i
-    → DoesNotCancel (slotPlace (length deal) i) call
-    → let next = dealAfterCall call (lentDeal deal) in (length next ≡ length deal) × Keeping next segment i
-keeping-after-call deal segment i (bookSegment other) k n = (
-  booked-length (lentDeal deal) other,
-  record {
-    bookable = bookable-after-booking deal segment other (k .bookable);
-    slot-in = omega (arith, k .slot-in, ap entryCount (booked-length (lentDeal deal) other));
-    keeps = keeps-after-booking deal segment other i (k .slot-in) (k .keeps);
-  },
-)
-keeping-after-call deal segment i (cancelPlace place) k n = (
-  cancelled-length (lentDeal deal) place,
-  record {
-    bookable = bookable-after-cancelling (lentDeal deal) place segment (k .bookable);
-    slot-in = omega (arith, k .slot-in, ap entryCount (cancelled-length (lentDeal deal) place));
-    keeps = keeps-after-cancelling deal segment place i (k .slot-in) n ∙ k .keeps;
-  },
-)
+  -- .. and after any run of such calls
+  pub kept-after-calls : (was : DealAndTable) (later : List Call) → answerIn was house segment .code ≡ 15
+      → NoneCancels house (answerIn was house segment .place) later
+      → answerIn (runCalls was later) house segment ≡ answerIn was house segment
+  unfolding runCalls
+  kept-after-calls was [] h n = refl
+  kept-after-calls was (call ∷ later) h n =
+      let once : answerIn (afterPlainCall call was) house segment ≡ answerIn was house segment =
+      kept-after-call was call h (n .0) in
+      kept-after-calls (afterPlainCall call was) later (ap (λ (a : Booked). a .code) once ∙ h)
+      (subst (λ (a : Booked). NoneCancels house (a .place) later) (sym once) (n .1))
+      ∙ once
 
--- .. and after any run of such calls
-pub keeping-after-calls : (deal segment : List ℕ) (i : ℕ) (later : List Call) → Keeping deal segment i
-    → NoneCancels (slotPlace (length deal) i) later → Keeping (runCalls deal later) segment i
-unfolding runCalls
-keeping-after-calls deal segment i [] k n = k
-keeping-after-calls deal segment i (call ∷ later) k n =
-    let next = dealAfterCall call (lentDeal deal) in
-    let once = keeping-after-call deal segment i call k (n .0) in
-    keeping-after-calls next segment i later (once .1)
-    (subst (λ (d : ℕ). NoneCancels (slotPlace d i) later) (sym (once .0)) (n .1))
+  -- slot i of a deal is the house's and keeps the segment, and no rule refuses to book that before the slots are looked
+  -- at
+  pub record Keeping (now : DealAndTable) (i : ℕ) : Type 0 where
+    pub bookable : BookableFor (lentDeal (now .deal)) (now .table) house segment
+    pub slot-in : i < entryCount (length (now .deal))
+    pub keeps : keepsOwn (lentDeal (now .deal)) (now .table) house segment i ≡ true
+
+  -- it does so after a call that does not cancel the slot's place for the house ..
+  keeping-after-call : (was : DealAndTable) (i : ℕ) (call : Call) → Keeping was i
+      → DoesNotCancel house (slotPlace (length (was .deal)) i) call → Keeping (afterPlainCall call was) i
+  keeping-after-call was i (bookSegment by other) k n =
+      record {
+        bookable = bookable-after-booking (was .deal) (was .table) house segment by other (k .bookable);
+        slot-in = omega (arith, k .slot-in, ap entryCount (call-length was (bookSegment by other)));
+        keeps = own-after-booking (was .deal) (was .table) house segment by other i (k .slot-in) (k .keeps);
+      }
+  keeping-after-call was i (cancelPlace by place) k n =
+      record {
+        bookable = bookable-after-cancelling (lentDeal (was .deal)) (was .table) by place house segment (k .bookable);
+        slot-in = omega (arith, k .slot-in, ap entryCount (call-length was (cancelPlace by place)));
+        keeps = keeps-after-cancelling (was .deal) (was .table) by place house segment i (k .slot-in) n (k .keeps);
+      }
+
+  -- .. and after any run of such calls: the place stays that of the slot
+  pub keeping-after-calls : (was : DealAndTable) (i : ℕ) (later : List Call) → Keeping was i
+      → NoneCancels house (slotPlace (length (was .deal)) i) later → Keeping (runCalls was later) i
+  unfolding runCalls
+  keeping-after-calls was i [] k n = k
+  keeping-after-calls was i (call ∷ later) k n =
+      keeping-after-calls (afterPlainCall call was) i later (keeping-after-call was i call k (n .0))
+      (subst (λ (d : ℕ). NoneCancels house (slotPlace d i) later) (sym (call-length was call)) (n .1))

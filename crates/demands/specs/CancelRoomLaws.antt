@@ -26,7 +26,7 @@ none-covered : (o n : ℕ) → overlap o n 0 0 ≡ false
 none-covered o n = overlap-false o n 0 0 .1 (inl (omega arith))
 
 -- the range of a slot overlaps what its entry covers
-covers-range : (deal : List ℕ) (n o j : ℕ) → overlaps o n (rangesOf deal j) ≡ covers deal n o j
+pub covers-range : (deal : List ℕ) (n o j : ℕ) → overlaps o n (rangesOf deal j) ≡ covers deal n o j
 unfolding covers
 covers-range deal n o j = by-test (standing (length deal) (slotAt deal j)) refl
   where
@@ -36,18 +36,19 @@ covers-range deal n o j = by-test (standing (length deal) (slotAt deal j)) refl
     by-test false e =
         rw e (ap (overlaps o n) (range-free (length deal) (slotAt deal j) e) ∙ none-covered o n)
 
-module _ (deal : LentDeal) (place : ℕ) (e : cancelCode deal place ≡ 0) (n o : ℕ) where
+module _ (deal : LentDeal) (table : List ℕ) (house place : ℕ) (e : cancelCode deal table house place ≡ 0)
+    (n o : ℕ) where
   abbrev after : List ℕ
-  after = cancelledDeal deal place
+  after = cancelledDeal deal table house place
 
   pub cancelled-room :
-      (fits (rangesOf (cancelledDeal deal place)) (entryCount (dealSize deal)) n o ≡ true)
+      (fits (rangesOf (cancelledDeal deal table house place)) (entryCount (dealSize deal)) n o ≡ true)
       ↔ ((j : ℕ) → j < entryCount (dealSize deal) → j ≢ slotOf (dealSize deal) place
       → covers (deal .bytes) n o j ≡ false)
   cancelled-room = (
     λ t j h ne.
         sym (covers-range (deal .bytes) n o j)
-        ∙ sym (ap (λ (r : Row). overlaps o n (rowRange r)) (cancelled-row-other deal place j h ne))
+        ∙ sym (ap (λ (r : Row). overlaps o n (rowRange r)) (cancelled-row-other deal table house place j h ne))
         ∙ fits-true (rangesOf after) (entryCount (dealSize deal)) n o .0 t j h,
     λ f. fits-true (rangesOf after) (entryCount (dealSize deal)) n o .1 (λ j h. none j h f),
   )
@@ -60,10 +61,10 @@ module _ (deal : LentDeal) (place : ℕ) (e : cancelCode deal place ≡ 0) (n o 
           elim (ℕ-discrete j (slotOf (dealSize deal) place)) [
             | yes here ↦
                 ap (λ (k : ℕ). overlaps o n (rangesOf after k)) here
-                ∙ ap (λ (r : Row). overlaps o n (rowRange r)) (cancelled-free deal place e)
+                ∙ ap (λ (r : Row). overlaps o n (rowRange r)) (cancelled-free deal table house place e)
                 ∙ none-covered o n
             | no ne ↦
-                ap (λ (r : Row). overlaps o n (rowRange r)) (cancelled-row-other deal place j h ne)
+                ap (λ (r : Row). overlaps o n (rowRange r)) (cancelled-row-other deal table house place j h ne)
                 ∙ covers-range (deal .bytes) n o j
                 ∙ f j h ne
           ]

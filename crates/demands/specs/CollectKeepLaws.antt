@@ -1,10 +1,11 @@
 -- What the slots of a collected deal keep: a standing entry's new slot keeps the segments, and the commitments, that
--- its old one kept.
+-- its old one kept, for the house for which it kept them.
 use mathlib.Core.Path.{_≡_, sym, ap, ap₂, _∙_, subst}
 use mathlib.Core.Bool.{Bool, true, _&&_}
 use Prim.Native.Nat.{ℕ, _<_}
 use mathlib.Core.List.{List}
 use lib.ListN.{length}
+use lib.Dec.{eqb}
 use Rattle.octets.specs.Equality.{sameBytes}
 use Rattle.sizes.specs.Sizes.{entryCount}
 use Rattle.sizes.specs.SizesLaws.{DealSize}
@@ -15,12 +16,13 @@ use Rattle.index.specs.KeptLaws.{row-stands}
 use Rattle.index.specs.KeptRows.{areaOf}
 use Rattle.index.specs.Find.{keepsCommitment}
 use Rattle.index.specs.declared.Row.{Row}
-use Rattle.booking.specs.Booking.{keepsSegment}
+use Rattle.booking.specs.Booking.{keepsSegment, keepsOwn}
 use Rattle.booking.specs.KeepRows.{rowKeeps}
 use Rattle.booking.specs.KeepRowsLaws.{keeps-row, keeps-moved}
-use Rattle.collect.specs.Collect.{slotTo, offsetTo, collectedDeal}
+use Rattle.collect.specs.Collect.{slotTo, offsetTo, collectedDeal, collectedTable}
 use Rattle.collect.specs.MovesLaws.{Collectable, sized}
 use Rattle.collect.specs.CollectLaws.{collected-length}
+use Rattle.collect.specs.OwnersLaws.{moved-owner}
 use Rattle.collect.specs.CollectRows.{collected-row, collected-kept, moved-commitment, moved-area}
 
 module _ {deal : List ℕ} (c : Collectable deal) (j : ℕ) (h : j < entryCount (length deal))
@@ -53,6 +55,12 @@ module _ {deal : List ℕ} (c : Collectable deal) (j : ℕ) (h : j < entryCount 
       ∙ keeps-moved segment (commitmentIn entry) (offsetIn entry) (offsetTo deal j) (sizeIn entry) (areaOf deal was)
       ∙ sym (ap (λ (r : Row). rowKeeps segment r (areaOf deal r)) row-was)
       ∙ sym (keeps-row deal segment j (sized c))
+
+  pub collected-own : (table : List ℕ) (house : ℕ) (segment : List ℕ)
+      → keepsOwn (lentDeal (collectedDeal deal)) (collectedTable deal table) house segment (slotTo deal j)
+      ≡ keepsOwn (lentDeal deal) table house segment j
+  collected-own table house segment =
+      ap₂ _&&_ (ap (λ (owner : ℕ). eqb owner house) (moved-owner c table j h e)) (collected-keeps segment)
 
   pub collected-names : (commitment : List ℕ)
       → keepsCommitment (lentDeal (collectedDeal deal)) commitment (slotTo deal j)

@@ -23,24 +23,36 @@ use Rattle.index.specs.declared.Row.{Row}
 use Rattle.index.specs.Find.{keepsCommitment, findNumbers}
 use Rattle.index.specs.FindLaws.{Searched, find-zero, find-some}
 use Rattle.room.specs.declared.Booked.{Booked}
-use Rattle.booking.specs.Booking.{keepsSegment, bookAnswer}
-use Rattle.booking.specs.KeepLaws.{keeps-stands, keeps-bookable}
+use Rattle.houses.specs.Houses.{houseAllowed, tableSized}
+use Rattle.booking.specs.Booking.{keepsOwn, bookAnswer}
+use Rattle.booking.specs.BookableLaws.{BookableFor}
+use Rattle.booking.specs.KeepLaws.{keeps-bookable}
+use Rattle.booking.specs.OwnLaws.{own-keeps, own-stands}
 use Rattle.booking.specs.AlreadyLaws.{answer-kept}
 use Rattle.booking.specs.NeverAgain.{kept-is-15}
-use Rattle.collect.specs.Collect.{slotTo, offsetTo, placeTo, collectedDeal}
+use Rattle.collect.specs.Collect.{slotTo, offsetTo, placeTo, collectedDeal, collectedTable}
 use Rattle.collect.specs.MovesLaws.{Collectable, sized, slot-in}
 use Rattle.collect.specs.CollectLaws.{collected-length, collected-slot}
 use Rattle.collect.specs.CollectRows.{collected-row, collected-kept}
 use Rattle.collect.specs.CollectPacked.{From, standing-from}
 use Rattle.collect.specs.CollectClear.{collected-clear}
-use Rattle.demands.specs.CollectKeepLaws.{collected-keeps, collected-names}
+use Rattle.collect.specs.OwnersLaws.{owners-sized}
+use Rattle.demands.specs.CollectKeepLaws.{collected-own, collected-names}
 
--- booking answers 15 where some slot of a deal keeps the segment
-keeps-15 : (deal segment : List ℕ) (i : ℕ) → dealRefusal (lentDeal deal) ≡ 0 → i < entryCount (length deal)
-    → keepsSegment (lentDeal deal) segment i ≡ true → bookAnswer (lentDeal deal) segment .code ≡ 15
-keeps-15 deal segment i z h k =
-    ap (λ (b : Booked). b .code)
-    (kept-is-15 deal segment i (keeps-bookable (lentDeal deal) segment i z k) h k .2)
+-- booking answers 15 to a house where some slot of a deal is the house's and keeps the segment
+keeps-15 : (deal table : List ℕ) (house : ℕ) (segment : List ℕ) (i : ℕ) → dealRefusal (lentDeal deal) ≡ 0
+    → houseAllowed house ≡ true → tableSized (length deal) table ≡ true → i < entryCount (length deal)
+    → keepsOwn (lentDeal deal) table house segment i ≡ true
+    → bookAnswer (lentDeal deal) table house segment .code ≡ 15
+keeps-15 deal table house segment i z a t h k =
+    let b : BookableFor (lentDeal deal) table house segment =
+    record {
+      house-allowed = a;
+      table-sized = t;
+      bookable =
+          keeps-bookable (lentDeal deal) segment i z (own-keeps (lentDeal deal) table house segment i k);
+    } in
+    ap (λ (x : Booked). x .code) (kept-is-15 deal table house segment i b h k .2)
 
 -- and finding looks at the slots
 searched-in : (deal commitment : List ℕ) → dealRefusal (lentDeal deal) ≡ 0 → length commitment ≡ 32
@@ -123,28 +135,30 @@ module _ {deal : List ℕ} (c : Collectable deal) where
     passes : dealRefusal (lentDeal deal) ≡ 0
     passes = none-refusal (lentDeal deal) (c .lent) clear refl
 
-    pub collected-15 : (segment : List ℕ)
-        → (bookAnswer (lentDeal deal) segment .code ≡ 15)
-        ↔ (bookAnswer (lentDeal (collectedDeal deal)) segment .code ≡ 15)
-    collected-15 segment = (
-      λ z.
-          let k = answer-kept (lentDeal deal) segment z in
-          let j = k .0 in
-          let kept-there = k .1 .lowest-keeping .passes in
-          let h : j < entryCount (length deal) = omega (arith, k .1 .lowest-keeping .below) in
-          let s = keeps-stands (lentDeal deal) segment j kept-there in
-          keeps-15 new segment (slotTo deal j) collected-passes (in-new (slotTo deal j) (slot-in c j h s))
-          (collected-keeps c j h s segment ∙ kept-there),
-      λ z.
-          let k = answer-kept (lentDeal new) segment z in
-          let kept-there = k .1 .lowest-keeping .passes in
-          let f = from (k .0) (omega (arith, k .1 .lowest-keeping .below))
-          (keeps-stands (lentDeal new) segment (k .0) kept-there) in
-          keeps-15 deal segment (f .old) passes (f .old-in)
-          (sym (collected-keeps c (f .old) (f .old-in) (f .stood) segment)
-          ∙ ap (keepsSegment (lentDeal new) segment) (f .moves)
-          ∙ kept-there),
-    )
+    pub collected-15 : (table : List ℕ) → tableSized (length deal) table ≡ true → (house : ℕ) (segment : List ℕ)
+        → (bookAnswer (lentDeal deal) table house segment .code ≡ 15)
+        ↔ (bookAnswer (lentDeal (collectedDeal deal)) (collectedTable deal table) house segment .code ≡ 15)
+    collected-15 table t house segment =
+        let owners = collectedTable deal table in (
+          λ z.
+              let k = answer-kept (lentDeal deal) table house segment z in
+              let j = k .0 in
+              let kept-there = k .1 .lowest-keeping .passes in
+              let h : j < entryCount (length deal) = omega (arith, k .1 .lowest-keeping .below) in
+              let s = own-stands (lentDeal deal) table house segment j kept-there in
+              keeps-15 new owners house segment (slotTo deal j) collected-passes (k .1 .bookable .house-allowed)
+              (owners-sized c table) (in-new (slotTo deal j) (slot-in c j h s))
+              (collected-own c j h s table house segment ∙ kept-there),
+          λ z.
+              let k = answer-kept (lentDeal new) owners house segment z in
+              let kept-there = k .1 .lowest-keeping .passes in
+              let f = from (k .0) (omega (arith, k .1 .lowest-keeping .below))
+              (own-stands (lentDeal new) owners house segment (k .0) kept-there) in
+              keeps-15 deal table house segment (f .old) passes (k .1 .bookable .house-allowed) t (f .old-in)
+              (sym (collected-own c (f .old) (f .old-in) (f .stood) table house segment)
+              ∙ ap (keepsOwn (lentDeal new) owners house segment) (f .moves)
+              ∙ kept-there),
+        )
 
     pub collected-found : (commitment : List ℕ)
         → (findNumbers (lentDeal deal) commitment .code ≡ 0)

@@ -1,11 +1,12 @@
--- Request (viii), collection (document 02: "Collection writes a new deal into a second lent buffer of equal length
--- (else 12): standing segments, all A bytes of each, by falling A, equal ones by old offset, packed from 0, entries
--- (new offset and checksum) from the first slot in that order, all else zero. It is refused with 20 if two standing
--- entries overlap"). Any code but 0 changes nothing (TreeForms.refused-collecting).
+-- Requests (viii) and (x), collection (document 02: "Collection writes a new deal into a second lent buffer of equal
+-- length (else 12): standing segments, all A bytes of each, by falling A, equal ones by old offset, packed from 0,
+-- entries (new offset and checksum) from the first slot in that order, all else zero. It is refused with 20 if two
+-- standing entries overlap"; "collection writes each moved entry's byte, as it was, for its new slot, zeros after them,
+-- into a second table"). Any code but 0 changes nothing (TreeForms.refused-collecting).
 -- "Old records belong to the old commitment; demand 3 speaks of the commitment a record is checked against": the new
 -- deal has a commitment of its own. A record of the old deal goes on settling against the old one (Demand3), and each
 -- kept entry has a record of the new deal, with whatever number that one has (`moved-is-built`).
-use mathlib.Core.Path.{_≡_, _∙_}
+use mathlib.Core.Path.{_≡_, sym, ap, _∙_}
 use mathlib.Core.Bool.{true}
 use mathlib.Core.Logic.{_↔_, inl}
 use Prim.Native.Nat.{ℕ, _+_, _^_, _%_, _≤_, _<_}
@@ -30,18 +31,22 @@ use Rattle.packing.specs.OrderLaws.{First, first-true}
 use Rattle.packing.specs.SumLaws.{sum-ends}
 use Rattle.packing.specs.OrderUnique.{new-slot-only}
 use Rattle.packing.specs.PackedOffsets.{packed-offset}
-use Rattle.booking.specs.Booking.{keepsSegment, bookAnswer}
+use Rattle.houses.specs.Houses.{ownerAt}
+use Rattle.booking.specs.Booking.{keepsSegment, keepsOwn, heldIn, bookAnswer}
 use Rattle.record.specs.Check.{dealTerms, checkOf}
-use Rattle.collect.specs.Collect.{slotTo, offsetTo, placeTo, collectedDeal, collectCode, secondDeal}
+use Rattle.collect.specs.Collect.{slotTo, offsetTo, placeTo, collectedDeal, collectedTable}
+use Rattle.collect.specs.Collect.{collectCode, secondDeal, secondOwners}
 use Rattle.collect.specs.MovesLaws.{Collectable, sized, stands-full, full-stands, slot-in}
 use Rattle.collect.specs.CollectLaws as L
 use Rattle.collect.specs.CollectRows as R
 use Rattle.collect.specs.CollectPacked as P
 use Rattle.collect.specs.CollectClear as B
+use Rattle.collect.specs.OwnersLaws as O
 use Rattle.collect.specs.CodeLaws.{Collects, Overlaps, collects, refused-20}
-use Rattle.collect.specs.AnswerLaws.{deal-collected}
-use Rattle.demands.specs.CollectKeepLaws.{collected-keeps}
+use Rattle.collect.specs.AnswerLaws.{deal-collected, owners-collected}
+use Rattle.demands.specs.CollectKeepLaws.{collected-keeps, collected-own}
 use Rattle.demands.specs.CollectedLaws as D
+use Rattle.demands.specs.CollectedHeldLaws.{collected-held}
 use Rattle.demands.specs.BuildsExactly.{BuildsExactly}
 use Rattle.demands.specs.Demand2.{kept-is-built}
 
@@ -56,35 +61,48 @@ standingCount deal = rangesCount (rangesOf deal) (entryCount (length deal))
 abbrev pub standingSum : List ℕ → ℕ
 standingSum deal = rangesArea (rangesOf deal) (entryCount (length deal))
 
--- 0 is answered exactly if the deal's size is allowed, the second deal and a tree beside it have the lengths that it
--- asks, no node has stray bits, and no two standing areas overlap: it never fails for want of room. 20 is answered
--- exactly if two standing entries overlap and nothing else refuses.
-pub collects-exactly : (deal : List ℕ) (second : LentDeal) → (collectCode deal second ≡ 0) ↔ Collects deal second
+-- 0 is answered exactly if the deal's size is allowed, both tables, the second deal and a tree beside it have the
+-- lengths that it asks, no node has stray bits, and no two standing areas overlap: it never fails for want of room. 20
+-- is answered exactly if two standing entries overlap and nothing else refuses.
+pub collects-exactly : (deal table : List ℕ) (second : LentDeal) (secondTable : List ℕ)
+    → (collectCode deal table second secondTable ≡ 0) ↔ Collects deal table second secondTable
 collects-exactly = collects
 
-pub overlaps-exactly : (deal : List ℕ) (second : LentDeal) → (collectCode deal second ≡ 20) ↔ Overlaps deal second
+pub overlaps-exactly : (deal table : List ℕ) (second : LentDeal) (secondTable : List ℕ)
+    → (collectCode deal table second secondTable ≡ 20) ↔ Overlaps deal table second secondTable
 overlaps-exactly = refused-20
 
 -- Collection answered 0.
-module _ (deal : List ℕ) (second : LentDeal) (e : collectCode deal second ≡ 0) where
+module _ (deal table : List ℕ) (second : LentDeal) (secondTable : List ℕ)
+    (e : collectCode deal table second secondTable ≡ 0) where
+  facts : Collects deal table second secondTable
+  facts = collects deal table second secondTable .0 e
+
   c : Collectable deal
-  c = collects deal second .0 e .collectable
+  c = facts .collectable
 
   clear : noStrayBits deal ≡ true
-  clear = collects deal second .0 e .clear
+  clear = facts .clear
 
   abbrev slots : ℕ
   slots = entryCount (length deal)
 
   -- The second deal is the collected one, as long as the deal, and without stray bits.
-  pub second-is-collected : secondDeal deal second ≡ collectedDeal deal
-  second-is-collected = deal-collected deal second e
+  pub second-is-collected : secondDeal deal table second secondTable ≡ collectedDeal deal
+  second-is-collected = deal-collected deal table second secondTable e
 
   pub same-length : length (collectedDeal deal) ≡ length deal
   same-length = L.collected-length c
 
   pub no-stray-bits : noStrayBits (collectedDeal deal) ≡ true
   no-stray-bits = B.collected-clear c clear
+
+  -- The second table is the collected one, with one byte a slot.
+  pub second-table-is-collected : secondOwners deal table second secondTable ≡ collectedTable deal table
+  second-table-is-collected = owners-collected deal table second secondTable e
+
+  pub one-byte-a-slot : length (collectedTable deal table) ≡ entryCount (length (collectedDeal deal))
+  one-byte-a-slot = O.owners-length c table ∙ ap entryCount (sym (L.collected-length c))
 
   -- Room never runs out: each standing entry moves to a slot of the index, and its area to a multiple of itself from
   -- which it ends by the index start.
@@ -108,6 +126,20 @@ module _ (deal : List ℕ) (second : LentDeal) (e : collectCode deal second ≡ 
   pub later-slots-blank : (x : ℕ) → standingCount deal ≤ x → x < entryCount (length deal)
       → slotAt (collectedDeal deal) x ≡ replicate 64 0
   later-slots-blank = L.collected-blank c
+
+  -- In the second table each moved entry's byte, as it was, whatever it was, is that of its new slot, ..
+  pub moved-owner : (j : ℕ) → j < entryCount (length deal) → Stands deal j
+      → ownerAt (collectedTable deal table) (slotTo deal j) ≡ ownerAt table j
+  moved-owner = O.moved-owner c table
+
+  -- .. and every later byte is 0.
+  pub later-owners-zero : (x : ℕ) → standingCount deal ≤ x → x < entryCount (length deal)
+      → ownerAt (collectedTable deal table) x ≡ 0
+  later-owners-zero = O.owners-after c table
+
+  -- So a house holds as many slots as before: the quota stands as it stood.
+  pub same-held : (house : ℕ) → heldIn (collectedDeal deal) (collectedTable deal table) house ≡ heldIn deal table house
+  same-held = collected-held c table
 
   -- No other numbering keeps that order.
   pub only-order : (slot : ℕ → ℕ)
@@ -167,12 +199,18 @@ module _ (deal : List ℕ) (second : LentDeal) (e : collectCode deal second ≡ 
         → keepsSegment (lentDeal (collectedDeal deal)) segment (slotTo deal j) ≡ keepsSegment (lentDeal deal) segment j
     moved-keeps = collected-keeps c j h s
 
-  -- So exactly the segments that got 15 get 15 in the new deal, and exactly the commitments that were found are found
-  -- there.
-  pub already-kept-again : (segment : List ℕ)
-      → (bookAnswer (lentDeal deal) segment .code ≡ 15)
-      ↔ (bookAnswer (lentDeal (collectedDeal deal)) segment .code ≡ 15)
-  already-kept-again = D.collected-15 c clear
+    -- What it kept for a house it keeps for that house.
+    pub moved-keeps-own : (house : ℕ) (segment : List ℕ)
+        → keepsOwn (lentDeal (collectedDeal deal)) (collectedTable deal table) house segment (slotTo deal j)
+        ≡ keepsOwn (lentDeal deal) table house segment j
+    moved-keeps-own = collected-own c j h s table
+
+  -- So exactly the segments that got 15 for a house get 15 for that house in the new deal, by the new table, and
+  -- exactly the commitments that were found are found there.
+  pub already-kept-again : (house : ℕ) (segment : List ℕ)
+      → (bookAnswer (lentDeal deal) table house segment .code ≡ 15)
+      ↔ (bookAnswer (lentDeal (collectedDeal deal)) (collectedTable deal table) house segment .code ≡ 15)
+  already-kept-again = D.collected-15 c clear table (facts .table-sized)
 
   pub found-again : (commitment : List ℕ)
       → (findNumbers (lentDeal deal) commitment .code ≡ 0)

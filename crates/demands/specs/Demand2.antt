@@ -1,11 +1,12 @@
 -- Demand 2: whatever is built from a kept entry is accepted against its deal's number, commitment and size, where
--- building takes that same number (document 02, request (ix)); a segment already kept is never booked again in that
--- deal, unless its entry is cancelled (request (viii)). Every u64 is a deal number: `number < 2 ^ 64`.
+-- building takes that same number (document 02, request (ix)); a segment that a house already keeps is never booked
+-- again by that house in that deal (request (x)), unless it cancels its entry (request (viii)). Every u64 is a deal
+-- number: `number < 2 ^ 64`.
 use mathlib.Core.Path.{_≡_, refl, sym, ap, _∙_, subst}
 use mathlib.Core.Bool.{Bool, true, false}
 use Prim.Native.Nat.{ℕ, zero, suc, _^_, _≤_, _<_}
 use native.Mathlib.Omega.{arith}
-use mathlib.Core.List.{List}
+use mathlib.Core.List.{List, _∷_}
 use lib.ListN.{length}
 use lib.Dec.{leb}
 use borrow.Author.Tests.{leb-true}
@@ -31,14 +32,14 @@ use Rattle.lent.specs.LentDealLaws.{refusal-none}
 use Rattle.builder.specs.Build.{buildRules, termsOf, fieldsFor, Building, built, notBuilt, recordAt}
 use Rattle.builder.specs.Build.{answerFor, outputFor, buildAnswer, buildOutput}
 use Rattle.room.specs.declared.Booked.{Booked}
-use Rattle.booking.specs.Booking.{keepsSegment, bookAnswer, bookedDeal}
-use Rattle.booking.specs.BookableLaws.{Bookable}
+use Rattle.booking.specs.Booking.{keepsOwn}
+use Rattle.booking.specs.BookableLaws.{BookableFor}
 use Rattle.booking.specs.AlreadyLaws.{answer15}
 use Rattle.booking.specs.NeverAgain.{kept-is-15, booked-is-15}
 use Rattle.builder.specs.BuildLaws.{build-means, means-build, commitment-length, built-parses, built-accepted}
 use Rattle.demands.specs.BuildsExactly.{BuildsExactly}
 use Rattle.demands.specs.BuildsExactlyLaws.{builds-exactly}
-use Rattle.demands.specs.Calls.{Call, runCalls, NoneCancels}
+use Rattle.demands.specs.Calls.{Call, bookSegment, DealAndTable, answerIn, afterPlainCall, runCalls, NoneCancels}
 use Rattle.demands.specs.CallsLaws.{kept-after-calls, keeping-after-calls}
 
 -- for any source of nodes that is a tree over the deal
@@ -110,54 +111,64 @@ kept-is-built deal b z number place bound a k =
     let e = means-build (lentDeal deal) number place r (rules .0) (rules .1) refl a k refl in
     (r, builds-exactly (lentDeal deal) number place r e, accepted deal b number place bound r e)
 
--- Demand 2. A segment that was booked with code 0 gets 15, with the same offset and entry place, whatever calls come in
--- between, as long as none of them cancels that place.
-pub never-booked-again : (deal segment : List ℕ) → bookAnswer (lentDeal deal) segment .code ≡ 0
-    → (later : List Call) → NoneCancels (bookAnswer (lentDeal deal) segment .place) later
-    → bookAnswer (lentDeal (runCalls (bookedDeal (lentDeal deal) segment) later)) segment
+-- Demand 2, for each house (request (x): "So demand 2's "never again" now holds for each house"). A segment that a
+-- house booked with code 0 gets 15 for that house, with the same offset and entry place, whatever calls of both houses
+-- come in between, as long as the house cancels that place in none of them.
+pub never-booked-again : (was : DealAndTable) (house : ℕ) (segment : List ℕ) → answerIn was house segment .code ≡ 0
+    → (later : List Call) → NoneCancels house (answerIn was house segment .place) later
+    → answerIn (runCalls was (bookSegment house segment ∷ later)) house segment
     ≡ record {
       code = 15;
-      offset = bookAnswer (lentDeal deal) segment .offset;
-      place = bookAnswer (lentDeal deal) segment .place;
+      offset = answerIn was house segment .offset;
+      place = answerIn was house segment .place;
     }
-never-booked-again deal segment z later n =
-    let again = booked-is-15 deal segment z in
-    kept-after-calls (bookedDeal (lentDeal deal) segment) segment later (ap (λ (a : Booked). a .code) again)
-    (subst (λ (a : Booked). NoneCancels (a .place) later) (sym again) n)
+unfolding runCalls
+never-booked-again was house segment z later n =
+    let again = booked-is-15 (was .deal) (was .table) house segment z in
+    kept-after-calls house segment (afterPlainCall (bookSegment house segment) was) later
+    (ap (λ (a : Booked). a .code) again)
+    (subst (λ (a : Booked). NoneCancels house (a .place) later) (sym again) n)
     ∙ again
 
 -- and one that got 15 to begin with goes on getting it
-pub kept-never-booked : (deal segment : List ℕ) → bookAnswer (lentDeal deal) segment .code ≡ 15
-    → (later : List Call) → NoneCancels (bookAnswer (lentDeal deal) segment .place) later
-    → bookAnswer (lentDeal (runCalls deal later)) segment ≡ bookAnswer (lentDeal deal) segment
-kept-never-booked deal segment h later n = kept-after-calls deal segment later h n
+pub kept-never-booked : (was : DealAndTable) (house : ℕ) (segment : List ℕ) → answerIn was house segment .code ≡ 15
+    → (later : List Call) → NoneCancels house (answerIn was house segment .place) later
+    → answerIn (runCalls was later) house segment ≡ answerIn was house segment
+kept-never-booked was house segment h later n = kept-after-calls house segment was later h n
 
--- Demand 2. Where some slot of a deal keeps the segment, booking answers 15 with the offset and the entry place of the
--- lowest such slot, now and after any later calls that do not cancel that place.
-pub kept-is-never-booked : (deal segment : List ℕ) (i : ℕ) → Bookable (lentDeal deal) segment
-    → i < entryCount (length deal) → keepsSegment (lentDeal deal) segment i ≡ true
+-- Demand 2, for each house. Where some slot of a deal is a house's and keeps the segment, booking it answers 15 to that
+-- house, with the offset and the entry place of the lowest such slot, now and after any later calls of both houses in
+-- none of which the house cancels that place.
+pub kept-is-never-booked : (was : DealAndTable) (house : ℕ) (segment : List ℕ) (i : ℕ)
+    → BookableFor (lentDeal (was .deal)) (was .table) house segment → i < entryCount (length (was .deal))
+    → keepsOwn (lentDeal (was .deal)) (was .table) house segment i ≡ true
     → (j : ℕ)
-    × IsLowest (keepsSegment (lentDeal deal) segment) 0 (entryCount (length deal)) j
-    × ((later : List Call) → NoneCancels (slotPlace (length deal) j) later
-    → bookAnswer (lentDeal (runCalls deal later)) segment ≡ answer15 deal j)
-kept-is-never-booked deal segment i b h k =
-    let now = kept-is-15 deal segment i b h k in (
+    × IsLowest (keepsOwn (lentDeal (was .deal)) (was .table) house segment) 0 (entryCount (length (was .deal))) j
+    × ((later : List Call) → NoneCancels house (slotPlace (length (was .deal)) j) later
+    → answerIn (runCalls was later) house segment ≡ answer15 (was .deal) j)
+kept-is-never-booked was house segment i b h k =
+    let now = kept-is-15 (was .deal) (was .table) house segment i b h k in (
       now .0,
       now .1,
       λ later n.
-          kept-never-booked deal segment (ap (λ (a : Booked). a .code) (now .2)) later
-          (subst (λ (a : Booked). NoneCancels (a .place) later) (sym (now .2)) n)
+          kept-never-booked was house segment (ap (λ (a : Booked). a .code) (now .2)) later
+          (subst (λ (a : Booked). NoneCancels house (a .place) later) (sym (now .2)) n)
           ∙ now .2,
     )
 
--- Demand 2. A slot that keeps the segment goes on keeping it, and booking goes on answering 15, after any later calls
--- that do not cancel its place, be it the lowest such slot or not.
-pub kept-slot-is-never-booked : (deal segment : List ℕ) (i : ℕ) → Bookable (lentDeal deal) segment
-    → i < entryCount (length deal) → keepsSegment (lentDeal deal) segment i ≡ true
-    → (later : List Call) → NoneCancels (slotPlace (length deal) i) later
-    → (keepsSegment (lentDeal (runCalls deal later)) segment i ≡ true)
-    × (bookAnswer (lentDeal (runCalls deal later)) segment .code ≡ 15)
-kept-slot-is-never-booked deal segment i b h k later n =
-    let now = runCalls deal later in
-    let s = keeping-after-calls deal segment i later (record { bookable = b; slot-in = h; keeps = k }) n in
-    (s .keeps, ap (λ (a : Booked). a .code) (kept-is-15 now segment i (s .bookable) (s .slot-in) (s .keeps) .2))
+-- Demand 2, for each house. A slot of a house that keeps the segment goes on doing so, and booking goes on answering 15
+-- to the house, after any later calls of both houses in none of which the house cancels its place, be it the lowest
+-- such slot or not.
+pub kept-slot-is-never-booked : (was : DealAndTable) (house : ℕ) (segment : List ℕ) (i : ℕ)
+    → BookableFor (lentDeal (was .deal)) (was .table) house segment → i < entryCount (length (was .deal))
+    → keepsOwn (lentDeal (was .deal)) (was .table) house segment i ≡ true
+    → (later : List Call) → NoneCancels house (slotPlace (length (was .deal)) i) later
+    → let now = runCalls was later in
+    (keepsOwn (lentDeal (now .deal)) (now .table) house segment i ≡ true) × (answerIn now house segment .code ≡ 15)
+kept-slot-is-never-booked was house segment i b h k later n =
+    let now = runCalls was later in
+    let s = keeping-after-calls house segment was i later (record { bookable = b; slot-in = h; keeps = k }) n in (
+      s .keeps,
+      ap (λ (a : Booked). a .code)
+          (kept-is-15 (now .deal) (now .table) house segment i (s .bookable) (s .slot-in) (s .keeps) .2),
+    )

@@ -6,6 +6,8 @@ pub mod Demand3
 pub mod DealNumber
 pub mod Cancelling
 pub mod Collecting
+pub mod Quota
+pub mod Isolation
 pub mod TableLaws
 pub mod Table
 pub mod Chains
@@ -17,9 +19,16 @@ pub mod CancelKeepLaws
 pub mod CallsLaws
 pub mod CollectKeepLaws
 pub mod CollectedLaws
+pub mod CollectedHeldLaws
 pub mod Covers
 pub mod CancelRoomLaws
+pub mod HeldLaws
 pub mod BookAgainLaws
+pub mod Shared
+pub mod QuotaLaws
+pub mod OthersChanged
+pub mod OthersBookedLaws
+pub mod IsolationLaws
 pub mod TreeHistory
 pub mod TreeForms
 pub mod TreeHistoryLaws

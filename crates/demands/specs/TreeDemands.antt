@@ -1,7 +1,7 @@
 -- Demands 2 and 3 for the forms that take the tree (document 02, request (vii): "demands 2 and 3 wherever the buffer is
 -- used, rest on one premise"). The premise is `FilledFor deal tree`, which the paper's history gives
 -- (TreeHistoryLaws.history-filled); all else is as for the plain forms (Demand2, Demand3), the deal's number too
--- (request (ix)).
+-- (request (ix)), and each house for itself (request (x)).
 use mathlib.Core.Path.{_≡_, sym, ap, _∙_, subst}
 use mathlib.Core.Bool.{true}
 use Prim.Native.Nat.{ℕ, _^_, _<_}
@@ -17,8 +17,8 @@ use Rattle.tree.specs.TreeNodes.{FilledFor}
 use Rattle.lent.specs.LentDeal.{lentDeal, treeDeal, dealRefusal}
 use Rattle.index.specs.Slots.{entryAt, kept}
 use Rattle.room.specs.declared.Booked.{Booked}
-use Rattle.booking.specs.Booking.{keepsSegment, bookAnswer}
-use Rattle.booking.specs.BookableLaws.{Bookable}
+use Rattle.booking.specs.Booking.{keepsOwn}
+use Rattle.booking.specs.BookableLaws.{BookableFor}
 use Rattle.booking.specs.AlreadyLaws.{answer15}
 use Rattle.record.specs.Form.{parse}
 use Rattle.record.specs.Check.{dealTerms, checkOf}
@@ -27,12 +27,12 @@ use Rattle.builder.specs.Build.{buildAnswer, buildOutput}
 use Rattle.settle.specs.Settle.{placeIn, settleWithDeal}
 use Rattle.demands.specs.Settles.{Settles}
 use Rattle.demands.specs.BuildsExactly.{BuildsExactly}
-use Rattle.demands.specs.Calls.{bookSegment, runCalls, NoneCancels}
+use Rattle.demands.specs.Calls.{bookSegment, DealAndTable, answerIn, NoneCancels}
 use Rattle.demands.specs.Demand2.{built-is-accepted, never-booked-again, kept-never-booked, kept-is-never-booked}
 use Rattle.demands.specs.Demand2.{kept-is-built, kept-slot-is-never-booked}
 use Rattle.demands.specs.Demand3.{same-statement, record-settles-with-deal}
 use Rattle.demands.specs.TreeForms.{same-booking, same-building, same-output, same-settling}
-use Rattle.demands.specs.TreeHistory.{DealAndTree, TreeCall, withTree, afterCalls, plainCalls}
+use Rattle.demands.specs.TreeHistory.{DealTreeTable, answerWith, TreeCall, withTree, afterCalls, plainCalls}
 use Rattle.demands.specs.TreeHistoryLaws.{same-run, same-run-answer}
 
 module _ (deal tree : List ℕ) (f : FilledFor deal tree) where
@@ -73,71 +73,74 @@ module _ (deal tree : List ℕ) (f : FilledFor deal tree) where
       let p = kept-is-built deal b z number place bound a k in
       (p .0, builds-with-tree number place (p .0) (p .1), p .2)
 
-  -- deal and tree now, and after calls with the tree in hand, whatever their codes
-  abbrev now : DealAndTree
-  now = record { deal = deal; tree = tree }
+  module _ (table : List ℕ) (house : ℕ) (segment : List ℕ) where
+    -- deal, tree and table now
+    abbrev now : DealTreeTable
+    now = record { deal = deal; tree = tree; table = table }
 
-  abbrev after : List TreeCall → DealAndTree
-  after calls = afterCalls calls now
+    abbrev plain : DealAndTable
+    plain = record { deal = deal; table = table }
 
-  module _ (segment : List ℕ) where
-    -- the answer of booking the segment with the tree, after calls
-    abbrev bookedAfter : List TreeCall → Booked
-    bookedAfter calls = bookAnswer (treeDeal (after calls .deal) (after calls .tree)) segment
+    -- booking with the tree answers what the plain form answers
+    same : answerWith now house segment ≡ answerIn plain house segment
+    same = same-booking deal tree f table house segment
 
-    -- Demand 2. A segment that was booked with code 0 with the tree in hand gets 15, with the same offset and entry
-    -- place, whatever calls with the tree in hand come in between, as long as none of them cancels that place.
-    pub never-booked-again-with-tree : bookAnswer (treeDeal deal tree) segment .code ≡ 0 → (later : List TreeCall)
-        → NoneCancels (bookAnswer (treeDeal deal tree) segment .place) (plainCalls later)
-        → bookedAfter (withTree (bookSegment segment) ∷ later)
+    -- Demand 2, for each house. A segment that a house booked with code 0 with the tree in hand gets 15 for that house,
+    -- with the same offset and entry place, whatever calls of both houses with the tree in hand come in between, as
+    -- long as the house cancels that place in none of them.
+    pub never-booked-again-with-tree : answerWith now house segment .code ≡ 0 → (later : List TreeCall)
+        → NoneCancels house (answerWith now house segment .place) (plainCalls later)
+        → answerWith (afterCalls (withTree (bookSegment house segment) ∷ later) now) house segment
         ≡ record {
           code = 15;
-          offset = bookAnswer (treeDeal deal tree) segment .offset;
-          place = bookAnswer (treeDeal deal tree) segment .place;
+          offset = answerWith now house segment .offset;
+          place = answerWith now house segment .place;
         }
-    unfolding runCalls
     never-booked-again-with-tree z later n =
-        let same = same-booking deal tree f segment in
-        same-run-answer (withTree (bookSegment segment) ∷ later) now f segment
-        ∙ never-booked-again deal segment (ap (λ (a : Booked). a .code) (sym same) ∙ z) (plainCalls later)
-        (subst (λ (a : Booked). NoneCancels (a .place) (plainCalls later)) same n)
+        same-run-answer (withTree (bookSegment house segment) ∷ later) now f house segment
+        ∙ never-booked-again plain house segment (ap (λ (a : Booked). a .code) (sym same) ∙ z) (plainCalls later)
+        (subst (λ (a : Booked). NoneCancels house (a .place) (plainCalls later)) same n)
         ∙ ap (λ (a : Booked). record { code = 15; offset = a .offset; place = a .place }) (sym same)
 
     -- and one that got 15 to begin with goes on getting it
-    pub kept-never-booked-with-tree : bookAnswer (treeDeal deal tree) segment .code ≡ 15 → (later : List TreeCall)
-        → NoneCancels (bookAnswer (treeDeal deal tree) segment .place) (plainCalls later)
-        → bookedAfter later ≡ bookAnswer (treeDeal deal tree) segment
+    pub kept-never-booked-with-tree : answerWith now house segment .code ≡ 15 → (later : List TreeCall)
+        → NoneCancels house (answerWith now house segment .place) (plainCalls later)
+        → answerWith (afterCalls later now) house segment ≡ answerWith now house segment
     kept-never-booked-with-tree k later n =
-        let same = same-booking deal tree f segment in
-        same-run-answer later now f segment
-        ∙ kept-never-booked deal segment (ap (λ (a : Booked). a .code) (sym same) ∙ k) (plainCalls later)
-        (subst (λ (a : Booked). NoneCancels (a .place) (plainCalls later)) same n)
+        same-run-answer later now f house segment
+        ∙ kept-never-booked plain house segment (ap (λ (a : Booked). a .code) (sym same) ∙ k) (plainCalls later)
+        (subst (λ (a : Booked). NoneCancels house (a .place) (plainCalls later)) same n)
         ∙ sym same
 
-    -- Demand 2. Where some slot of the deal keeps the segment, booking with the tree answers 15 with the offset and the
-    -- entry place of the lowest such slot, now and after any later calls with the tree in hand that do not cancel that
-    -- place.
-    pub kept-is-never-booked-with-tree : (i : ℕ) → Bookable (lentDeal deal) segment → i < entryCount (length deal)
-        → keepsSegment (lentDeal deal) segment i ≡ true
-        → (j : ℕ)
-        × IsLowest (keepsSegment (lentDeal deal) segment) 0 (entryCount (length deal)) j
-        × ((later : List TreeCall) → NoneCancels (slotPlace (length deal) j) (plainCalls later)
-        → bookedAfter later ≡ answer15 deal j)
-    kept-is-never-booked-with-tree i b h k =
-        let p = kept-is-never-booked deal segment i b h k in
-        (p .0, p .1, λ later n. same-run-answer later now f segment ∙ p .2 (plainCalls later) n)
+    -- Slot i of the deal is the house's and keeps the segment.
+    module _ (i : ℕ) (b : BookableFor (lentDeal deal) table house segment) (h : i < entryCount (length deal))
+        (k : keepsOwn (lentDeal deal) table house segment i ≡ true) where
+      -- Demand 2, for each house. Booking with the tree answers 15 to it with the offset and the entry place of the
+      -- lowest such slot, now and after any later calls of both houses with the tree in hand in none of which the house
+      -- cancels that place.
+      pub kept-is-never-booked-with-tree :
+          (j : ℕ)
+          × IsLowest (keepsOwn (lentDeal deal) table house segment) 0 (entryCount (length deal)) j
+          × ((later : List TreeCall) → NoneCancels house (slotPlace (length deal) j) (plainCalls later)
+          → answerWith (afterCalls later now) house segment ≡ answer15 deal j)
+      kept-is-never-booked-with-tree =
+          let p = kept-is-never-booked plain house segment i b h k in
+          (p .0, p .1, λ later n. same-run-answer later now f house segment ∙ p .2 (plainCalls later) n)
 
-    -- Demand 2. A slot that keeps the segment goes on keeping it, and booking with the tree goes on answering 15, after
-    -- any later calls with the tree in hand that do not cancel its place, be it the lowest such slot or not.
-    pub kept-slot-is-never-booked-with-tree : (i : ℕ) → Bookable (lentDeal deal) segment → i < entryCount (length deal)
-        → keepsSegment (lentDeal deal) segment i ≡ true → (later : List TreeCall)
-        → NoneCancels (slotPlace (length deal) i) (plainCalls later)
-        → (keepsSegment (lentDeal (after later .deal)) segment i ≡ true) × (bookedAfter later .code ≡ 15)
-    kept-slot-is-never-booked-with-tree i b h k later n =
-        let p = kept-slot-is-never-booked deal segment i b h k (plainCalls later) n in (
-          ap (λ (x : List ℕ). keepsSegment (lentDeal x) segment i) (same-run later now f) ∙ p .0,
-          ap (λ (a : Booked). a .code) (same-run-answer later now f segment) ∙ p .1,
-        )
+      -- Demand 2, for each house. The slot goes on being the house's and keeping the segment, and booking with the tree
+      -- goes on answering 15 to it, after any later calls of both houses with the tree in hand in none of which the
+      -- house cancels its place, be it the lowest such slot or not.
+      pub kept-slot-is-never-booked-with-tree : (later : List TreeCall)
+          → NoneCancels house (slotPlace (length deal) i) (plainCalls later)
+          → let there = afterCalls later now in
+          (keepsOwn (lentDeal (there .deal)) (there .table) house segment i ≡ true)
+          × (answerWith there house segment .code ≡ 15)
+      kept-slot-is-never-booked-with-tree later n =
+          let p = kept-slot-is-never-booked plain house segment i b h k (plainCalls later) n in (
+            ap (λ (x : DealAndTable). keepsOwn (lentDeal (x .deal)) (x .table) house segment i) (same-run later now f)
+                ∙ p .0,
+            ap (λ (a : Booked). a .code) (same-run-answer later now f house segment) ∙ p .1,
+          )
 
   -- Demand 3, a record with a deal and its tree in hand; the deal gets neither 2 nor 11. A record accepted against a
   -- deal number and the deal's commitment and size settles with the tree to 0 exactly when building with the tree and

@@ -29,16 +29,17 @@ use Rattle.lent.specs.LentDealLaws.{none-refusal, usable}
 use Rattle.lent.specs.UsableLaws.{usable-power}
 use Rattle.lent.specs.FilledTree.{filledTree}
 use Rattle.lent.specs.FilledTreeLaws.{is-filled, not-filled}
-use Rattle.booking.specs.Booking.{bookAnswer, bookedDeal}
+use Rattle.booking.specs.Booking.{bookAnswer, bookedDeal, bookedTable}
 use Rattle.booking.specs.BookedTree.{bookedTree}
-use Rattle.booking.specs.BookingLaws.{refused-same}
+use Rattle.booking.specs.BookingLaws.{refused-same, refused-table}
 use Rattle.booking.specs.BookedTreeLaws.{refused-tree}
-use Rattle.booking.specs.TreeBookingLaws.{same-answer, same-deal, booked-filled}
-use Rattle.cancel.specs.Cancel.{cancelCode, cancelledDeal, cancelledTree}
+use Rattle.booking.specs.TreeBookingLaws.{same-answer, same-deal, same-table, booked-filled}
+use Rattle.cancel.specs.Cancel.{cancelCode, cancelledDeal, cancelledTable, cancelledTree}
 use Rattle.cancel.specs.CancelLaws as D
+use Rattle.cancel.specs.OwnerCancelLaws as O
 use Rattle.cancel.specs.TreeCancelLaws as C
-use Rattle.collect.specs.Collect.{collectCode, secondDeal, secondTree}
-use Rattle.collect.specs.AnswerLaws.{deal-left, tree-left}
+use Rattle.collect.specs.Collect.{collectCode, secondDeal, secondOwners, secondTree}
+use Rattle.collect.specs.AnswerLaws.{deal-left, owners-left, tree-left}
 use Rattle.collect.specs.TreeCollectLaws as T
 use Rattle.builder.specs.declared.BuildAnswer.{BuildAnswer}
 use Rattle.builder.specs.Build.{Building, built, notBuilt, recordAt, answerFor, outputFor, buildAnswer, buildOutput}
@@ -79,28 +80,44 @@ module _ (deal tree : List ℕ) (f : FilledFor deal tree) where
       ∙ filled-node deal tree f top 0 (node-in-tree (length deal) top 0 top 0 e (omega arith) (omega arith))
       ∙ top-node deal top e
 
-  -- Booking with the tree: answer and deal of the plain form; the tree holds the nodes of the deal as it then is.
-  module _ (segment : List ℕ) where
-    pub same-booking : bookAnswer (treeDeal deal tree) segment ≡ bookAnswer (lentDeal deal) segment
-    same-booking = same-answer deal tree f segment
+  module _ (table : List ℕ) (house : ℕ) where
+    -- Booking with the tree: answer, deal and table of the plain form; the tree holds the nodes of the deal as it then
+    -- is.
+    module _ (segment : List ℕ) where
+      pub same-booking :
+          bookAnswer (treeDeal deal tree) table house segment ≡ bookAnswer (lentDeal deal) table house segment
+      same-booking = same-answer deal tree f table house segment
 
-    pub same-booked-deal : bookedDeal (treeDeal deal tree) segment ≡ bookedDeal (lentDeal deal) segment
-    same-booked-deal = same-deal deal tree f segment
+      pub same-booked-deal :
+          bookedDeal (treeDeal deal tree) table house segment ≡ bookedDeal (lentDeal deal) table house segment
+      same-booked-deal = same-deal deal tree f table house segment
 
-    pub booking-leaves-the-nodes : FilledFor (bookedDeal (treeDeal deal tree) segment) (bookedTree deal tree segment)
-    booking-leaves-the-nodes = booked-filled deal tree f segment
+      pub same-booked-table :
+          bookedTable (treeDeal deal tree) table house segment ≡ bookedTable (lentDeal deal) table house segment
+      same-booked-table = same-table deal tree f table house segment
 
-  -- Cancelling with the tree: code and deal of the plain form; the tree holds the nodes of the deal as it then is.
-  module _ (place : ℕ) where
-    pub same-cancelling : cancelCode (treeDeal deal tree) place ≡ cancelCode (lentDeal deal) place
-    same-cancelling = C.same-code deal tree f place
+      pub booking-leaves-the-nodes :
+          FilledFor (bookedDeal (treeDeal deal tree) table house segment) (bookedTree deal tree table house segment)
+      booking-leaves-the-nodes = booked-filled deal tree f table house segment
 
-    pub same-cancelled-deal : cancelledDeal (treeDeal deal tree) place ≡ cancelledDeal (lentDeal deal) place
-    same-cancelled-deal = C.same-deal deal tree f place
+    -- Cancelling with the tree: code, deal and table of the plain form; the tree holds the nodes of the deal as it then
+    -- is.
+    module _ (place : ℕ) where
+      pub same-cancelling :
+          cancelCode (treeDeal deal tree) table house place ≡ cancelCode (lentDeal deal) table house place
+      same-cancelling = C.same-code deal tree f table house place
 
-    pub cancelling-leaves-the-nodes :
-        FilledFor (cancelledDeal (treeDeal deal tree) place) (cancelledTree deal tree place)
-    cancelling-leaves-the-nodes = C.cancelled-filled deal tree f place
+      pub same-cancelled-deal :
+          cancelledDeal (treeDeal deal tree) table house place ≡ cancelledDeal (lentDeal deal) table house place
+      same-cancelled-deal = C.same-deal deal tree f table house place
+
+      pub same-cancelled-table :
+          cancelledTable (treeDeal deal tree) table house place ≡ cancelledTable (lentDeal deal) table house place
+      same-cancelled-table = C.same-table deal tree f table house place
+
+      pub cancelling-leaves-the-nodes :
+          FilledFor (cancelledDeal (treeDeal deal tree) table house place) (cancelledTree deal tree table house place)
+      cancelling-leaves-the-nodes = C.cancelled-filled deal tree f table house place
 
   -- Building with the tree: answer and output of the plain form, for every deal number.
   module _ (number place : ℕ) (out : List ℕ) where
@@ -115,39 +132,67 @@ module _ (deal tree : List ℕ) (f : FilledFor deal tree) where
       → settleWithDeal (treeDeal deal tree) number r ≡ settleWithDeal (lentDeal deal) number r
   same-settling = filled-settled deal tree f
 
--- Collection with a tree beside the second deal, of the length that this asks, whatever it holds: code and second deal
--- of the plain form.
-module _ (deal second tree : List ℕ) (s : SizedFor second tree) where
-  pub same-collecting : collectCode deal (treeDeal second tree) ≡ collectCode deal (lentDeal second)
-  same-collecting = T.same-code deal second tree (test-of-sized second tree (omega arith) s)
+-- Collection with a tree beside the second deal, of the length that this asks, whatever it holds: code, second deal and
+-- second table of the plain form.
+module _ (deal table second tree secondTable : List ℕ) where
+  module _ (s : SizedFor second tree) where
+    pub same-collecting : collectCode deal table (treeDeal second tree) secondTable
+        ≡ collectCode deal table (lentDeal second) secondTable
+    same-collecting = T.same-code deal table second tree secondTable (test-of-sized second tree (omega arith) s)
 
-  pub same-second-deal : secondDeal deal (treeDeal second tree) ≡ secondDeal deal (lentDeal second)
-  same-second-deal = T.same-deal deal second tree (test-of-sized second tree (omega arith) s)
+    pub same-second-deal : secondDeal deal table (treeDeal second tree) secondTable
+        ≡ secondDeal deal table (lentDeal second) secondTable
+    same-second-deal = T.same-deal deal table second tree secondTable (test-of-sized second tree (omega arith) s)
 
--- With code 0 the tree then holds the nodes of the second deal.
-pub collecting-leaves-the-nodes : (deal second tree : List ℕ) → collectCode deal (treeDeal second tree) ≡ 0
-    → FilledFor (secondDeal deal (treeDeal second tree)) (secondTree deal second tree)
-collecting-leaves-the-nodes = T.collected-filled
+    pub same-second-table : secondOwners deal table (treeDeal second tree) secondTable
+        ≡ secondOwners deal table (lentDeal second) secondTable
+    same-second-table = T.same-owners deal table second tree secondTable (test-of-sized second tree (omega arith) s)
+
+  -- With code 0 the tree then holds the nodes of the second deal.
+  pub collecting-leaves-the-nodes : collectCode deal table (treeDeal second tree) secondTable ≡ 0
+      → FilledFor (secondDeal deal table (treeDeal second tree) secondTable)
+      (secondTree deal table second tree secondTable)
+  collecting-leaves-the-nodes = T.collected-filled deal table second tree secondTable
 
 -- Refusals change nothing, whatever the buffer holds: filling leaves the tree, ..
 pub refused-filling : (deal tree : List ℕ) → dealRefusal (treeDeal deal tree) ≢ 0 → filledTree deal tree ≡ tree
 refused-filling = not-filled
 
--- .. booking leaves deal and tree, ..
-pub refused-booking : (deal tree segment : List ℕ) → bookAnswer (treeDeal deal tree) segment .code ≢ 0
-    → (bookedDeal (treeDeal deal tree) segment ≡ deal) × (bookedTree deal tree segment ≡ tree)
-refused-booking deal tree segment h = (refused-same (treeDeal deal tree) segment h, refused-tree deal tree segment h)
+-- .. booking leaves deal, tree and table, ..
+pub refused-booking : (deal tree table : List ℕ) (house : ℕ) (segment : List ℕ)
+    → bookAnswer (treeDeal deal tree) table house segment .code ≢ 0
+    → (bookedDeal (treeDeal deal tree) table house segment ≡ deal)
+    × (bookedTree deal tree table house segment ≡ tree)
+    × (bookedTable (treeDeal deal tree) table house segment ≡ table)
+refused-booking deal tree table house segment h = (
+  refused-same (treeDeal deal tree) table house segment h,
+  refused-tree deal tree table house segment h,
+  refused-table (treeDeal deal tree) table house segment h,
+)
 
 -- .. cancelling does so, ..
-pub refused-cancelling : (deal tree : List ℕ) (place : ℕ) → cancelCode (treeDeal deal tree) place ≢ 0
-    → (cancelledDeal (treeDeal deal tree) place ≡ deal) × (cancelledTree deal tree place ≡ tree)
-refused-cancelling deal tree place h =
-    (D.refused-same (treeDeal deal tree) place h, C.refused-tree deal tree place h)
+pub refused-cancelling : (deal tree table : List ℕ) (house place : ℕ)
+    → cancelCode (treeDeal deal tree) table house place ≢ 0
+    → (cancelledDeal (treeDeal deal tree) table house place ≡ deal)
+    × (cancelledTree deal tree table house place ≡ tree)
+    × (cancelledTable (treeDeal deal tree) table house place ≡ table)
+refused-cancelling deal tree table house place h = (
+  D.refused-same (treeDeal deal tree) table house place h,
+  C.refused-tree deal tree table house place h,
+  O.refused-table (treeDeal deal tree) table house place h,
+)
 
--- .. collection leaves the second deal and the tree beside it, ..
-pub refused-collecting : (deal second tree : List ℕ) → collectCode deal (treeDeal second tree) ≢ 0
-    → (secondDeal deal (treeDeal second tree) ≡ second) × (secondTree deal second tree ≡ tree)
-refused-collecting deal second tree h = (deal-left deal (treeDeal second tree) h, tree-left deal second tree h)
+-- .. collection leaves the second deal, the tree beside it and the second table, ..
+pub refused-collecting : (deal table second tree secondTable : List ℕ)
+    → collectCode deal table (treeDeal second tree) secondTable ≢ 0
+    → (secondDeal deal table (treeDeal second tree) secondTable ≡ second)
+    × (secondTree deal table second tree secondTable ≡ tree)
+    × (secondOwners deal table (treeDeal second tree) secondTable ≡ secondTable)
+refused-collecting deal table second tree secondTable h = (
+  deal-left deal table (treeDeal second tree) secondTable h,
+  tree-left deal table second tree secondTable h,
+  owners-left deal table (treeDeal second tree) secondTable h,
+)
 
 not-written : (x : Building) (out : List ℕ) → answerFor x out .code ≢ 0 → outputFor x out ≡ out
 not-written (notBuilt code) out h = refl

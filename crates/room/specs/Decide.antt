@@ -1,5 +1,9 @@
--- What booking decides and answers, from numbers alone (document 01, "Codes and their order": 15, 13, 14).
+-- What booking decides and answers, from numbers alone (document 01, "Codes and their order": 15, 13, 14; document 02,
+-- request (x): 22, "after 15 and before 13").
+use mathlib.Core.Bool.{Bool}
 use Prim.Native.Nat.{ℕ, _*_, _<_}
+use lib.Dec.{leb}
+use Rattle.rules.specs.Choice.{choose}
 use Rattle.rules.specs.declared.Found.{Found}
 use Rattle.rules.specs.declared.Found.the-variants.{At, Missing}
 use Rattle.sizes.specs.Sizes.{entryCount, indexStart, slotPlace}
@@ -13,17 +17,23 @@ abbrev pub unlessKept : Found → Decision → Decision
 unlessKept (At i) other = Already i
 unlessKept Missing other = other
 
+-- 22: "A house that holds half the slots or more"
+abbrev pub holdsHalf : ℕ → ℕ → Bool
+holdsHalf slots held = leb slots (2 * held)
+
 -- 13 with no free slot, and with one at hand 14 with no free place
 abbrev pub inRoom : ℕ → Found → Found → Decision
 inRoom n Missing at = Refuse 13
 inRoom n (At i) Missing = Refuse 14
 inRoom n (At i) (At k) = Place i (k * n)
 
--- for n bytes in a deal of d bytes, with the slot, if any, that keeps them already
-unfoldable pub decide : ℕ → (ℕ → Range) → ℕ → Found → Decision
-decide d ranges n keeping =
+-- for n bytes of a house in a deal of d bytes, with the number of slots that the house holds and the slot, if any, that
+-- keeps them already
+unfoldable pub decide : ℕ → (ℕ → Range) → ℕ → ℕ → Found → Decision
+decide d ranges held n keeping =
     unlessKept keeping
-    (inRoom n (lowestFreeSlot ranges (entryCount d)) (lowestPlace ranges (entryCount d) n (indexStart d)))
+    (choose (holdsHalf (entryCount d) held) (Refuse 22)
+    (inRoom n (lowestFreeSlot ranges (entryCount d)) (lowestPlace ranges (entryCount d) n (indexStart d))))
 
 -- the answer: offset and entry place
 abbrev pub answerTo : ℕ → (ℕ → Range) → Decision → Booked

@@ -13,18 +13,22 @@ ghost use Rattle.room.specs.Room.{EndBy, rangesIn};
 ghost use Rattle.room.specs.Decide as D;
 ghost use Rattle.room.specs.Decide.{SlotBelow, answerTo};
 
-// What is decided for an area in a lent deal of a size, where the test for 15 found a slot that keeps the segment, or
-// none: with none, the lowest free slot and the lowest free place, 13 without the one and 14 without the other.
-pub fn decide(size: u64, ranges: Ranges, area: u64, keeping: Found) -> Decision
+// What is decided for an area in a lent deal of a size, for a house that holds so many slots, where the test for 15
+// found a slot that keeps the segment, or none: with none, 22 where the house holds half the slots or more, else the
+// lowest free slot and the lowest free place, 13 without the one and 14 without the other.
+pub fn decide(size: u64, ranges: Ranges, held: usize, area: u64, keeping: Found) -> Decision
     requires { ⌜ lentSizeAllowed size ≡ true ⌝ }
-    requires { ⌜ (0 < area) × (area ≤ size) ⌝ }
+    requires { ⌜ (0 < area) × (area ≤ size) × (held ≤ entryCount size) ⌝ }
     requires { ⌜ EndBy (indexStart size) (entryCount size) (rangesIn ranges) ⌝ }
-    ensures { λ r. ⌜ r ≡ D.decide size (rangesIn ranges) area keeping ⌝ }
+    ensures { λ r. ⌜ r ≡ D.decide size (rangesIn ranges) held area keeping ⌝ }
 {
     if let Found::At(i) = keeping {
         return Decision::Already(i);
     }
     let slots = sizes::entry_count(size) as usize;
+    if slots <= 2 * held {
+        return Decision::Refuse(22);
+    }
     let Found::At(i) = lowest_free_slot(ranges, slots) else {
         return Decision::Refuse(13);
     };

@@ -122,37 +122,57 @@ fn booked(answer: Booked, deal: &[u8]) {
     show::digest(deal);
 }
 
-fn book(deal: &mut [u8], segment: &[u8]) {
-    let answer = booking::book(deal, segment);
+// The house that a number names; 0 is none.
+fn house_of(number: u64) -> u8 {
+    if 255 < number {
+        return 0;
+    }
+    number as u8
+}
+
+fn book(deal: &mut [u8], table: &mut [u8], house: u64, segment: &[u8]) {
+    let answer = booking::book(deal, table, house_of(house), segment);
     booked(answer, deal);
+    show::digest(table);
 }
 
-fn book_with_tree(deal: &mut [u8], tree: &mut [u8], segment: &[u8]) {
-    let answer = booking::book_with_tree(deal, tree, segment);
+fn book_with_tree(deal: &mut [u8], tree: &mut [u8], table: &mut [u8], house: u64, segment: &[u8]) {
+    let answer = booking::book_with_tree(deal, tree, table, house_of(house), segment);
     booked(answer, deal);
     show::digest(tree);
+    show::digest(table);
 }
 
-fn cancel(deal: &mut [u8], place: u64) {
-    show::code(cancel::cancel(deal, place));
+fn cancel(deal: &mut [u8], table: &mut [u8], house: u64, place: u64) {
+    show::code(cancel::cancel(deal, table, house_of(house), place));
     show::digest(deal);
+    show::digest(table);
 }
 
-fn cancel_with_tree(deal: &mut [u8], tree: &mut [u8], place: u64) {
-    show::code(cancel::cancel_with_tree(deal, tree, place));
+fn cancel_with_tree(deal: &mut [u8], tree: &mut [u8], table: &mut [u8], house: u64, place: u64) {
+    show::code(cancel::cancel_with_tree(deal, tree, table, house_of(house), place));
     show::digest(deal);
     show::digest(tree);
+    show::digest(table);
 }
 
-fn collect(deal: &[u8], second: &mut [u8]) {
-    show::code(collect::collect(deal, second));
+fn collect(deal: &[u8], table: &[u8], second: &mut [u8], second_table: &mut [u8]) {
+    show::code(collect::collect(deal, table, second, second_table));
     show::digest(second);
+    show::digest(second_table);
 }
 
-fn collect_with_tree(deal: &[u8], second: &mut [u8], tree: &mut [u8]) {
-    show::code(collect::collect_with_tree(deal, second, tree));
+fn collect_with_tree(
+    deal: &[u8],
+    table: &[u8],
+    second: &mut [u8],
+    tree: &mut [u8],
+    second_table: &mut [u8],
+) {
+    show::code(collect::collect_with_tree(deal, table, second, tree, second_table));
     show::digest(second);
     show::digest(tree);
+    show::digest(second_table);
 }
 
 fn fill_tree(deal: &[u8], tree: &mut [u8]) {
@@ -281,31 +301,15 @@ fn answer_with_tree(operation: u64, a: &mut [u8], b: &mut [u8], c: &mut [u8], x:
         fill_tree(a, c);
         return;
     }
-    if operation == 21 {
-        book_with_tree(a, c, b);
-        return;
-    }
     if operation == 22 {
         build_with_tree(a, c, y, x, b);
-        return;
-    }
-    if operation == 25 {
-        cancel_with_tree(a, c, x);
-        return;
-    }
-    if operation == 27 {
-        collect_with_tree(a, b, c);
         return;
     }
     answer_reading(operation, a, b, c, x, y);
 }
 
-// All calls: those that write without a tree too.
+// All calls without a table of owners: those that write without a tree too.
 fn answer_any(operation: u64, a: &mut [u8], b: &mut [u8], c: &mut [u8], x: u64, y: u64) {
-    if operation == 7 {
-        book(a, b);
-        return;
-    }
     if operation == 8 {
         build(a, y, x, b);
         return;
@@ -318,14 +322,6 @@ fn answer_any(operation: u64, a: &mut [u8], b: &mut [u8], c: &mut [u8], x: u64, 
         unpad(x, a, b);
         return;
     }
-    if operation == 24 {
-        cancel(a, x);
-        return;
-    }
-    if operation == 26 {
-        collect(a, b);
-        return;
-    }
     if operation == 28 {
         fill_row(a, b);
         return;
@@ -333,7 +329,54 @@ fn answer_any(operation: u64, a: &mut [u8], b: &mut [u8], c: &mut [u8], x: u64, 
     answer_with_tree(operation, a, b, c, x, y);
 }
 
-pub(crate) fn answer(operation: u64, a: &mut [u8], b: &mut [u8], c: &mut [u8], x: u64, y: u64) {
+// All calls: those with a table of owners, in d, too. A house is in y, a second table in e.
+fn answer_housed(
+    operation: u64,
+    a: &mut [u8],
+    b: &mut [u8],
+    c: &mut [u8],
+    d: &mut [u8],
+    e: &mut [u8],
+    x: u64,
+    y: u64,
+) {
+    if operation == 7 {
+        book(a, d, y, b);
+        return;
+    }
+    if operation == 21 {
+        book_with_tree(a, c, d, y, b);
+        return;
+    }
+    if operation == 24 {
+        cancel(a, d, y, x);
+        return;
+    }
+    if operation == 25 {
+        cancel_with_tree(a, c, d, y, x);
+        return;
+    }
+    if operation == 26 {
+        collect(a, d, b, e);
+        return;
+    }
+    if operation == 27 {
+        collect_with_tree(a, d, b, c, e);
+        return;
+    }
     answer_any(operation, a, b, c, x, y);
+}
+
+pub(crate) fn answer(
+    operation: u64,
+    a: &mut [u8],
+    b: &mut [u8],
+    c: &mut [u8],
+    d: &mut [u8],
+    e: &mut [u8],
+    x: u64,
+    y: u64,
+) {
+    answer_housed(operation, a, b, c, d, e, x, y);
     show::end();
 }

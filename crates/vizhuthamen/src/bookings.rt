@@ -1,4 +1,4 @@
-// Booking a segment in a deal, and the tree that is kept beside a deal.
+// Booking a segment in a deal for a house, and the tree that is kept beside a deal.
 use crate::output::write_u64;
 use crate::output::written_with;
 use room::Booked;
@@ -6,7 +6,7 @@ ghost use mathlib.Core.Path.{_≡_};
 ghost use Rattle.tree.specs.RowAbove.{rowCode, filledRow};
 ghost use Rattle.lent.specs.LentDeal.{lentDeal, treeDeal, dealRefusal};
 ghost use Rattle.lent.specs.FilledTree.{filledTree};
-ghost use Rattle.booking.specs.Booking.{bookAnswer, bookedDeal};
+ghost use Rattle.booking.specs.Booking.{bookAnswer, bookedDeal, bookedTable};
 ghost use Rattle.booking.specs.BookedTree.{bookedTree};
 ghost use Rattle.vizhuthamen.specs.Export.{lentOutputOr};
 
@@ -22,17 +22,30 @@ fn write_booked(answer: Booked, offset: &mut u64, place: &mut u64) -> u32
     answer.code as u32
 }
 
-// Books a segment in a deal.
+// Books a segment in a deal for a house.
 #[no_mangle]
-pub extern "C" fn vz_book(deal: &mut [u8], segment: &[u8], offset: &mut u64, place: &mut u64) -> u32
-    ensures { λ r. ⌜ r ≡ bookAnswer (lentDeal (now (deal .entry))) (now (segment .entry)) .code ⌝ }
-    ensures { λ r. ⌜ now (deal .exit) ≡ bookedDeal (lentDeal (now (deal .entry))) (now (segment .entry)) ⌝ }
+pub extern "C" fn vz_book(
+    deal: &mut [u8],
+    table: &mut [u8],
+    house: u8,
+    segment: &[u8],
+    offset: &mut u64,
+    place: &mut u64,
+) -> u32
+    ensures { λ r. ⌜ r
+        ≡ bookAnswer (lentDeal (now (deal .entry))) (now (table .entry)) house (now (segment .entry)) .code ⌝ }
+    ensures { λ r. ⌜ now (deal .exit)
+        ≡ bookedDeal (lentDeal (now (deal .entry))) (now (table .entry)) house (now (segment .entry)) ⌝ }
+    ensures { λ r. ⌜ now (table .exit)
+        ≡ bookedTable (lentDeal (now (deal .entry))) (now (table .entry)) house (now (segment .entry)) ⌝ }
     ensures { λ r. ⌜ now (offset .exit) ≡ lentOutputOr 15 r
-        (bookAnswer (lentDeal (now (deal .entry))) (now (segment .entry)) .offset) (now (offset .entry)) ⌝ }
+        (bookAnswer (lentDeal (now (deal .entry))) (now (table .entry)) house (now (segment .entry)) .offset)
+        (now (offset .entry)) ⌝ }
     ensures { λ r. ⌜ now (place .exit) ≡ lentOutputOr 15 r
-        (bookAnswer (lentDeal (now (deal .entry))) (now (segment .entry)) .place) (now (place .entry)) ⌝ }
+        (bookAnswer (lentDeal (now (deal .entry))) (now (table .entry)) house (now (segment .entry)) .place)
+        (now (place .entry)) ⌝ }
 {
-    let answer = booking::book(deal, segment);
+    let answer = booking::book(deal, table, house, segment);
     write_booked(answer, offset, place)
 }
 
@@ -41,23 +54,31 @@ pub extern "C" fn vz_book(deal: &mut [u8], segment: &[u8], offset: &mut u64, pla
 pub extern "C" fn vz_book_with_tree(
     deal: &mut [u8],
     tree: &mut [u8],
+    table: &mut [u8],
+    house: u8,
     segment: &[u8],
     offset: &mut u64,
     place: &mut u64,
 ) -> u32
-    ensures { λ r. ⌜ r ≡ bookAnswer (treeDeal (now (deal .entry)) (now (tree .entry))) (now (segment .entry)) .code ⌝ }
+    ensures { λ r. ⌜ r
+        ≡ bookAnswer (treeDeal (now (deal .entry)) (now (tree .entry))) (now (table .entry)) house
+        (now (segment .entry)) .code ⌝ }
     ensures { λ r. ⌜ now (deal .exit)
-        ≡ bookedDeal (treeDeal (now (deal .entry)) (now (tree .entry))) (now (segment .entry)) ⌝ }
+        ≡ bookedDeal (treeDeal (now (deal .entry)) (now (tree .entry))) (now (table .entry)) house
+        (now (segment .entry)) ⌝ }
     ensures { λ r. ⌜ now (tree .exit)
-        ≡ bookedTree (now (deal .entry)) (now (tree .entry)) (now (segment .entry)) ⌝ }
+        ≡ bookedTree (now (deal .entry)) (now (tree .entry)) (now (table .entry)) house (now (segment .entry)) ⌝ }
+    ensures { λ r. ⌜ now (table .exit)
+        ≡ bookedTable (treeDeal (now (deal .entry)) (now (tree .entry))) (now (table .entry)) house
+        (now (segment .entry)) ⌝ }
     ensures { λ r. ⌜ now (offset .exit) ≡ lentOutputOr 15 r
-        (bookAnswer (treeDeal (now (deal .entry)) (now (tree .entry))) (now (segment .entry)) .offset)
-        (now (offset .entry)) ⌝ }
+        (bookAnswer (treeDeal (now (deal .entry)) (now (tree .entry))) (now (table .entry)) house
+        (now (segment .entry)) .offset) (now (offset .entry)) ⌝ }
     ensures { λ r. ⌜ now (place .exit) ≡ lentOutputOr 15 r
-        (bookAnswer (treeDeal (now (deal .entry)) (now (tree .entry))) (now (segment .entry)) .place)
-        (now (place .entry)) ⌝ }
+        (bookAnswer (treeDeal (now (deal .entry)) (now (tree .entry))) (now (table .entry)) house
+        (now (segment .entry)) .place) (now (place .entry)) ⌝ }
 {
-    let answer = booking::book_with_tree(deal, tree, segment);
+    let answer = booking::book_with_tree(deal, tree, table, house, segment);
     write_booked(answer, offset, place)
 }
 

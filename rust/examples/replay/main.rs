@@ -1,7 +1,7 @@
 //! Replays the cases of tests/operations.py on the library, for comparison with the independent model.
 //!
-//! A case is a header of six little-endian u64 (operation, lengths of a, b and c, x, y), then the bytes a, b and c. Each gets one
-//! line of text: the code, the numbers in decimal, the bytes in hex. Values are zero where the library gives none.
+//! A case is a header of eight little-endian u64 (operation, lengths of a, b, c, d and e, x, y), then the bytes a, b, c, d and e. Each
+//! gets one line of text: the code, the numbers in decimal, the bytes in hex. Values are zero where the library gives none.
 //!
 //! Every case is run twice, by the safe functions and by the functions of the C interface; two answers that differ are an error.
 mod operation;
@@ -18,6 +18,9 @@ use vizhuthamen::{hex, Refusal};
 /// A longer argument is an error of the input.
 const MAX_ARGUMENT: u64 = 1 << 25;
 
+/// The longest message that `sha256` takes.
+const PART: usize = 1 << 24;
+
 type Answer = Result<Line, Box<dyn Error>>;
 
 #[derive(Clone)]
@@ -26,8 +29,17 @@ struct Case {
     a: Vec<u8>,
     b: Vec<u8>,
     c: Vec<u8>,
+    d: Vec<u8>,
+    e: Vec<u8>,
     x: u64,
     y: u64,
+}
+
+impl Case {
+    /// The house that a case names.
+    fn house(&self) -> Result<u8, Box<dyn Error>> {
+        u8::try_from(self.y).map_err(|_| format!("{} is no byte for a house", self.y).into())
+    }
 }
 
 /// An answer's line: its parts with a space between them.
@@ -46,6 +58,12 @@ impl Line {
 
     fn bytes(self, bytes: &[u8]) -> Line {
         self.add(hex::encode(bytes))
+    }
+
+    /// A deal, its tree where there is one, and its table, as they are afterwards: by their SHA-256.
+    fn memory(self, deal: &[u8], tree: Option<&[u8]>, table: &[u8]) -> Answer {
+        let parts = [Some(deal), tree, Some(table)];
+        parts.into_iter().flatten().try_fold(self, |line, part| Ok(line.bytes(&digest(part)?)))
     }
 }
 
@@ -70,10 +88,10 @@ fn replay(mut input: impl Read, mut output: impl Write) -> Result<(), Box<dyn Er
 fn answer(case: Case) -> Answer {
     let mut lent = case.clone();
     let raw = raw::answer(&mut lent)?;
-    let changed_a = lent.a != case.a && !case.operation.writes_a();
-    let changed_b = lent.b != case.b && !case.operation.writes_b();
-    let changed_c = lent.c != case.c && !case.operation.writes_c();
-    if changed_a || changed_b || changed_c {
+    let arguments =
+        [(&lent.a, &case.a), (&lent.b, &case.b), (&lent.c, &case.c), (&lent.d, &case.d), (&lent.e, &case.e)];
+    let written = case.operation.written();
+    if arguments.iter().zip('a'..).any(|((after, before), name)| after != before && !written.contains(name)) {
         return Err(format!("an input was changed: {}", raw.0).into());
     }
     let safe = safe::answer(case)?;
@@ -89,10 +107,13 @@ fn read_case(input: &mut impl Read) -> Result<Option<Case>, Box<dyn Error>> {
         return Ok(None);
     };
     let operation = Operation::numbered(number).ok_or_else(|| format!("no operation has the number {number}"))?;
-    let (a, b, c) = (read_number(input)?, read_number(input)?, read_number(input)?);
-    let (x, y) = (read_number(input)?, read_number(input)?);
-    let (a, b, c) = (read_bytes(input, a)?, read_bytes(input, b)?, read_bytes(input, c)?);
-    Ok(Some(Case { operation, a, b, c, x, y }))
+    let mut numbers = [0; 7];
+    for number in &mut numbers {
+        *number = read_number(input)?;
+    }
+    let [a, b, c, d, e, x, y] = numbers;
+    let mut read = |length| read_bytes(input, length);
+    Ok(Some(Case { operation, a: read(a)?, b: read(b)?, c: read(c)?, d: read(d)?, e: read(e)?, x, y }))
 }
 
 /// The first number of a case; none at the end of the input.
@@ -126,8 +147,13 @@ fn read_bytes(input: &mut impl Read, length: u64) -> Result<Vec<u8>, Box<dyn Err
     Ok(bytes)
 }
 
+/// The SHA-256 by which a line shows bytes; of more than `PART`, that of the SHA-256s of their parts.
 fn digest(bytes: &[u8]) -> Result<[u8; 32], Refusal> {
-    vizhuthamen::sha256(bytes)
+    if bytes.len() <= PART {
+        return vizhuthamen::sha256(bytes);
+    }
+    let parts = bytes.chunks(PART).map(vizhuthamen::sha256).collect::<Result<Vec<_>, _>>()?;
+    vizhuthamen::sha256(&parts.concat())
 }
 
 /// Pieces of these lengths, as far as the bytes go, and then the rest in one piece.

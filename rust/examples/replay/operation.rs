@@ -51,21 +51,17 @@ operations! {
 }
 
 impl Operation {
-    /// Whether the first argument is lent to be written.
-    pub fn writes_a(self) -> bool {
+    /// The names of the arguments that are lent to be written; all others must stay as they were.
+    pub fn written(self) -> &'static str {
         use Operation::*;
-        matches!(self, Book | BookWithTree | Cancel | CancelWithTree)
-    }
-
-    /// Whether the second argument is lent to be written.
-    pub fn writes_b(self) -> bool {
-        use Operation::*;
-        matches!(self, Build | BuildWithTree | Pad | Unpad | Collect | CollectWithTree | TreeRow)
-    }
-
-    /// Whether the third argument is lent to be written.
-    pub fn writes_c(self) -> bool {
-        use Operation::*;
-        matches!(self, TreeFill | BookWithTree | CancelWithTree | CollectWithTree)
+        match self {
+            Book | Cancel => "ad",
+            BookWithTree | CancelWithTree => "acd",
+            Collect => "be",
+            CollectWithTree => "bce",
+            Build | BuildWithTree | Pad | Unpad | TreeRow => "b",
+            TreeFill => "c",
+            _ => "",
+        }
     }
 }

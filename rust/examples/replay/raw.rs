@@ -48,7 +48,8 @@ impl Written {
 
 /// The line of a case.
 pub fn answer(case: &mut Case) -> Answer {
-    let Case { operation, ref mut a, ref mut b, ref mut c, x, y } = *case;
+    let house = case.house();
+    let Case { operation, ref mut a, ref mut b, ref mut c, ref mut d, ref mut e, x, y } = *case;
     match operation {
         Operation::Sha256 => hashed(ffi::vz_sha256, a),
         Operation::Commitment => hashed(ffi::vz_commitment, a),
@@ -56,7 +57,7 @@ pub fn answer(case: &mut Case) -> Answer {
         Operation::Make => make_entry(a, x, y),
         Operation::Read => read_entry(a),
         Operation::Find => find(a, b),
-        Operation::Book => book(a, None, b),
+        Operation::Book => book(a, None, d, house?, b),
         Operation::Build => build(a, None, y, x, b),
         Operation::Check => check(b, x, y, a),
         Operation::Settle => settle_records(c, x, y, a, b),
@@ -68,13 +69,13 @@ pub fn answer(case: &mut Case) -> Answer {
         Operation::Unpad => unpad(x, a, b),
         Operation::Tally => tally(a),
         Operation::TreeFill => tree_fill(a, c),
-        Operation::BookWithTree => Ok(book(a, Some(c), b)?.bytes(&digest(c)?)),
+        Operation::BookWithTree => book(a, Some(c), d, house?, b),
         Operation::BuildWithTree => build(a, Some(c), y, x, b),
         Operation::SettleWithTree => settle_with_deal(a, Some(c), y, b),
-        Operation::Cancel => cancel(a, None, x),
-        Operation::CancelWithTree => Ok(cancel(a, Some(c), x)?.bytes(&digest(c)?)),
-        Operation::Collect => collect(a, b, None),
-        Operation::CollectWithTree => Ok(collect(a, b, Some(c))?.bytes(&digest(c)?)),
+        Operation::Cancel => cancel(a, None, d, house?, x),
+        Operation::CancelWithTree => cancel(a, Some(c), d, house?, x),
+        Operation::Collect => collect(a, d, b, None, e),
+        Operation::CollectWithTree => collect(a, d, b, Some(c), e),
         Operation::TreeRow => tree_row(a, b),
     }
 }
@@ -161,33 +162,44 @@ fn tree_row(below: &[u8], above: &mut [u8]) -> Answer {
     Ok(Line::code(code).bytes(&digest(above)?))
 }
 
-fn book(deal: &mut [u8], tree: Option<&mut [u8]>, segment: &[u8]) -> Answer {
+fn book(deal: &mut [u8], mut tree: Option<&mut [u8]>, table: &mut [u8], house: u8, segment: &[u8]) -> Answer {
     let (mut offset, mut place) = (NUMBER, NUMBER);
-    let (d, n, s, m) = (deal.as_mut_ptr(), deal.len(), segment.as_ptr(), segment.len());
-    let code = match tree {
-        None => unsafe { ffi::vz_book(d, n, s, m, &mut offset, &mut place) },
-        Some(t) => unsafe { ffi::vz_book_with_tree(d, n, t.as_mut_ptr(), t.len(), s, m, &mut offset, &mut place) },
+    let (d, n, o, k) = (deal.as_mut_ptr(), deal.len(), table.as_mut_ptr(), table.len());
+    let (s, m) = (segment.as_ptr(), segment.len());
+    let code = match &mut tree {
+        None => unsafe { ffi::vz_book(d, n, o, k, house, s, m, &mut offset, &mut place) },
+        Some(tree) => unsafe {
+            let (t, l) = (tree.as_mut_ptr(), tree.len());
+            ffi::vz_book_with_tree(d, n, t, l, o, k, house, s, m, &mut offset, &mut place)
+        },
     };
     let line = Written::new(code, &[0, 15]).number(offset).number(place).done()?;
-    Ok(line.bytes(&digest(deal)?))
+    line.memory(deal, tree.as_deref(), table)
 }
 
-fn cancel(deal: &mut [u8], tree: Option<&mut [u8]>, place: u64) -> Answer {
-    let (d, n) = (deal.as_mut_ptr(), deal.len());
-    let code = match tree {
-        None => unsafe { ffi::vz_cancel(d, n, place) },
-        Some(t) => unsafe { ffi::vz_cancel_with_tree(d, n, t.as_mut_ptr(), t.len(), place) },
+fn cancel(deal: &mut [u8], mut tree: Option<&mut [u8]>, table: &mut [u8], house: u8, place: u64) -> Answer {
+    let (d, n, o, k) = (deal.as_mut_ptr(), deal.len(), table.as_mut_ptr(), table.len());
+    let code = match &mut tree {
+        None => unsafe { ffi::vz_cancel(d, n, o, k, house, place) },
+        Some(t) => unsafe { ffi::vz_cancel_with_tree(d, n, t.as_mut_ptr(), t.len(), o, k, house, place) },
     };
-    Ok(Line::code(code).bytes(&digest(deal)?))
+    Line::code(code).memory(deal, tree.as_deref(), table)
 }
 
-fn collect(deal: &[u8], second: &mut [u8], tree: Option<&mut [u8]>) -> Answer {
-    let (d, n, s, m) = (deal.as_ptr(), deal.len(), second.as_mut_ptr(), second.len());
-    let code = match tree {
-        None => unsafe { ffi::vz_collect(d, n, s, m) },
-        Some(t) => unsafe { ffi::vz_collect_with_tree(d, n, s, m, t.as_mut_ptr(), t.len()) },
+fn collect(
+    deal: &[u8],
+    table: &[u8],
+    second: &mut [u8],
+    mut tree: Option<&mut [u8]>,
+    second_table: &mut [u8],
+) -> Answer {
+    let (d, n, o, k) = (deal.as_ptr(), deal.len(), table.as_ptr(), table.len());
+    let (s, m, p, l) = (second.as_mut_ptr(), second.len(), second_table.as_mut_ptr(), second_table.len());
+    let code = match &mut tree {
+        None => unsafe { ffi::vz_collect(d, n, o, k, s, m, p, l) },
+        Some(t) => unsafe { ffi::vz_collect_with_tree(d, n, o, k, s, m, t.as_mut_ptr(), t.len(), p, l) },
     };
-    Ok(Line::code(code).bytes(&digest(second)?))
+    Line::code(code).memory(second, tree.as_deref(), second_table)
 }
 
 fn build(deal: &[u8], tree: Option<&[u8]>, number: u64, place: u64, output: &mut [u8]) -> Answer {

@@ -9,7 +9,8 @@ fn code(result: Result<(), Refusal>) -> Line {
 
 /// The line of a case.
 pub fn answer(case: Case) -> Answer {
-    let Case { operation, mut a, mut b, mut c, x, y } = case;
+    let house = case.house();
+    let Case { operation, mut a, mut b, mut c, mut d, mut e, x, y } = case;
     match operation {
         Operation::Sha256 => Ok(digest_line(vz::sha256(&a))),
         Operation::Commitment => Ok(digest_line(vz::commitment(&a).map(|node| node.0))),
@@ -17,7 +18,7 @@ pub fn answer(case: Case) -> Answer {
         Operation::Make => Ok(made_entry(vz::make_entry(&a, x, y))),
         Operation::Read => Ok(read_entry(&a)),
         Operation::Find => find(&a, &b),
-        Operation::Book => book(&mut a, None, &b),
+        Operation::Book => book(&mut a, None, &mut d, house?, &b),
         Operation::Build => build(&a, None, y, x, b),
         Operation::Check => Ok(code(vz::check(&b, x, y, &a))),
         Operation::Settle => Ok(settled(vz::settle_records(&c, x, y, &a, &b))),
@@ -29,13 +30,13 @@ pub fn answer(case: Case) -> Answer {
         Operation::Unpad => unpad(x, &a, b),
         Operation::Tally => Ok(tally(&a)),
         Operation::TreeFill => tree_fill(&a, &mut c),
-        Operation::BookWithTree => Ok(book(&mut a, Some(&mut c), &b)?.bytes(&digest(&c)?)),
+        Operation::BookWithTree => book(&mut a, Some(&mut c), &mut d, house?, &b),
         Operation::BuildWithTree => build(&a, Some(&c), y, x, b),
         Operation::SettleWithTree => Ok(settled(vz::settle_with_deal(&a, Some(&c), y, &b))),
-        Operation::Cancel => cancel(&mut a, None, x),
-        Operation::CancelWithTree => Ok(cancel(&mut a, Some(&mut c), x)?.bytes(&digest(&c)?)),
-        Operation::Collect => collect(&a, &mut b, None),
-        Operation::CollectWithTree => Ok(collect(&a, &mut b, Some(&mut c))?.bytes(&digest(&c)?)),
+        Operation::Cancel => cancel(&mut a, None, &mut d, house?, x),
+        Operation::CancelWithTree => cancel(&mut a, Some(&mut c), &mut d, house?, x),
+        Operation::Collect => collect(&a, &d, &mut b, None, &mut e),
+        Operation::CollectWithTree => collect(&a, &d, &mut b, Some(&mut c), &mut e),
         Operation::TreeRow => tree_row(&a, &mut b),
     }
 }
@@ -102,25 +103,30 @@ fn find(deal: &[u8], commitment: &[u8]) -> Answer {
     Ok(line.add(view.len()).bytes(&digest(view)?))
 }
 
-/// The deal afterwards is shown by its SHA-256.
-fn book(deal: &mut [u8], tree: Option<&mut [u8]>, segment: &[u8]) -> Answer {
-    let result = vz::book(deal, tree, segment);
+fn book(deal: &mut [u8], mut tree: Option<&mut [u8]>, table: &mut [u8], house: u8, segment: &[u8]) -> Answer {
+    let result = vz::book(deal, tree.as_deref_mut(), table, house, segment);
     let (result, position) = match result {
         Ok(Booking::Booked(position)) => (Ok(()), position),
         Ok(Booking::AlreadyKept(position)) => (Err(Refusal::ALREADY_KEPT), position),
         Err(refusal) => (Err(refusal), Position { offset: 0, place: 0 }),
     };
-    Ok(code(result).add(position.offset).add(position.place).bytes(&digest(deal)?))
+    code(result).add(position.offset).add(position.place).memory(deal, tree.as_deref(), table)
 }
 
-/// The deal afterwards is shown by its SHA-256.
-fn cancel(deal: &mut [u8], tree: Option<&mut [u8]>, place: u64) -> Answer {
-    Ok(code(vz::cancel(deal, tree, place)).bytes(&digest(deal)?))
+fn cancel(deal: &mut [u8], mut tree: Option<&mut [u8]>, table: &mut [u8], house: u8, place: u64) -> Answer {
+    let result = vz::cancel(deal, tree.as_deref_mut(), table, house, place);
+    code(result).memory(deal, tree.as_deref(), table)
 }
 
-/// The second deal afterwards is shown by its SHA-256.
-fn collect(deal: &[u8], second: &mut [u8], tree: Option<&mut [u8]>) -> Answer {
-    Ok(code(vz::collect(deal, second, tree)).bytes(&digest(second)?))
+fn collect(
+    deal: &[u8],
+    table: &[u8],
+    second: &mut [u8],
+    mut tree: Option<&mut [u8]>,
+    second_table: &mut [u8],
+) -> Answer {
+    let result = vz::collect(deal, table, second, tree.as_deref_mut(), second_table);
+    code(result).memory(second, tree.as_deref(), second_table)
 }
 
 /// The tree afterwards is shown by its SHA-256.

@@ -31,6 +31,15 @@ pub struct SetNumber {
     pub instead_of: Option<u64>,
 }
 
+/// Entries that a house gets, or nobody (0): those at these places, or all that are nobody's; with `instead_of` those
+/// of that house.
+#[derive(Clone, Debug, PartialEq, Eq)]
+pub struct Give {
+    pub house: u64,
+    pub places: Vec<u64>,
+    pub instead_of: Option<u64>,
+}
+
 /// A command with what it is given.
 #[derive(Debug, PartialEq, Eq)]
 pub enum Command {
@@ -40,8 +49,9 @@ pub enum Command {
     CommitStream { file: Stream, raw: bool, state: Option<Place>, progress: bool },
     Pad { raw: Stream, output: Option<Stream> },
     Unpad { raw_length: u64, segment: Stream, output: Option<Stream> },
-    Book { deal: Stream, segment: Stream, force: bool, access: Access },
-    Cancel { deal: Stream, place: u64, commitment: Option<Vec<u8>>, access: Access },
+    Owner { deal: Stream, give: Option<Give>, wait: bool },
+    Book { deal: Stream, segment: Stream, house: Option<u64>, force: bool, access: Access },
+    Cancel { deal: Stream, place: u64, house: Option<u64>, commitment: Option<Vec<u8>>, access: Access },
     Collect { deal: Stream, new: Stream, number: Option<u64>, force: bool, wait: bool },
     List { deal: Stream },
     Tally { deal: Stream },
@@ -122,6 +132,27 @@ impl Options {
             Some(word) => Ok(Some(SetNumber { number: number(word)?, instead_of })),
             None if instead_of.is_some() => Err(usage("--instead-of needs the new number, before it")),
             None => Ok(None),
+        }
+    }
+
+    /// The house that books or cancels, if it is given: the library judges its number.
+    fn house(&self) -> Result<Option<u64>, Failure> {
+        self.value("house").map(number).transpose()
+    }
+
+    /// The entries that change hands, if a house is given.
+    fn give(&self, words: &[OsString]) -> Result<Option<Give>, Failure> {
+        let instead_of = self.value("instead-of").map(number).transpose()?;
+        if instead_of.is_some_and(|house| house > 2) {
+            return Err(usage("--instead-of needs house 1 or 2, or 0 for nobody"));
+        }
+        match words {
+            [house, places @ ..] => {
+                let places = places.iter().map(|word| number(word)).collect::<Result<_, _>>()?;
+                Ok(Some(Give { house: number(house)?, places, instead_of }))
+            }
+            [] if instead_of.is_some() => Err(usage("--instead-of needs the house that gets the entries, before it")),
+            [] => Ok(None),
         }
     }
 
@@ -251,6 +282,9 @@ fn operands_of(name: &str, words: &[OsString], options: &Options) -> Result<Comm
         ("number", [deal, set @ ..]) => {
             Command::Number { deal: stream(deal)?, set: options.set_number(set.first())?, wait: options.wait() }
         }
+        ("owner", [deal, give @ ..]) => {
+            Command::Owner { deal: stream(deal)?, give: options.give(give)?, wait: options.wait() }
+        }
         ("commit", [file]) => Command::Commit { file: stream(file)? },
         ("stream", words) => Command::CommitStream {
             file: stream(options.value("raw").or(words.first().map(OsString::as_os_str)).unwrap_or_default())?,
@@ -263,12 +297,13 @@ fn operands_of(name: &str, words: &[OsString], options: &Options) -> Result<Comm
             Command::Unpad { raw_length: number(raw_length)?, segment: stream(segment)?, output }
         }
         ("book", [deal, segment]) => {
-            let (deal, segment) = (stream(deal)?, stream(segment)?);
-            Command::Book { deal, segment, force: options.has("force"), access: options.access() }
+            let (deal, segment, house) = (stream(deal)?, stream(segment)?, options.house()?);
+            Command::Book { deal, segment, house, force: options.has("force"), access: options.access() }
         }
         ("cancel", [deal, place]) => Command::Cancel {
             deal: stream(deal)?,
             place: number(place)?,
+            house: options.house()?,
             commitment: options.commitment()?,
             access: options.access(),
         },
@@ -316,7 +351,7 @@ fn operands_of(name: &str, words: &[OsString], options: &Options) -> Result<Comm
 /// How many operands of a command are read from standard input.
 fn standard_inputs(command: &Command) -> usize {
     let read: &[&Stream] = match command {
-        Command::New { .. } | Command::Number { .. } => &[],
+        Command::New { .. } | Command::Number { .. } | Command::Owner { .. } => &[],
         Command::Commit { file } | Command::CommitStream { file, .. } => &[file],
         Command::Pad { raw, .. } => &[raw],
         Command::Unpad { segment, .. } => &[segment],
@@ -382,14 +417,16 @@ mod tests {
     #[test]
     fn commands() {
         let access = Access { wait: true, new_owner: false };
-        let book = |force, access| Command::Book { deal: file("d"), segment: Stream::Standard, force, access };
-        assert_eq!(parsed("book d -"), Ok(Request::Run { command: book(false, access), json: false }));
-        let other = book(true, Access { wait: false, new_owner: true });
-        assert_eq!(parsed("book --force d --no-wait - --new-owner"), Ok(Request::Run { command: other, json: false }));
-        let cancel = |commitment| Command::Cancel { deal: file("d"), place: 256, commitment, access };
-        assert_eq!(parsed("cancel d 256"), Ok(Request::Run { command: cancel(None), json: false }));
-        let meant = Request::Run { command: cancel(Some(vec![0xab])), json: true };
-        assert_eq!(parsed("cancel --commitment AB d 256 --json"), Ok(meant));
+        let book =
+            |house, force, access| Command::Book { deal: file("d"), segment: Stream::Standard, house, force, access };
+        assert_eq!(parsed("book d -"), Ok(Request::Run { command: book(None, false, access), json: false }));
+        let other = book(Some(2), true, Access { wait: false, new_owner: true });
+        let line = "book --force d --no-wait - --new-owner --house 2";
+        assert_eq!(parsed(line), Ok(Request::Run { command: other, json: false }));
+        let cancel = |house, commitment| Command::Cancel { deal: file("d"), place: 256, house, commitment, access };
+        assert_eq!(parsed("cancel d 256"), Ok(Request::Run { command: cancel(None, None), json: false }));
+        let meant = Request::Run { command: cancel(Some(300), Some(vec![0xab])), json: true };
+        assert_eq!(parsed("cancel --commitment AB d 256 --json --house=300"), Ok(meant));
         let collect = |number| Command::Collect { deal: file("d"), new: file("n"), number, force: true, wait: false };
         assert_eq!(parsed("collect d n --force --no-wait"), Ok(Request::Run { command: collect(None), json: false }));
         let numbered = Request::Run { command: collect(Some(7)), json: false };
@@ -440,6 +477,17 @@ mod tests {
         let settle =
             Command::Settle { commitment: vec![0xab], size: 512, number: 7, first: file("r"), second: file("s") };
         assert_eq!(parsed("settle ab 512 r s --number 7"), run(settle));
+    }
+
+    #[test]
+    fn owners() {
+        let owner =
+            |give, wait| Ok(Request::Run { command: Command::Owner { deal: file("d"), give, wait }, json: false });
+        let give = |house, places: &[u64], instead_of| Some(Give { house, places: places.to_vec(), instead_of });
+        assert_eq!(parsed("owner d"), owner(None, true));
+        assert_eq!(parsed("owner d 1"), owner(give(1, &[], None), true));
+        assert_eq!(parsed("owner d 0 256 320 --no-wait"), owner(give(0, &[256, 320], None), false));
+        assert_eq!(parsed("owner --instead-of 1 d 2 256"), owner(give(2, &[256], Some(1)), true));
     }
 
     #[test]
@@ -524,6 +572,18 @@ mod tests {
             "number d --instead-of 7",
             "number d 8 --instead-of x",
             "book d s --number 7",
+            "book d s --house",
+            "book d s --house=",
+            "book d s --house first",
+            "book d s --house 1 --house 2",
+            "list d --house 1",
+            "collect d n --house 1",
+            "owner",
+            "owner d --instead-of 1",
+            "owner d 2 --instead-of 3",
+            "owner d x",
+            "owner d 1 256 x",
+            "owner d 1 --house 1",
             "book - -",
             "help nothing",
             "nothing --help",

@@ -3,8 +3,10 @@ mod book;
 mod cancel;
 mod collect;
 mod fsck;
+mod house;
 mod list;
 mod number;
+mod owner;
 mod repair;
 mod salvage;
 mod stream;
@@ -15,7 +17,7 @@ use super::failure::{self, Failure};
 use super::files::{self, Content};
 use super::json::Json;
 use super::progress::Progress;
-use super::store::{self, aside::Fill, Attributes};
+use super::store::{self, aside::Fill, Attributes, NewDeal};
 use super::survey;
 use super::table::{table, Column};
 use std::path::Path;
@@ -31,9 +33,11 @@ pub fn run(command: Command) -> Result<Answer, Failure> {
         Command::CommitStream { file, raw, state, progress } => stream::stream(&file, raw, state.as_ref(), progress),
         Command::Pad { raw, output } => pad(&raw, output),
         Command::Unpad { raw_length, segment, output } => unpad(raw_length, &segment, output),
-        Command::Book { deal, segment, force, access } => book::book(&deal, &segment, force, access),
-        Command::Cancel { deal, place, commitment, access } => {
-            cancel::cancel(&deal, place, commitment.as_deref(), access)
+        Command::Owner { deal, give: None, .. } => owner::show(&deal),
+        Command::Owner { deal, give: Some(give), wait } => owner::give(&deal, &give, wait),
+        Command::Book { deal, segment, house, force, access } => book::book(&deal, &segment, house, force, access),
+        Command::Cancel { deal, place, house, commitment, access } => {
+            cancel::cancel(&deal, place, house, commitment.as_deref(), access)
         }
         Command::Collect { deal, new, number, force, wait } => collect::collect(&deal, &new, number, force, wait),
         Command::List { deal } => list::list(&deal),
@@ -107,7 +111,9 @@ fn new(deal: &Stream, size: u64, number: Option<u64>) -> Result<Answer, Failure>
             return Ok(Answer::refused(Refusal::SIZE).with_note(note));
         }
     };
-    let note = store::create(path_of(deal)?, Fill::Zeros(size), number, Attributes::NEW)?;
+    let table = vec![0; numbers.entries as usize];
+    let made = NewDeal { fill: Fill::Zeros(size), table: Some(&table), number };
+    let note = store::create(path_of(deal)?, &made, Attributes::NEW)?;
     let answer = note.into_iter().fold(Answer::done("done").writing(), Answer::with_note);
     let answer = answer
         .with_value("size", Json::Number(size))

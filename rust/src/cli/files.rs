@@ -1,10 +1,11 @@
 //! Reading files, and writing outputs so that a failure or a kill leaves the old ones whole.
 use super::args::Stream;
 use super::failure::{self, Failure};
+use super::owners::Owners;
 use super::store::aside::{remove_dead, Aside, Fill};
 use super::store::change::{self, Part};
 use super::store::names::{shown, Home};
-use super::store::{self, system, Attributes, DealFile, Held, Keep, Known};
+use super::store::{self, system, Attributes, DealFile, Held, Keep, Known, OwnerTable, View};
 use std::fs::{self, File, Metadata, OpenOptions};
 use std::io::{self, ErrorKind, Read, Write};
 use std::os::fd::AsFd;
@@ -88,6 +89,33 @@ pub fn read_numbered(stream: &Stream) -> Result<(Content, Option<u64>), Failure>
     }
 }
 
+/// A deal that is read without a lock, with what lies beside it where it is a file.
+pub struct Viewed {
+    pub content: Content,
+    /// The number that is kept of it.
+    pub number: Option<u64>,
+    /// The table of its owners, or why it cannot be read; its names.
+    table: Option<(Home, Result<Option<OwnerTable>, Failure>)>,
+}
+
+impl Viewed {
+    /// Whose the entries of its slots are.
+    pub fn owners(&self, slots: usize) -> Owners {
+        self.table.as_ref().map_or(Owners::Nowhere, |(home, table)| Owners::read(home, table, slots))
+    }
+}
+
+/// Reads a deal, which must have the size that is known of it, and what lies beside it, as all was at one moment.
+pub fn read_viewed(stream: &Stream) -> Result<Viewed, Failure> {
+    match stream {
+        Stream::File(path) if path.is_file() => {
+            let View { content, number, table, home } = store::view(path)?;
+            Ok(Viewed { content, number, table: Some((home, table)) })
+        }
+        _ => read(stream).map(|content| Viewed { content, number: None, table: None }),
+    }
+}
+
 /// A deal that is read, under its lock where it is a file: then nobody changes it as long as this is there.
 pub enum Source {
     Locked(DealFile),
@@ -118,6 +146,22 @@ impl Source {
         match self {
             Source::Locked(file) => file.content,
             Source::Piped(content) => content,
+        }
+    }
+
+    /// The table of its owners, if there is one.
+    pub fn table(&self) -> Result<Option<OwnerTable>, Failure> {
+        match self {
+            Source::Locked(file) => file.table(),
+            Source::Piped(_) => Ok(None),
+        }
+    }
+
+    /// Whose the entries of its slots are.
+    pub fn owners(&self, slots: usize) -> Owners {
+        match self {
+            Source::Locked(file) => Owners::read(file.home(), &file.table(), slots),
+            Source::Piped(_) => Owners::Nowhere,
         }
     }
 
@@ -222,7 +266,7 @@ pub fn replace(path: &Path, bytes: &[u8]) -> Result<(), Failure> {
 #[cfg(test)]
 mod tests {
     use super::*;
-    use crate::cli::store::Access;
+    use crate::cli::store::{Access, NewDeal, NewTable};
     use std::os::unix::fs::PermissionsExt;
 
     const ACCESS: Access = Access { wait: true, new_owner: false };
@@ -275,7 +319,7 @@ mod tests {
         std::os::unix::fs::symlink(&path, &link).unwrap();
         let deal = DealFile::open(&link, ACCESS).unwrap();
         assert_eq!(deal.content.bytes, b"old");
-        deal.replace(b"new bytes", vec![]).unwrap();
+        deal.replace(b"new bytes", None, vec![]).unwrap();
         assert_eq!(fs::read(&path).unwrap(), b"new bytes");
         assert_eq!(fs::metadata(&path).unwrap().permissions().mode() & 0o777, 0o640);
         assert!(fs::symlink_metadata(&link).unwrap().is_symlink());
@@ -302,10 +346,10 @@ mod tests {
         let before = names(&folder);
         // A journal that is there cannot be, since it would have been ended: the change is not made.
         fs::write(folder.join(".deal.vz-journal"), b"").unwrap();
-        assert!(deal.replace(b"new", vec![other("other")]).is_err());
+        assert!(deal.replace(b"new", None, vec![other("other")]).is_err());
         fs::remove_file(folder.join(".deal.vz-journal")).unwrap();
         assert_eq!((names(&folder), fs::read(&path).unwrap()), (before, b"old".to_vec()));
-        deal.replace(b"new", vec![other("other")]).unwrap();
+        deal.replace(b"new", None, vec![other("other")]).unwrap();
         assert_eq!(names(&folder), ["deal", "deal.vz", "other", "taken"]);
         assert_eq!(fs::read(&path).unwrap(), b"new");
     }
@@ -316,7 +360,7 @@ mod tests {
         let deal = DealFile::open(&path, ACCESS).unwrap();
         fs::write(folder.join("mine"), b"mine").unwrap();
         fs::rename(folder.join("mine"), &path).unwrap();
-        assert_eq!(deal.replace(b"new", vec![]).unwrap_err().status, 74);
+        assert_eq!(deal.replace(b"new", None, vec![]).unwrap_err().status, 74);
         assert_eq!((names(&folder), fs::read(&path).unwrap()), (vec!["deal".to_string()], b"mine".to_vec()));
     }
 
@@ -365,10 +409,14 @@ mod tests {
     fn a_file_that_is_there_is_not_made_anew() {
         let folder = folder("new");
         let path = folder.join("deal");
-        let create = |size, number| store::create(&path, Fill::Zeros(size), number, Attributes::NEW);
+        let create = |size, number| {
+            let new = NewDeal { fill: Fill::Zeros(size), table: Some(&[0; 4]), number };
+            store::create(&path, &new, Attributes::NEW)
+        };
         assert_eq!(create(512, Some(7)).unwrap(), None);
         assert_eq!(fs::read(&path).unwrap(), [0; 512]);
-        assert_eq!(names(&folder), ["deal", "deal.vz"]);
+        assert_eq!(fs::read(folder.join("deal.owners")).unwrap(), [0; 4]);
+        assert_eq!(names(&folder), ["deal", "deal.owners", "deal.vz"]);
         fs::write(&path, b"kept").unwrap();
         assert_eq!(create(512, Some(7)).unwrap_err().status, 74);
         // What lies beside it is another deal's.
@@ -376,6 +424,80 @@ mod tests {
             assert_eq!(create(size, number).unwrap_err().status, 65);
         }
         assert_eq!(fs::read(&path).unwrap(), b"kept");
+    }
+
+    #[test]
+    fn a_table_that_lies_there_is_the_new_deals_or_is_refused() {
+        let folder = folder("table");
+        let (path, table) = (folder.join("deal"), folder.join("deal.owners"));
+        let create = |table: Option<&[u8]>| {
+            let new = NewDeal { fill: Fill::Zeros(512), table, number: None };
+            store::create(&path, &new, Attributes::NEW)
+        };
+        fs::write(&table, [0, 1, 0, 0]).unwrap();
+        for other in [None, Some(&[0; 4][..]), Some(&[0, 1, 0]), Some(&[0, 1, 0, 0, 0])] {
+            assert_eq!(create(other).unwrap_err().status, 65);
+        }
+        assert_eq!(names(&folder), ["deal.owners"]);
+        // Another process makes a deal of that name, and gives it up.
+        let other = File::open(&table).unwrap();
+        other.lock().unwrap();
+        std::thread::scope(|scope| {
+            let waiting = scope.spawn(|| create(Some(&[0; 4])));
+            std::thread::sleep(std::time::Duration::from_millis(50));
+            fs::remove_file(&table).unwrap();
+            drop(other);
+            assert_eq!(waiting.join().unwrap().unwrap(), None);
+        });
+        assert_eq!(fs::read(&table).unwrap(), [0; 4]);
+        fs::remove_file(&path).unwrap();
+        assert_eq!(create(Some(&[0; 4])).unwrap(), None);
+        assert_eq!(names(&folder), ["deal", "deal.owners", "deal.vz"]);
+    }
+
+    #[test]
+    fn a_table_is_changed_with_its_deal_or_alone() {
+        let (folder, path) = old_deal("owners");
+        let change = |bytes: &[u8]| {
+            let deal = DealFile::open(&path, ACCESS).unwrap();
+            let table = NewTable { old: deal.table().unwrap(), bytes: bytes.to_vec() };
+            (deal, table)
+        };
+        let table = || fs::read(folder.join("deal.owners")).unwrap();
+        let (deal, new) = change(&[1, 2]);
+        deal.replace(b"new", Some(&new), vec![]).unwrap();
+        assert_eq!((fs::read(&path).unwrap(), table()), (b"new".to_vec(), vec![1, 2]));
+        fs::set_permissions(folder.join("deal.owners"), fs::Permissions::from_mode(0o640)).unwrap();
+        drop(deal);
+        let (deal, new) = change(&[2, 7]);
+        deal.put_table(&new).unwrap();
+        assert_eq!((fs::read(&path).unwrap(), table()), (b"new".to_vec(), vec![2, 7]));
+        assert_eq!(fs::metadata(folder.join("deal.owners")).unwrap().permissions().mode() & 0o777, 0o640);
+        // Other hands were at the table: neither it nor the deal is changed.
+        drop(deal);
+        let (deal, new) = change(&[0, 0]);
+        fs::write(folder.join("deal.owners"), b"mine").unwrap();
+        assert_eq!(deal.replace(b"other", Some(&new), vec![]).unwrap_err().status, 74);
+        assert_eq!(deal.put_table(&new).unwrap_err().status, 74);
+        assert_eq!((fs::read(&path).unwrap(), table()), (b"new".to_vec(), b"mine".to_vec()));
+        assert_eq!(names(&folder), ["deal", "deal.owners", "deal.vz"]);
+    }
+
+    #[test]
+    fn a_table_that_is_a_link_is_not_replaced() {
+        let (folder, path) = old_deal("linked-table");
+        fs::write(folder.join("second"), [1]).unwrap();
+        std::os::unix::fs::symlink("second", folder.join("deal.owners")).unwrap();
+        let deal = DealFile::open(&path, ACCESS).unwrap();
+        let old = deal.table().unwrap();
+        assert_eq!(old.as_ref().unwrap().bytes, [1]);
+        let new = NewTable { old, bytes: vec![2] };
+        assert_eq!(deal.replace(b"new", Some(&new), vec![]).unwrap_err().status, 74);
+        fs::remove_file(folder.join("deal.owners")).unwrap();
+        fs::hard_link(folder.join("second"), folder.join("deal.owners")).unwrap();
+        assert_eq!(deal.put_table(&new).unwrap_err().status, 74);
+        assert_eq!((fs::read(&path).unwrap(), fs::read(folder.join("second")).unwrap()), (b"old".to_vec(), vec![1]));
+        assert_eq!(names(&folder), ["deal", "deal.owners", "second"]);
     }
 
     #[test]

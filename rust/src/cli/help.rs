@@ -23,8 +23,9 @@ pub struct Choice {
 }
 
 /// The options that some commands take.
-pub const OPTIONS: [Choice; 13] = [
+pub const OPTIONS: [Choice; 14] = [
     Choice { name: "output", value: "FILE", summary: "write to FILE, replacing it (also -o)" },
+    Choice { name: "house", value: "HOUSE", summary: "the house that books or cancels, 1 or 2" },
     Choice { name: "force", value: "", summary: "go on where a slot is damaged, or valid and not standing" },
     Choice { name: "no-wait", value: "", summary: "do not wait where another process works on the deal" },
     Choice { name: "new-owner", value: "", summary: "let the deal be the caller's where its owner cannot be kept" },
@@ -33,24 +34,31 @@ pub const OPTIONS: [Choice; 13] = [
     Choice { name: "commitment", value: "COMMITMENT", summary: "the commitment in hand (hex)" },
     Choice { name: "place", value: "PLACE", summary: "the entry place that is repaired" },
     Choice { name: "number", value: "N", summary: "the deal's number, from 0 to 18446744073709551615" },
-    Choice { name: "instead-of", value: "N", summary: "the kept number that is changed" },
+    Choice {
+        name: "instead-of",
+        value: "N",
+        summary: "what is changed: the kept number, or the house that has the entries",
+    },
     Choice { name: "state", value: "FILE", summary: "keep the state in FILE until the answer is there" },
     Choice { name: "resume", value: "", summary: "go on from the state" },
     Choice { name: "progress", value: "", summary: "show progress also where standard error is no terminal" },
 ];
 
 /// The commands.
-pub const TOPICS: [Topic; 20] = [
+pub const TOPICS: [Topic; 21] = [
     Topic {
         name: "new",
         operands: &["DEAL", "SIZE"],
         options: &["number"],
         summary: "make an all-zero deal file",
-        text: "Makes the file DEAL with SIZE zero bytes. SIZE is a power of two from 512 to 16777216.
-A file that is there is never overwritten. Beside it goes DEAL.vz, a small text with the size, and with the deal's
-number where --number gives it: a deal that has another size than DEAL.vz says is neither read nor changed (exit
-status 65). DEAL.vz can be done without; the number is then given to each command that needs it. A DEAL.vz that was
-left by another deal, with another size or number, is refused (65).",
+        text: "Makes the file DEAL with SIZE zero bytes. SIZE is a power of two from 512 to 16777216. A file that is there is
+never overwritten. Beside it goes DEAL.vz, a small text with the size, and with the deal's number where --number
+gives it: a deal that has another size than DEAL.vz says is neither read nor changed (exit status 65). DEAL.vz can
+be done without; the number is then given to each command that needs it. A DEAL.vz that was left by another deal,
+with another size or number, is refused (65).
+
+Beside it goes also DEAL.owners, the table of owners: one byte a slot, 0 in a new deal (see owner). DEAL is never
+there without it. A DEAL.owners that was left by another deal, with other bytes, is refused (65).",
     },
     Topic {
         name: "number",
@@ -65,6 +73,28 @@ With --json a number has up to 20 digits; a program must not round it.
 A number that is kept already is changed only with --instead-of and that number, so that of two calls with
 different numbers one is refused (65). Records that were built with the old number get code 21 from then on. DEAL
 is locked as with `book`, and DEAL.vz is replaced as a whole; DEAL itself is not written.",
+    },
+    Topic {
+        name: "owner",
+        operands: &["DEAL", "[HOUSE]", "[PLACE...]"],
+        options: &["instead-of", "no-wait"],
+        summary: "show or say which house owns which entries",
+        text: "Two houses, 1 and 2, book in one deal. Which of them an entry is of stands in the table DEAL.owners, one byte a
+slot: 1 or 2 for the house, anything else for nobody; it counts only where the entry stands. `book` sets the
+slot's byte and `cancel` clears it, together with DEAL: both files are changed, or none is. Prints the owner of
+every entry that stands, and how many slots each house holds. A house that holds half the slots or more cannot
+book (code 22).
+
+With HOUSE, the entries that stand at each PLACE, a byte offset in DEAL, are that house's from then on; without
+PLACE all that are nobody's. With HOUSE 0 they are nobody's; without PLACE that makes 0 of every byte that is no
+house's or is of a blank slot. An entry that is the other house's is not taken: nothing is changed and the exit
+status is 65. With --instead-of N it is, where it is house N's; without PLACE all of house N change hands.
+
+A deal that was made by an older version or by another program, and a copy without its table, has no DEAL.owners.
+Where no entry stands in it, the first booking makes the table. Where entries stand, `book` and `cancel` refuse
+(65): copy the table too, or say whose the entries are with this command, which makes it. A table that has another
+length gets code 23, and is removed by hand before it is made anew. DEAL is locked as with `book`, and is not
+written.",
     },
     Topic {
         name: "commit",
@@ -116,40 +146,52 @@ otherwise they are printed in hex.",
     Topic {
         name: "book",
         operands: &["DEAL", "SEGMENT"],
-        options: &["force", "no-wait", "new-owner"],
+        options: &["house", "force", "no-wait", "new-owner"],
         summary: "book a segment file into a deal file",
-        text: "Books the bytes of SEGMENT, already padded (see pad), into the file DEAL, and prints offset, entry place, size and
-commitment. The size is from 1 byte to half of the deal; zeros follow up to the segment's area, the smallest
-power of two at or above both the size and 128. A segment that the deal keeps already gets code 15, with its
-offset and entry place; the deal is not changed by any code but 0.
+        text: "Books the bytes of SEGMENT, already padded (see pad), into the file DEAL, and prints offset, entry place, size,
+commitment and house. The size is from 1 byte to half of the deal; zeros follow up to the segment's area, the
+smallest power of two at or above both the size and 128. A segment that the house keeps in the deal already gets
+code 15, with its offset and entry place; what the other house keeps is booked again. Nothing is changed by any
+code but 0.
+
+--house says which house books, 1 or 2; without it the variable VIZHUTHAMEN_HOUSE of the environment does. Without
+either it is house 1, as long as no entry of house 2 stands in DEAL; else the exit status is 64. A house that
+holds half the slots or more gets code 22, whatever the other holds; another number, or a DEAL.owners of another
+length, code 23. DEAL.owners gets the house for the new entry's slot (see owner); DEAL and DEAL.owners are changed
+both or not at all.
 
 Booking takes the lowest slot without a standing entry. Where that slot is not blank (damaged, or valid and not
 standing), or where the booking would overwrite bytes that may be those of a damaged slot, nothing is changed and
 the exit status is 65: see fsck and repair. --force books all the same.
 
-DEAL is locked from reading to the end; a booking waits for another, and says so after a second. With --no-wait
-it does not: nothing is changed and the exit status is 75. The new deal is written aside, flushed to the disk and
-renamed over DEAL, with its owner, permissions and extended attributes. DEAL is the old or the new deal at any
-moment, never a part of either. A file with several hard links, or whose owner cannot be kept, is refused;
---new-owner allows the latter.",
+DEAL is locked from reading to the end; a booking waits for another, and says so after a second. With --no-wait it
+does not: nothing is changed and the exit status is 75. The new files are written aside, flushed to the disk and
+renamed over DEAL and DEAL.owners, with their owner, permissions and extended attributes. DEAL is the old or the
+new deal at any moment, never a part of either; a change that was cut short is ended by the next call that changes
+or lists DEAL. A file with several hard links, or a DEAL whose owner cannot be kept, is refused; --new-owner allows
+the latter.",
     },
     Topic {
         name: "cancel",
         operands: &["DEAL", "PLACE"],
-        options: &["commitment", "no-wait", "new-owner"],
+        options: &["house", "commitment", "no-wait", "new-owner"],
         summary: "cancel an entry of a deal file",
-        text: "Cancels the entry that stands at PLACE, a byte offset in the file DEAL, whether it is kept or not, and prints what
-it said: offset, entry place, size and commitment. Its 64 bytes are zeros afterwards, and no other byte changes.
-The slot is then free for booking, and so are the segment's bytes wherever no other standing entry covers them;
-they stay in DEAL until a booking takes them, and `collect` makes a deal without them. Code 16: no entry stands
-at PLACE; `list` shows the places.
+        text: "Cancels the entry of the house that stands at PLACE, a byte offset in the file DEAL, whether it is kept or not,
+and prints what it said: offset, entry place, size and commitment, and the house. Its 64 bytes and its slot's byte
+of DEAL.owners are zeros afterwards, and no other byte changes. The slot is then free for booking, and so are the
+segment's bytes wherever no other standing entry covers them; they stay in DEAL until a booking takes them, and
+`collect` makes a deal without them. Code 16: no entry of the house stands at PLACE; `list` shows the places and
+the owners. What is nobody's is cancelled by no house: `owner` gives it to one. The house is chosen as with
+`book`.
 
-A free place goes to the next booking, so that a place that was noted earlier may be another segment's by now. With
---commitment an entry that has another commitment is not cancelled: nothing is changed and the exit status is 65.
+A free place goes to the next booking, so that a place that was noted earlier may be another segment's by now.
+With --commitment an entry that has another commitment is not cancelled: nothing is changed and the exit status is
+65.
 
-DEAL has another commitment afterwards: records that were built before belong to the old one. As long as neither the
-slot nor the bytes are booked again, `repair DEAL --segment FILE --place PLACE` brings the entry back. DEAL is
-locked and replaced as with `book`.",
+DEAL has another commitment afterwards: records that were built before belong to the old one. As long as neither
+the slot nor the bytes are booked again, `repair DEAL --segment FILE --place PLACE` brings the entry back, as
+nobody's, and `owner DEAL HOUSE PLACE` gives it to its house. DEAL and DEAL.owners are locked and replaced as with
+`book`.",
     },
     Topic {
         name: "collect",
@@ -157,31 +199,37 @@ locked and replaced as with `book`.",
         options: &["number", "force", "no-wait"],
         summary: "write the segments of a deal without gaps to a new deal file",
         text: "Makes the deal file NEW, of the same size as DEAL, of the segments whose entries stand in DEAL: all bytes of their
-areas, the larger ones first and equal ones by offset, packed from byte 0 on, and their entries from the first slot
-on in that order; all else is zero. For each entry the old and the new place and offset are printed, by new
-places. DEAL is not changed. Records that were built from DEAL belong to its commitment, and not to that of NEW.
+areas, the larger ones first and equal ones by offset, packed from byte 0 on, and their entries from the first
+slot on in that order; all else is zero. For each entry its owner and the old and the new place and offset are
+printed, by new places. NEW.owners has each moved entry's byte as it was, nobody's too, for its new slot, and
+zeros after them. Where entries stand in DEAL and it has no table, NEW has none either. DEAL is not changed.
+Records that were built from DEAL belong to its commitment, and not to that of NEW.
 
-NEW is made as by `new`: a file that is there is never overwritten, and NEW.vz goes beside it. NEW takes the place of
-DEAL and has its number, where one is kept; with --number it has that one. It is the caller's, and others have no
-permissions that they have not for DEAL. DEAL is read under its lock, which other readers share, until NEW is
-there; with --no-wait nobody is waited for, nothing is done and the exit status is 75.
+NEW is made as by `new`: a file that is there is never overwritten, and NEW.vz goes beside it. Code 23:
+DEAL.owners has another length than one byte a slot. NEW takes the place of DEAL and has its number, where one is
+kept; with --number it has that one. It is the caller's, and others have no permissions that they have not for
+DEAL. DEAL is read under its lock, which other readers share, until NEW is there; with --no-wait nobody is waited
+for, nothing is done and the exit status is 75.
 
-Code 20: two standing entries overlap. They are printed; `fsck` and `list` show which of them are kept, and `cancel`
-takes those away that are to go. A slot that is damaged, or whose entry does not stand, would be left out: where
-there is one, nothing is written and the exit status is 65, see fsck and repair. --force leaves it out.",
+Code 20: two standing entries overlap. They are printed; `fsck` and `list` show which of them are kept, and
+`cancel` takes those away that are to go. A slot that is damaged, or whose entry does not stand, would be left
+out: where there is one, nothing is written and the exit status is 65, see fsck and repair. --force leaves it out.",
     },
     Topic {
         name: "list",
         operands: &["DEAL"],
         options: &[],
         summary: "list the index of a deal as a table",
-        text: "Lists every slot of the index: slot, entry place, state, offset, size, commitment. The state is
+        text: "Lists every slot of the index: slot, entry place, state, owner, offset, size, commitment. The state is
   blank     all its bytes are zero
   damaged   its checksum is wrong
   valid     its checksum is right, but its size or its offset is not allowed
   standing  an entry stands, but its commitment is not that of the bytes at its offset
   kept      an entry stands, and its commitment is that of the bytes at its offset
-A slot that is blank, damaged or valid holds no standing entry and is free for booking.",
+A slot that is blank, damaged or valid holds no standing entry and is free for booking. The owner of a standing
+entry is 1, 2 or nobody, with the byte of DEAL.owners where it is not 0 then; ? where that table is not there, or has
+another length. With --json `owner` is 1, 2, or 0 for nobody, and `owner_byte` is there where the byte is another
+one.",
     },
     Topic {
         name: "tally",
@@ -255,7 +303,10 @@ in decimal, all else in hex. Code 3: the record is malformed; the fields before 
   not standing  its checksum is right, but its size or its offset is not allowed
   overlapping   its area overlaps that of a lower slot
   not kept      its commitment is not that of the bytes at its offset, or these have stray bits
-Exit status 0: nothing is wrong. 65: something is, or DEAL has another size than DEAL.vz says. Nothing is changed.",
+Names also a table DEAL.owners that has another length than one byte a slot, or that is not there though entries
+stand, and owner bytes that no command here writes: those other than 0, 1 and 2, and a house's where the slot is
+blank. Exit status 0: nothing is wrong. 65: something is, or DEAL has another size than DEAL.vz says. Nothing is
+changed.",
     },
     Topic {
         name: "repair",
@@ -266,7 +317,8 @@ Exit status 0: nothing is wrong. 65: something is, or DEAL has another size than
 told for certain: from its own bytes, where either its commitment or its checksum agrees with the bytes of the
 deal, or from the segment in hand: --segment or --raw names its file, --commitment its commitment. --place names
 the slot where several are damaged, or where it is not damaged but blank. With the segment in hand the bytes of an
-entry that stands and is not kept are written anew too.
+entry that stands and is not kept are written anew too. DEAL.owners is not changed: a damaged entry has the owner
+again that it had, and one whose byte was cleared is nobody's (see owner).
 
 The deal as it was is kept as DEAL.before-repair (or DEAL.before-repair.N); the repaired deal and this copy are
 put in place together or not at all. Exit status 0: fsck finds nothing wrong any more. 65: something is left.",
@@ -286,15 +338,16 @@ those of some are not, and they are named.",
 const ABOUT: &str = "vizhuthamen: deals, segments and inclusion records (FRC-0058), by a proved library";
 
 const CONVENTIONS: &str = "Conventions:
-  Nodes are 64 hex digits; sizes, places and deal numbers are decimal. The file name - is standard input (for
-  --output: standard output, without any other text there). -- ends the options.
+  Nodes are 64 hex digits; sizes, places, houses and deal numbers are decimal. The file name - is standard input (for
+  --output: standard output, without any other text there). -- ends the options. VIZHUTHAMEN_HOUSE in the environment
+  is the house where --house is not given.
 
 Exit status:
   0 with code 0; with any other code that code, 1 to 24, and the line `code N: meaning` on standard output (on
   standard error with --output -, where nothing else is written then);
-  64 wrong usage; 65 a deal, or the state of a stream, is damaged or is not what is known of it, or a deal's number is
-  not known; 74 reading or writing failed; 75 another process works on the deal and --no-wait is given; each with a
-  message on standard error.
+  64 wrong usage; 65 a deal, or the state of a stream, is damaged or is not what is known of it, or a deal's number or
+  the owners of its entries are not known; 74 reading or writing failed; 75 another process works on the deal and
+  --no-wait is given; each with a message on standard error.
 ";
 
 /// The command of that name.
@@ -348,7 +401,9 @@ fn spelled(choice: &Choice) -> String {
 
 /// How many operands a command may have.
 pub fn counts(topic: &Topic) -> RangeInclusive<usize> {
-    topic.operands.iter().filter(|operand| !operand.ends_with(']')).count()..=topic.operands.len()
+    let most =
+        if topic.operands.iter().any(|operand| operand.contains("...")) { usize::MAX } else { topic.operands.len() };
+    topic.operands.iter().filter(|operand| !operand.ends_with(']')).count()..=most
 }
 
 /// Whether a command cannot do without an option: the number of a deal that it has not in hand.

@@ -228,9 +228,9 @@ mod tests {
 
     /// A deal of 2,048 bytes with four segments, and their slots.
     fn example() -> (Vec<u8>, Vec<Slot>) {
-        let mut deal = vec![0; 2048];
-        for (seed, size) in [(1, 300), (2, 128), (3, 200), (4, 77)] {
-            book(&mut deal, None, &segment(seed, size)).unwrap();
+        let (mut deal, mut table) = (vec![0; 2048], [0; 4]);
+        for (seed, size, house) in [(1, 300, 1), (2, 128, 2), (3, 200, 1), (4, 77, 2)] {
+            book(&mut deal, None, &mut table, house, &segment(seed, size)).unwrap();
         }
         let slots = survey::survey(&deal).unwrap().slots;
         assert!(slots.iter().all(|slot| slot.kept().is_some()));

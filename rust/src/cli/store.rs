@@ -9,19 +9,29 @@
 //! them in their places. One file is put there by a rename. Several are put there together or not at all: a journal that names them
 //! is put in place first, and whoever opens the deal next ends what the journal says.
 //!
+//! **Beside a deal** lie what is known of it (`sidecar`) and the table of its owners (`owners`), which changes
+//! together with the deal or alone. All three are read under the lock, or without it as they were at one moment
+//! (`view`).
+//!
 //! **Names** that a change needs for a moment are those of the deal with a number (`names`). Whoever holds the deal's lock may remove
 //! them, so that they never pile up; a file aside that is written without a deal's lock is locked itself for as long as it is in use.
 pub mod aside;
 mod attributes;
 pub mod change;
+mod create;
 mod deal;
 mod lock;
 pub mod names;
+mod owners;
 mod sidecar;
 mod signals;
 pub mod system;
+mod view;
 
 pub use attributes::{Attributes, Keep};
-pub use deal::{create, troubled, Access, DealFile};
+pub use create::{create, NewDeal};
+pub use deal::{troubled, Access, DealFile};
+pub use owners::{NewTable, OwnerTable};
 pub use sidecar::{known, number, Known};
 pub use signals::Held;
+pub use view::{view, View};

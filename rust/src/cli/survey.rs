@@ -326,9 +326,9 @@ mod tests {
 
     #[test]
     fn stray_bits_hide_only_their_own_area() {
-        let mut deal = vec![0; 2048];
-        for seed in 1..4 {
-            book(&mut deal, None, &noise(seed, 128)).unwrap();
+        let (mut deal, mut table) = (vec![0; 2048], [0; 4]);
+        for (seed, house) in [(1, 1), (2, 2), (3, 1)] {
+            book(&mut deal, None, &mut table, house, &noise(seed, 128)).unwrap();
         }
         deal[128 + 63] |= 0x40;
         deal[2047] |= 0x80;

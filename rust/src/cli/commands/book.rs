@@ -6,20 +6,28 @@ use super::super::files::{self, Content};
 use super::super::progress::Progress;
 use super::super::store::{Access, DealFile};
 use super::super::survey::{self, Slot, State};
+use super::house::Housed;
 use super::{entry_at, path_of, refused, with_entry};
 use vizhuthamen::{Booking, Entry, Position, Refusal};
 
-/// Books a segment, and puts the new deal in the place of the old one.
-pub fn book(deal: &Stream, segment: &Stream, force: bool, access: Access) -> Result<Answer, Failure> {
+/// Books a segment for a house, and puts the new deal and the new table of owners in the place of the old ones.
+pub fn book(
+    deal: &Stream,
+    segment: &Stream,
+    house: Option<u64>,
+    force: bool,
+    access: Access,
+) -> Result<Answer, Failure> {
     let path = path_of(deal)?;
     // The segment first: it may come from a pipe, and nobody is kept waiting for that.
     let segment = files::read(segment)?;
     let old = DealFile::open(path, access)?;
+    let mut housed = Housed::open(&old, house)?;
     let progress = Progress::start("booking", old.content.bytes.len());
-    let mut bytes = old.content.bytes.clone();
-    let booking = match vizhuthamen::book(&mut bytes, None, &segment.bytes) {
+    let (mut bytes, number) = (old.content.bytes.clone(), housed.house());
+    let booking = match vizhuthamen::book(&mut bytes, None, &mut housed.table.bytes, number, &segment.bytes) {
         Ok(booking) => booking,
-        Err(refusal) => return Ok(refused_booking(refusal, &old.content, &segment)),
+        Err(refusal) => return Ok(housed.refused(refusal, refused_booking(refusal, &old.content, &segment))),
     };
     let (Booking::Booked(Position { place, .. }) | Booking::AlreadyKept(Position { place, .. })) = booking;
     let entry = entry_at(&bytes, place)?;
@@ -28,13 +36,13 @@ pub fn book(deal: &Stream, segment: &Stream, force: bool, access: Access) -> Res
             if !force {
                 spares(&old.content, &entry, place)?;
             }
-            old.replace(&bytes, vec![])?;
+            old.replace(&bytes, Some(&housed.table), vec![])?;
             Answer::done("done").writing()
         }
         Booking::AlreadyKept(_) => Answer::refused(Refusal::ALREADY_KEPT),
     };
     drop(progress);
-    Ok(with_entry(answer, &entry, place))
+    Ok(housed.with_house(with_entry(answer, &entry, place)))
 }
 
 /// A refusal, with a note on what it is about.

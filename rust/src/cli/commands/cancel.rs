@@ -6,20 +6,28 @@ use super::super::files::Content;
 use super::super::progress::Progress;
 use super::super::store::{Access, DealFile};
 use super::super::survey;
+use super::house::Housed;
 use super::{entry_at, path_of, refused, with_entry};
 use vizhuthamen::Refusal;
 
-/// Cancels the entry that stands at a place, and puts the new deal in the place of the old one. With a commitment it must be the
-/// entry's: a place that was cancelled before may be another segment's by now.
-pub fn cancel(deal: &Stream, place: u64, commitment: Option<&[u8]>, access: Access) -> Result<Answer, Failure> {
+/// Cancels the entry of a house at a place, and puts the new deal and the new table of owners in the place of the old
+/// ones. With a commitment it must be the entry's: a place that was cancelled before may be another segment's by now.
+pub fn cancel(
+    deal: &Stream,
+    place: u64,
+    house: Option<u64>,
+    commitment: Option<&[u8]>,
+    access: Access,
+) -> Result<Answer, Failure> {
     if commitment.is_some_and(|node| node.len() != 32) {
         return Ok(Answer::refused(Refusal::COMMITMENT_LENGTH));
     }
     let old = DealFile::open(path_of(deal)?, access)?;
+    let mut housed = Housed::open(&old, house)?;
     let progress = Progress::start("cancelling", old.content.bytes.len());
-    let mut bytes = old.content.bytes.clone();
-    if let Err(refusal) = vizhuthamen::cancel(&mut bytes, None, place) {
-        return Ok(refused_cancelling(refusal, &old.content, place));
+    let (mut bytes, number) = (old.content.bytes.clone(), housed.house());
+    if let Err(refusal) = vizhuthamen::cancel(&mut bytes, None, &mut housed.table.bytes, number, place) {
+        return Ok(housed.refused(refusal, refused_cancelling(refusal, &old.content, &housed, place)));
     }
     let entry = entry_at(&old.content.bytes, place)?;
     if commitment.is_some_and(|node| node != entry.commitment.as_ref()) {
@@ -29,10 +37,11 @@ pub fn cancel(deal: &Stream, place: u64, commitment: Option<&[u8]>, access: Acce
             entry.commitment, old.content.name
         )));
     }
-    old.replace(&bytes, vec![])?;
+    old.replace(&bytes, Some(&housed.table), vec![])?;
     drop(progress);
     let name = &old.content.name;
-    Ok(with_entry(Answer::done("done").writing(), &entry, place)
+    Ok(housed
+        .with_house(with_entry(Answer::done("done").writing(), &entry, place))
         .with_note(format!(
             "the segment's bytes stay in {name} until a booking takes them; a deal without them is made by: \
              vizhuthamen collect {name} NEW"
@@ -40,14 +49,25 @@ pub fn cancel(deal: &Stream, place: u64, commitment: Option<&[u8]>, access: Acce
         .with_note(format!("{name} has another commitment now; records that were built before belong to the old one")))
 }
 
-/// A refusal, with a note on what the place holds where no entry stands there.
-fn refused_cancelling(refusal: Refusal, deal: &Content, place: u64) -> Answer {
-    match (refusal, survey::slot_at(&deal.bytes, place)) {
-        (Refusal::NOT_KEPT, Ok(slot)) => {
+/// A refusal, with a note on what the place holds, and whose it is, where no entry of the house stands there.
+fn refused_cancelling(refusal: Refusal, deal: &Content, housed: &Housed, place: u64) -> Answer {
+    let (slot, name) = match (refusal, survey::slot_at(&deal.bytes, place)) {
+        (Refusal::NOT_KEPT, Ok(slot)) => (slot, &deal.name),
+        _ => return refused(refusal, deal),
+    };
+    let answer = Answer::refused(refusal);
+    match housed.owners.of_slot(&slot) {
+        None => {
             let see = if slot.unsound() { "fsck" } else { "list" };
-            let note = format!("{}; see: vizhuthamen {see} {}", slot.described(), deal.name);
-            Answer::refused(refusal).with_note(note)
+            answer.with_note(format!("{}; see: vizhuthamen {see} {name}", slot.described()))
         }
-        _ => refused(refusal, deal),
+        Some(owner) => {
+            let cancels = match owner.is_house() {
+                true => format!("only house {} cancels it", owner.house()),
+                false => format!("no house cancels it until it has an owner: vizhuthamen owner {name} HOUSE {place}"),
+            };
+            let note = format!("{} and is {}; {cancels}", slot.described(), owner.whose());
+            answer.with_text(String::new(), owner.members()).with_note(note)
+        }
     }
 }

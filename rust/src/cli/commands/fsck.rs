@@ -4,28 +4,44 @@ use super::super::args::Stream;
 use super::super::failure::Failure;
 use super::super::files::{Content, Source};
 use super::super::json::Json;
+use super::super::owners::Owners;
 use super::super::progress::Progress;
 use super::super::store::names::shown;
 use super::super::survey::{self, area, Slot, State, Stray, Survey};
-use super::list::slot_members;
+use super::list::{slot_members, state};
 use super::{refused, text};
 use std::path::Path;
+use vizhuthamen::Refusal;
 
-/// Names all that is wrong with a deal. Nothing is changed.
+/// Names all that is wrong with a deal and with the table of its owners. Nothing is changed.
 pub fn fsck(deal: &Stream, wait: bool) -> Result<Answer, Failure> {
-    let (deal, disagrees) = read(deal, wait)?;
-    let progress = Progress::start("checking", deal.bytes.len());
-    let survey = match survey::survey(&deal.bytes) {
+    let read = read(deal, wait)?;
+    let progress = Progress::start("checking", read.deal.bytes.len());
+    let survey = match survey::survey(&read.deal.bytes) {
         Ok(survey) => survey,
-        Err(refusal) => return Ok(disagrees.into_iter().fold(refused(refusal, &deal), Answer::with_note)),
+        Err(refusal) => return Ok(read.refused(refusal)),
     };
     drop(progress);
-    let wrong = Wrong::of(&survey);
-    let answer = match wrong.lines.is_empty() && disagrees.is_none() {
+    let wrong = Wrong::of(&survey, &read.owners, &read.deal.name);
+    let answer = match wrong.lines.is_empty() && read.disagrees.is_none() {
         true => Answer::done("nothing is wrong with the deal"),
         false => Answer::damaged("something is wrong with the deal"),
     };
-    Ok(wrong.told(disagreeing(answer, disagrees), &survey))
+    Ok(wrong.told(disagreeing(answer, read.disagrees), &survey))
+}
+
+/// A deal that was read under its lock, whose its entries are, and where it has another size than is known of it.
+pub struct Read {
+    pub deal: Content,
+    pub owners: Owners,
+    pub disagrees: Option<String>,
+}
+
+impl Read {
+    /// A refusal, with a note where the deal has another size than is known of it.
+    pub fn refused(self, refusal: Refusal) -> Answer {
+        self.disagrees.into_iter().fold(refused(refusal, &self.deal), Answer::with_note)
+    }
 }
 
 /// Adds that a deal has another size than is known of it.
@@ -36,11 +52,13 @@ pub fn disagreeing(answer: Answer, disagrees: Option<String>) -> Answer {
     }
 }
 
-/// Reads a deal under its lock where it is a file, and says where it has another size than is known of it.
-pub fn read(deal: &Stream, wait: bool) -> Result<(Content, Option<String>), Failure> {
+/// Reads a deal under its lock where it is a file, and what lies beside it.
+pub fn read(deal: &Stream, wait: bool) -> Result<Read, Failure> {
     let source = Source::open(deal, wait)?;
     let disagrees = source.known().err().map(|failure| failure.message);
-    Ok((source.into_content(), disagrees))
+    let slots = survey::numbers(&source.content().bytes).map_or(0, |numbers| numbers.entries);
+    let owners = source.owners(slots as usize);
+    Ok(Read { deal: source.into_content(), owners, disagrees })
 }
 
 /// What is wrong: a line of text for each, and the same for JSON.
@@ -48,16 +66,24 @@ pub struct Wrong {
     pub lines: Vec<String>,
     stray: Vec<Json>,
     slots: Vec<Json>,
+    table: Vec<(&'static str, Json)>,
+    odd: Vec<Json>,
 }
 
 impl Wrong {
-    pub fn of(survey: &Survey) -> Wrong {
-        let mut wrong = Wrong { lines: vec![], stray: vec![], slots: vec![] };
+    /// All that is wrong with a deal and with the table of its owners. `name` is the deal's, for commands.
+    pub fn of(survey: &Survey, owners: &Owners, name: &str) -> Wrong {
+        let (stray, slots, odd) = (vec![], vec![], vec![]);
+        let mut wrong = Wrong { lines: vec![], stray, slots, table: owners.table_members(), odd };
         for bits in &survey.stray {
             wrong.add_stray(survey, bits);
         }
         for slot in &survey.slots {
-            wrong.add_slot(survey, slot);
+            wrong.add_slot(survey, slot, owners);
+        }
+        wrong.lines.extend(owners.unknown(&survey.slots, name));
+        for slot in &survey.slots {
+            wrong.add_owner(slot, owners, name);
         }
         wrong
     }
@@ -87,10 +113,26 @@ impl Wrong {
         self.stray.push(Json::Object(members));
     }
 
-    fn add_slot(&mut self, survey: &Survey, slot: &Slot) {
+    fn add_slot(&mut self, survey: &Survey, slot: &Slot, owners: &Owners) {
         for (state, why) in states(survey, slot) {
             self.lines.push(format!("slot {} (place {}) is {state}: {why}", slot.number, slot.place));
-            self.slots.push(wrong_slot(slot, state));
+            self.slots.push(wrong_slot(slot, state, owners));
+        }
+    }
+
+    fn add_owner(&mut self, slot: &Slot, owners: &Owners, name: &str) {
+        if let Some((owner, why)) = owners.odd(slot) {
+            let Slot { number, place, .. } = slot;
+            let byte = owner.0;
+            self.lines.push(format!(
+                "slot {number} (place {place}) has the owner byte {byte}: {why}; 0 is put there by: vizhuthamen owner {name} 0"
+            ));
+            self.odd.push(Json::Object(vec![
+                ("slot", Json::Number(*number)),
+                ("place", Json::Number(*place)),
+                ("state", text(state(slot))),
+                ("owner_byte", Json::Number(u64::from(byte))),
+            ]));
         }
     }
 
@@ -111,13 +153,13 @@ impl Wrong {
             ("stray", Json::List(self.stray)),
             ("wrong", Json::List(self.slots)),
         ];
-        answer.with_text(lines, members)
+        answer.with_text(lines, [members, self.table, vec![("owner_bytes", Json::List(self.odd))]].concat())
     }
 }
 
 /// A slot that is not in order, for JSON.
-pub fn wrong_slot(slot: &Slot, state: &str) -> Json {
-    let mut members = slot_members(slot, state);
+pub fn wrong_slot(slot: &Slot, state: &str, owners: &Owners) -> Json {
+    let mut members = slot_members(slot, state, owners);
     members.extend(slot.overlaps().map(|other| ("overlaps", Json::Number(other))));
     Json::Object(members)
 }

@@ -4,6 +4,7 @@ use super::super::args::Stream;
 use super::super::failure::Failure;
 use super::super::files;
 use super::super::json::Json;
+use super::super::owners::Owners;
 use super::super::progress::Progress;
 use super::super::survey::{self, Slot, State};
 use super::super::table::{table, Column};
@@ -11,23 +12,27 @@ use super::{refused, text};
 
 /// Lists every slot of the index.
 pub fn list(deal: &Stream) -> Result<Answer, Failure> {
-    let (deal, number) = files::read_numbered(deal)?;
+    let viewed = files::read_viewed(deal)?;
+    let deal = &viewed.content;
     // The library judges size and stray bits.
     if let Err(refusal) = vizhuthamen::tally(&deal.bytes) {
-        return Ok(refused(refusal, &deal));
+        return Ok(refused(refusal, deal));
     }
     let progress = Progress::start("reading slots", deal.bytes.len());
     let survey = match survey::survey(&deal.bytes) {
         Ok(survey) => survey,
-        Err(refusal) => return Ok(refused(refusal, &deal)),
+        Err(refusal) => return Ok(refused(refusal, deal)),
     };
     drop(progress);
-    let rows: Vec<_> = survey.slots.iter().map(|slot| slot_row(slot, state(slot))).collect();
-    let slots = survey.slots.iter().map(|slot| Json::Object(slot_members(slot, state(slot)))).collect();
+    let owners = viewed.owners(survey.slots.len());
+    let rows: Vec<_> = survey.slots.iter().map(|slot| slot_row(slot, state(slot), &owners)).collect();
+    let slots = survey.slots.iter().map(|slot| Json::Object(slot_members(slot, state(slot), &owners))).collect();
     let mut members = vec![("size", Json::Number(deal.bytes.len() as u64))];
-    members.extend(number.map(|number| ("number", Json::Number(number))));
+    members.extend(viewed.number.map(|number| ("number", Json::Number(number))));
+    members.extend(owners.table_members());
     members.extend([("start", Json::Number(survey.numbers.start)), ("slots", Json::List(slots))]);
-    Ok(Answer::done("done").with_text(table(&SLOT_COLUMNS, &rows), members))
+    let answer = Answer::done("done").with_text(table(&SLOT_COLUMNS, &rows), members);
+    Ok(owners.unknown(&survey.slots, &deal.name).into_iter().fold(answer, Answer::with_note))
 }
 
 /// What a slot holds, in a word.
@@ -42,23 +47,25 @@ pub fn state(slot: &Slot) -> &'static str {
 }
 
 /// The columns of a table of slots.
-const SLOT_COLUMNS: [Column; 6] = [
+const SLOT_COLUMNS: [Column; 7] = [
     Column("slot", true),
     Column("place", true),
     Column("state", false),
+    Column("owner", false),
     Column("offset", true),
     Column("size", true),
     Column("commitment", false),
 ];
 
 /// A slot as a row of a table.
-fn slot_row(slot: &Slot, state: &str) -> Vec<String> {
+fn slot_row(slot: &Slot, state: &str, owners: &Owners) -> Vec<String> {
     let entry = slot.entry();
     let cell = |value: Option<String>| value.unwrap_or_else(|| "-".to_string());
     vec![
         slot.number.to_string(),
         slot.place.to_string(),
         state.to_string(),
+        owners.cell(slot),
         cell(entry.map(|entry| entry.offset.to_string())),
         cell(entry.map(|entry| entry.size.to_string())),
         cell(entry.map(|entry| entry.commitment.to_string())),
@@ -66,9 +73,10 @@ fn slot_row(slot: &Slot, state: &str) -> Vec<String> {
 }
 
 /// A slot for JSON.
-pub fn slot_members(slot: &Slot, state: &str) -> Vec<(&'static str, Json)> {
+pub fn slot_members(slot: &Slot, state: &str, owners: &Owners) -> Vec<(&'static str, Json)> {
     let mut members =
         vec![("slot", Json::Number(slot.number)), ("place", Json::Number(slot.place)), ("state", text(state))];
+    members.extend(owners.members(slot));
     if let Some(entry) = slot.entry() {
         members.extend([("offset", Json::Number(entry.offset)), ("size", Json::Number(entry.size))]);
         members.push(("commitment", text(entry.commitment)));

@@ -5,9 +5,10 @@ use super::super::failure::{self, Failure};
 use super::super::files;
 use super::super::json::Json;
 use super::super::mend::{self, Hand, Step};
+use super::super::owners::{Owner, Owners};
 use super::super::progress::Progress;
 use super::super::store::{Access, DealFile};
-use super::super::survey::Stray;
+use super::super::survey::{Stray, Survey};
 use super::fsck::{file_name, Wrong};
 use super::{path_of, refused, text};
 use vizhuthamen::{Entry, Node, Refusal};
@@ -25,22 +26,23 @@ pub fn repair(deal: &Stream, in_hand: Option<&InHand>, place: Option<u64>, acces
         Err(refusal) => return Ok(refused(refusal, &file.content)),
     };
     drop(progress);
+    let owners = Owners::read(file.home(), &file.table(), mended.survey.slots.len());
     let copy = match mended.steps.is_empty() {
         true => None,
         false => {
             let (name, part) = file.copy()?;
-            file.replace(&mended.bytes, part.into_iter().collect())?;
+            file.replace(&mended.bytes, None, part.into_iter().collect())?;
             Some(name)
         }
     };
-    let wrong = Wrong::of(&mended.survey);
+    let wrong = Wrong::of(&mended.survey, &owners, &file.content.name);
     let answer = match (wrong.lines.is_empty(), mended.steps.is_empty()) {
         (true, true) => Answer::done("nothing is wrong with the deal"),
         (true, false) => Answer::done("the deal is repaired"),
         (false, _) => Answer::damaged("something is left that cannot be told"),
     };
-    let lines = mended.steps.iter().map(line).collect();
-    let steps = mended.steps.iter().map(members).collect();
+    let lines = mended.steps.iter().map(|step| line(step, &mended.survey, &owners)).collect();
+    let steps = mended.steps.iter().map(|step| members(step, &mended.survey, &owners)).collect();
     let answer = answer.with_text(lines, vec![("mended", Json::List(steps))]);
     let answer = copy.into_iter().fold(answer, |answer, name| answer.with_value("copy", file_name(&name)).writing());
     Ok(wrong.told(answer, &mended.survey))
@@ -70,40 +72,41 @@ fn hand(in_hand: &InHand) -> Result<Result<Hand, Answer>, Failure> {
     })
 }
 
+/// The owner of a slot that was mended, where it is known.
+fn owner(slot: u64, survey: &Survey, owners: &Owners) -> Option<Owner> {
+    survey.slots.get(slot as usize).and_then(|slot| owners.of_slot(slot))
+}
+
 /// A step as a line of text.
-fn line(step: &Step) -> String {
-    let entry =
-        |entry: &Entry| format!("offset {}, size {}, commitment {}", entry.offset, entry.size, entry.commitment);
+fn line(step: &Step, survey: &Survey, owners: &Owners) -> String {
+    let entry = |slot: &u64, entry: &Entry| {
+        let whose = owner(*slot, survey, owners).map_or(String::new(), |owner| format!(", owner {}", owner.word()));
+        format!("offset {}, size {}, commitment {}{whose}", entry.offset, entry.size, entry.commitment)
+    };
     match step {
         Step::Bits(Stray { offset, bits }) => format!("cleared stray bits {bits:#04x} at byte {offset}\n"),
         Step::Entry { slot, place, entry: made } => {
-            format!("made the entry of slot {slot} (place {place}) anew: {}\n", entry(made))
+            format!("made the entry of slot {slot} (place {place}) anew: {}\n", entry(slot, made))
         }
         Step::Segment { slot, place, entry: stood } => {
-            format!("wrote the segment of slot {slot} (place {place}) anew: {}\n", entry(stood))
+            format!("wrote the segment of slot {slot} (place {place}) anew: {}\n", entry(slot, stood))
         }
     }
 }
 
 /// A step for JSON.
-fn members(step: &Step) -> Json {
-    Json::Object(match step {
+fn members(step: &Step, survey: &Survey, owners: &Owners) -> Json {
+    let (what, slot, place, entry) = match step {
         Step::Bits(Stray { offset, bits }) => {
-            vec![("what", text("bits")), ("offset", Json::Number(*offset)), ("bits", Json::Number(u64::from(*bits)))]
+            let (offset, bits) = (Json::Number(*offset), Json::Number(u64::from(*bits)));
+            return Json::Object(vec![("what", text("bits")), ("offset", offset), ("bits", bits)]);
         }
-        Step::Entry { slot, place, entry } => slot_entry(text("entry"), *slot, *place, entry),
-        Step::Segment { slot, place, entry } => slot_entry(text("segment"), *slot, *place, entry),
-    })
-}
-
-/// What was done to a slot, with its entry, for JSON.
-fn slot_entry(what: Json, slot: u64, place: u64, entry: &Entry) -> Vec<(&'static str, Json)> {
-    vec![
-        ("what", what),
-        ("slot", Json::Number(slot)),
-        ("place", Json::Number(place)),
-        ("offset", Json::Number(entry.offset)),
-        ("size", Json::Number(entry.size)),
-        ("commitment", text(entry.commitment)),
-    ]
+        Step::Entry { slot, place, entry } => (text("entry"), *slot, *place, entry),
+        Step::Segment { slot, place, entry } => (text("segment"), *slot, *place, entry),
+    };
+    let mut members = vec![("what", what), ("slot", Json::Number(slot)), ("place", Json::Number(place))];
+    members.extend(owner(slot, survey, owners).map(Owner::members).unwrap_or_default());
+    members.extend([("offset", Json::Number(entry.offset)), ("size", Json::Number(entry.size))]);
+    members.push(("commitment", text(entry.commitment)));
+    Json::Object(members)
 }

@@ -10,41 +10,45 @@ use super::super::store::names::shown;
 use super::super::survey::{Slot, State};
 use super::fsck::{disagreeing, file_name, read};
 use super::list::{slot_members, state};
-use super::{refused, text};
+use super::text;
 use std::fs;
 use std::path::{Path, PathBuf};
 use vizhuthamen::Entry;
 
 /// Writes the segment of each entry that is kept, or would be after a repair, to a file of its own. The deal is not changed.
 pub fn salvage(deal: &Stream, folder: &Path, wait: bool) -> Result<Answer, Failure> {
-    let (deal, disagrees) = read(deal, wait)?;
-    let progress = Progress::start("salvaging", deal.bytes.len());
-    let mended = match mend::mend(&deal.bytes, None, None) {
+    let read = read(deal, wait)?;
+    let progress = Progress::start("salvaging", read.deal.bytes.len());
+    let mended = match mend::mend(&read.deal.bytes, None, None) {
         Ok(mended) => mended,
-        Err(refusal) => return Ok(disagrees.into_iter().fold(refused(refusal, &deal), Answer::with_note)),
+        Err(refusal) => return Ok(read.refused(refusal)),
     };
     drop(progress);
     make_folder(folder)?;
     let (mut lines, mut files, mut left) = (String::new(), vec![], vec![]);
     for slot in mended.survey.slots.iter().filter(|slot| slot.state != State::Blank) {
+        let (number, place) = (slot.number, slot.place);
+        let whose = read.owners.of_slot(slot).map_or(String::new(), |owner| format!(", {}", owner.whose()));
         match slot.kept() {
             Some(entry) => {
                 let path = write(folder, slot, &entry, &mended.bytes)?;
-                lines.push_str(&format!("slot {} (place {}): {}\n", slot.number, slot.place, shown(&path)));
-                files.push(Json::Object([slot_members(slot, "kept"), vec![("file", file_name(&path))]].concat()));
+                lines.push_str(&format!("slot {number} (place {place}{whose}): {}\n", shown(&path)));
+                let members = slot_members(slot, "kept", &read.owners);
+                files.push(Json::Object([members, vec![("file", file_name(&path))]].concat()));
             }
             None => {
-                lines.push_str(&format!("slot {} (place {}): {}, not written\n", slot.number, slot.place, state(slot)));
-                left.push(Json::Object(slot_members(slot, state(slot))));
+                lines.push_str(&format!("slot {number} (place {place}{whose}): {}, not written\n", state(slot)));
+                left.push(Json::Object(slot_members(slot, state(slot), &read.owners)));
             }
         }
     }
-    let answer = match left.is_empty() && disagrees.is_none() {
+    let answer = match left.is_empty() && read.disagrees.is_none() {
         true => Answer::done("every segment is written").writing(),
         false => Answer::damaged("some segments are not written").writing(),
     };
     let members = vec![("folder", text(shown(folder))), ("written", Json::List(files)), ("left", Json::List(left))];
-    Ok(disagreeing(answer, disagrees).with_text(lines, members))
+    let unknown = read.owners.unknown(&mended.survey.slots, &read.deal.name);
+    Ok(unknown.into_iter().fold(disagreeing(answer, read.disagrees).with_text(lines, members), Answer::with_note))
 }
 
 fn make_folder(folder: &Path) -> Result<(), Failure> {

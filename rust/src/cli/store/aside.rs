@@ -192,6 +192,15 @@ pub fn is_free(path: &Path) -> bool {
     fs::symlink_metadata(path).is_err_and(|error| error.kind() == ErrorKind::NotFound)
 }
 
+/// Whether something has this name.
+pub fn is_there(path: &Path) -> Result<bool, String> {
+    match fs::symlink_metadata(path) {
+        Ok(_) => Ok(true),
+        Err(error) if error.kind() == ErrorKind::NotFound => Ok(false),
+        Err(error) => Err(error.to_string()),
+    }
+}
+
 /// Makes a file with this name and locks it. A name that a dead process has left is taken over.
 fn claim(name: &Path, mode: u32, held: &Held) -> Result<File, String> {
     loop {

@@ -1,11 +1,11 @@
-//! The file of a deal: made, read and changed under its lock.
-use super::aside::{leads_to, Aside, Fill};
-use super::attributes::{Attributes, Keep};
+//! The file of a deal: read and changed under its lock.
+use super::aside::leads_to;
+use super::attributes::Keep;
 use super::change::{self, Part, Trouble};
 use super::lock::{self, Share};
 use super::names::{shown, Home};
+use super::owners::{with_one_name, NewTable, OwnerTable};
 use super::sidecar::{self, Known};
-use super::signals::Held;
 use crate::cli::failure::{self, Failure};
 use crate::cli::files::{self, Content};
 use std::fs::{self, File, OpenOptions};
@@ -74,18 +74,21 @@ impl DealFile {
             return Err(failure::io(format!("cannot lock {name}: it is not a regular file")));
         }
         let home = Home::of(&path);
-        // A change that is to be ended is ended by a writer, and then a reader begins anew.
-        let writes = share == Share::Nobody || home.journal().exists();
+        let writes = share == Share::Nobody;
         let opened = OpenOptions::new().read(true).write(writes).open(&path);
         let action = if writes { "open for reading and writing" } else { "read" };
         let file = opened.map_err(|error| files::cannot(action, &name, error))?;
-        lock::take(&file, if writes { Share::Nobody } else { share }, access.wait, given)?;
-        let current = leads_to(&path, &file).map_err(|error| files::cannot("read", &name, error))?;
-        if !current || !writes && home.journal().exists() {
+        lock::take(&file, share, access.wait, given)?;
+        if !leads_to(&path, &file).map_err(|error| files::cannot("read", &name, error))? {
             return Ok(None);
         }
-        let ended = writes && change::end(&home).map_err(|error| failure::io(format!("{name}: {error}")))?;
-        if ended || writes && share == Share::Readers {
+        if !writes && home.journal().exists() {
+            // Nobody makes a change now: a dead process has left this one. A writer ends it, and the reader begins
+            // anew.
+            drop(file);
+            return DealFile::try_lock(given, access, Share::Nobody).map(|_| None);
+        }
+        if writes && change::end(&home).map_err(|error| failure::io(format!("{name}: {error}")))? {
             return Ok(None);
         }
         let content = files::read_open(&file, name)?;
@@ -104,23 +107,46 @@ impl DealFile {
         }
     }
 
-    /// Puts a new deal in the place of the old one, with its owner and permissions, together with other files beside it: all of them
-    /// or none. What is known of the deal is put beside it where nothing is.
-    pub fn replace(&self, bytes: &[u8], others: Vec<Part>) -> Result<(), Failure> {
+    /// Puts a new deal in the place of the old one, with its owner and permissions, together with a table of its
+    /// owners and with other files beside it: all of them or none. What is known of the deal is put beside it where
+    /// nothing is.
+    pub fn replace(&self, bytes: &[u8], table: Option<&NewTable>, others: Vec<Part>) -> Result<(), Failure> {
         let keep = Keep { old: &self.file, new_owner: self.access.new_owner };
         let known = Known::new(bytes.len() as u64, None);
         let mut parts = vec![Part { target: self.path.clone(), bytes, keep: Some(keep) }];
+        let replaced = table.map(NewTable::replaced).transpose()?.flatten();
+        parts.extend(table.map(|table| self.table_part(table, replaced.as_ref())));
         if self.known.is_none() {
             parts.push(self.beside(&known, &self.file));
         }
         parts.extend(others);
-        change::put(&self.home, &parts, || self.unchanged()).map_err(|trouble| troubled(trouble, &self.content.name))
+        let still = || self.unchanged().and_then(|()| table.map_or(Ok(()), |table| table.unchanged(&self.home)));
+        change::put(&self.home, &parts, still).map_err(|trouble| troubled(trouble, &self.content.name))
+    }
+
+    /// Puts a table of owners beside the deal, which stays.
+    pub fn put_table(&self, table: &NewTable) -> Result<(), Failure> {
+        let replaced = table.replaced()?;
+        let part = self.table_part(table, replaced.as_ref());
+        let still = || self.unchanged().and_then(|()| table.unchanged(&self.home));
+        change::put(&self.home, &[part], still).map_err(|trouble| troubled(trouble, &shown(self.home.table())))
+    }
+
+    /// The table of the deal's owners, if there is one.
+    pub fn table(&self) -> Result<Option<OwnerTable>, Failure> {
+        OwnerTable::read(&self.home)
+    }
+
+    /// The part that puts a table beside the deal, with the permissions of the one that it replaces, or of the deal.
+    fn table_part<'a>(&'a self, table: &'a NewTable, replaced: Option<&'a File>) -> Part<'a> {
+        let keep = Keep { old: replaced.unwrap_or(&self.file), new_owner: true };
+        Part { target: self.home.table(), bytes: &table.bytes, keep: Some(keep) }
     }
 
     /// Keeps a number beside the deal, in the place of the one that is there.
     pub fn keep_number(&self, number: u64) -> Result<(), Failure> {
         let known = self.known.clone().unwrap_or_else(|| Known::new(self.content.length(), None)).with_number(number);
-        let old = self.known.as_ref().map(|_| with_one_name(&self.home.sidecar())).transpose()?;
+        let old = self.known.as_ref().map(|_| replaced(&self.home.sidecar())).transpose()?;
         let part = self.beside(&known, old.as_ref().unwrap_or(&self.file));
         let name = shown(self.home.sidecar());
         change::put(&self.home, &[part], || self.unchanged()).map_err(|trouble| troubled(trouble, &name))
@@ -161,19 +187,17 @@ impl DealFile {
     pub fn path(&self) -> &Path {
         &self.path
     }
+
+    /// The names beside the deal.
+    pub fn home(&self) -> &Home {
+        &self.home
+    }
 }
 
 /// Opens a file that is to be replaced: a regular one with one name.
-fn with_one_name(path: &Path) -> Result<File, Failure> {
-    let failed = |error| files::cannot("replace", &shown(path), error);
-    let metadata = fs::symlink_metadata(path).map_err(failed)?;
-    match metadata.is_file() && metadata.nlink() == 1 {
-        true => File::open(path).map_err(failed),
-        false => Err(failure::io(format!(
-            "cannot replace {}: it is a link, or has several names; make it a file of its own first",
-            shown(path)
-        ))),
-    }
+fn replaced(path: &Path) -> Result<File, Failure> {
+    with_one_name(path)?;
+    File::open(path).map_err(|error| files::cannot("replace", &shown(path), error))
 }
 
 /// The failure of a change, in which it says whether anything is changed.
@@ -182,73 +206,4 @@ pub fn troubled(trouble: Trouble, name: &str) -> Failure {
         Trouble::Nothing(why) => format!("cannot write {name}: {why}; nothing is changed"),
         Trouble::Made(why) => format!("{name} is written, but {why}"),
     })
-}
-
-/// Makes a deal file, and keeps its number beside it where it is known. A file that is there stays. Says what could not
-/// be done beside it, and can be done without.
-pub fn create(
-    given: &Path,
-    fill: Fill,
-    number: Option<u64>,
-    attributes: Attributes,
-) -> Result<Option<String>, Failure> {
-    let name = shown(given);
-    let cannot = |error: String| failure::io(format!("cannot make {name}: {error}"));
-    let home = Home::of(given);
-    let known = Known::new(fill.length(), number);
-    let lies_there = sidecar::lies_beside(given, &known)?;
-    let exists = || cannot("the file exists, and is never overwritten; give another name".to_string());
-    if is_there(given).map_err(cannot)? {
-        return Err(exists());
-    }
-    // Whoever opens the new deal next would end the change that the journal names, over the new deal.
-    if is_there(&home.journal()).map_err(cannot)? {
-        let journal = shown(home.journal());
-        return Err(cannot(format!("{journal} was left by a change of an older deal of that name; remove it first")));
-    }
-    let held = Held::start();
-    let mut aside = Aside::write(&home, 0, fill, attributes, &held).map_err(cannot)?;
-    if !aside.make(given, &held).map_err(cannot)? {
-        return Err(exists());
-    }
-    // The new deal was locked before it had its name, and is until the end.
-    change::flush(&home.folder)
-        .map_err(|error| troubled(Trouble::Made(format!("its folder could not be flushed: {error}")), &name))?;
-    let beside = beside_new(&home, (!lies_there).then_some(&known), attributes, aside.file(), &held);
-    let failed = |why| format!("{} could not be written: {why}", shown(home.sidecar()));
-    match (beside.map_err(failed), number) {
-        (Ok(()), _) => Ok(None),
-        (Err(why), None) => Ok(Some(format!("{why}; a cut of {name} will not be noticed"))),
-        (Err(why), Some(number)) => {
-            let why = format!("{why}; its number is kept by: vizhuthamen number {name} {number}");
-            Err(troubled(Trouble::Made(why), &name))
-        }
-    }
-}
-
-/// Whether something has this name.
-fn is_there(path: &Path) -> Result<bool, String> {
-    match fs::symlink_metadata(path) {
-        Ok(_) => Ok(true),
-        Err(error) if error.kind() == ErrorKind::NotFound => Ok(false),
-        Err(error) => Err(error.to_string()),
-    }
-}
-
-/// Removes what was left beside an older deal of the same name, and puts what is known of the new one there, where nothing is.
-fn beside_new(
-    home: &Home,
-    known: Option<&Known>,
-    attributes: Attributes,
-    deal: &File,
-    held: &Held,
-) -> Result<(), String> {
-    change::clear(home, deal)?;
-    if let Some(known) = known {
-        let mut aside = Aside::write(home, 0, Fill::Bytes(known.text().as_bytes()), attributes, held)?;
-        if !aside.make(&home.sidecar(), held)? {
-            return Err("another program has made it in the meantime".to_string());
-        }
-    }
-    change::flush(&home.folder).map_err(|error| error.to_string())
 }

@@ -42,6 +42,11 @@ impl Home {
         self.added("", "vz")
     }
 
+    /// The name of the table of a deal's owners.
+    pub fn table(&self) -> PathBuf {
+        self.added("", "owners")
+    }
+
     /// The name of a copy that is made before a repair.
     pub fn copy(&self, number: u64) -> PathBuf {
         match number {
@@ -108,6 +113,7 @@ mod tests {
         assert_eq!(home.part(0), Path::new("a/.deal.vz-new.0"));
         assert_eq!(home.journal(), Path::new("a/.deal.vz-journal"));
         assert_eq!(home.sidecar(), Path::new("a/deal.vz"));
+        assert_eq!(home.table(), Path::new("a/deal.owners"));
         assert_eq!(home.copy(0), Path::new("a/deal.before-repair"));
         assert_eq!(home.copy(3), Path::new("a/deal.before-repair.3"));
         assert_eq!(Home::of(Path::new("deal")).part(1), Path::new("./.deal.vz-new.1"));
@@ -117,7 +123,7 @@ mod tests {
     fn a_long_name_gets_names_that_are_short_enough_and_its_own() {
         let long = |last: &str| Home::of(Path::new(&("x".repeat(254) + last)));
         let name = |path: PathBuf| path.file_name().unwrap().len();
-        assert!(name(long("a").part(7)) < 255 && name(long("a").sidecar()) < 255);
+        assert!(name(long("a").part(7)) < 255 && name(long("a").table()) < 255);
         assert_ne!(long("a").part(0), long("b").part(0));
     }
 

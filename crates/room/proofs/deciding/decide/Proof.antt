@@ -9,7 +9,7 @@ use Rattle.sizes.specs.SizesLaws.{LentSize, lent-size, index-start-le}
 use Rattle.room.specs.Room.{Range, rangesIn, fits, lowestFreeSlot, lowestPlace}
 use Rattle.room.specs.RoomLaws.{slots-high}
 use Rattle.room.specs.OverlapLaws.{place-ends}
-use Rattle.room.proofs.Decided.{is-kept, no-slot, no-place, is-placed}
+use Rattle.room.proofs.Decided.{is-kept, half-held, no-slot, no-place, is-placed}
 use Rattle.room.proofs.deciding.decide.Statement.{statement}
 use Rattle.room.proofs.deciding.decide.Tie as tie
 
@@ -24,8 +24,11 @@ sized s = lent-size (s .args .size) (s .pre .0)
 abbrev start : tie.After-entry-count → tie.Start
 start n = n .before .before .before
 
+abbrev below-half : tie.After-known-told2 → tie.Else1
+below-half w = w .before .before .before .before
+
 abbrev counted : tie.After-known-told2 → tie.After-entry-count
-counted w = w .before .before .before .before
+counted w = below-half w .before
 
 abbrev searched : tie.After-lowest-place → tie.After-known-told2
 searched p = p .before .before
@@ -36,7 +39,8 @@ enum-known-keeping c = search needs
 returns : tie.Need-returns
 returns c =
     let s = c .before .before .before in
-    is-kept (s .args .size) (ranges s) (s .args .area) (s .args .keeping) (c .before .keeping .given .0 .0)
+    is-kept (s .args .size) (ranges s) (s .args .held) (s .args .area) (s .args .keeping)
+    (c .before .keeping .given .0 .0)
     (c .before .keeping .given .1)
 
 enum-told : tie.Need-enum-told
@@ -48,8 +52,19 @@ entry-count-requires c κs = search needs
 few : (n : tie.After-entry-count) → n .entry-count .result ≤ 128
 few n = omega (arith, n .entry-count .ensures, slots-high (start n .args .size) (start n .pre .0))
 
+-- the quota
+mul-if1 : tie.Need-mul-if1
+mul-if1 c = omega (arith, few c, c .entry-count .ensures, start c .pre .1 .0 .2)
+
+returns-2 : tie.Need-returns-2
+returns-2 c =
+    let n = c .before in
+    let s = start n in
+    half-held (s .args .size) (ranges s) (s .args .held) (s .args .area) (s .args .keeping)
+    (n .before .enum-told .given .1) (n .entry-count .result) (n .entry-count .ensures) (c .if1 .taken)
+
 lowest-free-slot-requires : tie.Need-lowest-free-slot-requires
-lowest-free-slot-requires c κs = few c
+lowest-free-slot-requires c κs = few (c .before)
 
 enum-known-i : tie.Need-enum-known-i
 enum-known-i c = search needs
@@ -57,13 +72,14 @@ enum-known-i c = search needs
 enum-told-2 : tie.Need-enum-told-2
 enum-told-2 c = search needs
 
-returns-2 : tie.Need-returns-2
-returns-2 c =
+returns-3 : tie.Need-returns-3
+returns-3 c =
     let f = c .before .before in
-    let n = f .before in
+    let n = f .before .before in
     let s = start n in
-    no-slot (s .args .size) (ranges s) (s .args .area) (s .args .keeping) (n .before .enum-told .given .1)
-    (n .entry-count .result) (n .entry-count .ensures) (sym (f .lowest-free-slot .ensures) ∙ c .enum-told2 .given .1)
+    no-slot (s .args .size) (ranges s) (s .args .held) (s .args .area) (s .args .keeping)
+    (n .before .enum-told .given .1) (n .entry-count .result) (n .entry-count .ensures) (f .before .if1 .left)
+    (sym (f .lowest-free-slot .ensures) ∙ c .enum-told2 .given .1)
 
 -- the free slot
 slot-at : (w : tie.After-known-told2)
@@ -92,14 +108,15 @@ enum-known-k c = search needs
 enum-told-3 : tie.Need-enum-told-3
 enum-told-3 c = search needs
 
-returns-3 : tie.Need-returns-3
-returns-3 c =
+returns-4 : tie.Need-returns-4
+returns-4 c =
     let p = c .before .before in
     let w = searched p in
     let n = counted w in
     let s = start n in
-    no-place (s .args .size) (ranges s) (s .args .area) (s .args .keeping) (n .before .enum-told .given .1)
-    (n .entry-count .result) (n .entry-count .ensures) (w .before .i .given .0 .0) (slot-at w)
+    no-place (s .args .size) (ranges s) (s .args .held) (s .args .area) (s .args .keeping)
+    (n .before .enum-told .given .1) (n .entry-count .result) (n .entry-count .ensures) (below-half w .if1 .left)
+    (w .before .i .given .0 .0) (slot-at w)
     (p .before .index-start .result) (p .before .index-start .ensures)
     (sym (p .lowest-place .ensures) ∙ c .enum-told3 .given .1)
 
@@ -116,8 +133,8 @@ place-at c = sym (found c .lowest-place .ensures) ∙ c .before .k .given .1
 abbrev fits-at : tie.After-entry-count → ℕ → Bool
 fits-at n k = fits (ranges (start n)) (n .entry-count .result) (start n .args .area) (k * start n .args .area)
 
-mul-t12 : tie.Need-mul-t12
-mul-t12 c =
+mul-t15 : tie.Need-mul-t15
+mul-t15 c =
     let p = found c in
     let n = counted (searched p) in
     let s = start n in
@@ -133,14 +150,15 @@ mul-t12 c =
       sized s .deal .size-high,
     )
 
-returns-4 : tie.Need-returns-4
-returns-4 c =
+returns-5 : tie.Need-returns-5
+returns-5 c =
     let p = found c in
     let w = searched p in
     let n = counted w in
     let s = start n in
-    is-placed (s .args .size) (ranges s) (s .args .area) (s .args .keeping) (n .before .enum-told .given .1)
-    (n .entry-count .result) (n .entry-count .ensures) (w .before .i .given .0 .0) (slot-at w)
+    is-placed (s .args .size) (ranges s) (s .args .held) (s .args .area) (s .args .keeping)
+    (n .before .enum-told .given .1) (n .entry-count .result) (n .entry-count .ensures) (below-half w .if1 .left)
+    (w .before .i .given .0 .0) (slot-at w)
     (p .before .index-start .result) (p .before .index-start .ensures) (c .before .k .given .0 .0) (place-at c)
 
 pub decide-spec : {M : Type 1} → statement M
@@ -151,14 +169,16 @@ decide-spec =
     returns
     enum-told
     entry-count-requires
+    mul-if1
+    returns-2
     lowest-free-slot-requires
     enum-known-i
     enum-told-2
-    returns-2
+    returns-3
     index-start-requires
     lowest-place-requires
     enum-known-k
     enum-told-3
-    returns-3
-    mul-t12
-    returns-4)
+    returns-4
+    mul-t15
+    returns-5)

@@ -4,12 +4,20 @@ use Rattle.vizhuthamen.proofs.bookings.vz_book_with_tree.Tie as tie
 
 returns : tie.Need-returns
 returns c =
-    let k = c .before .before .before .before .before .before .before in
+    let k = c .before .before .before .before .before .before .before .before .before in
+    let left = k .book-with-tree .ensures .1 in
     rw (← k .book-with-tree .ensures .0) (
       c .write-booked .ensures .0,
-      (k .book-with-tree .ensures .1 .0, (k .book-with-tree .ensures .1 .1, c .write-booked .ensures .1)),
+      (left .0, (left .1 .0, (left .1 .1, c .write-booked .ensures .1))),
     )
 
 pub vz-book-with-tree-spec : {M : Type 1} → statement M
 vz-book-with-tree-spec =
-    tie.close (tie.spec (λ c κs. search needs) (λ c κs. search needs) (λ c. search needs) (λ c. search needs) returns)
+    tie.close
+    (tie.spec
+    (λ c κs. search needs)
+    (λ c κs. search needs)
+    (λ c. search needs)
+    (λ c. search needs)
+    (λ c. search needs)
+    returns)

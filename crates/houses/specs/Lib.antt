@@ -1,0 +1,2 @@
+pub mod Houses
+pub mod HousesLaws
