@@ -1,12 +1,19 @@
-# The libraries for programs in other languages, and their installation.
+# The command line and the libraries for programs in other languages, and their installation.
 #
-#   make                                    target/lib: the static and the shared library; where the proved archive is not there yet,
-#                                           tools/levels makes it (the Rattle kit, gcc and binutils are needed)
-#   make install [PREFIX=DIR] [DESTDIR=DIR] header, libraries, pkg-config file and Python package, below PREFIX (/usr/local); what is
+#   make                                    target/lib: the static and the shared library; target/cli: the command line with its man page
+#                                           and completions. Where the proved archive is not there yet, tools/levels makes it (the
+#                                           Rattle kit, gcc and binutils are needed)
+#   make install [PREFIX=DIR] [DESTDIR=DIR] all of these, header, pkg-config file and Python package, below PREFIX (/usr/local); what is
 #                                           written goes below DESTDIR, and names no DESTDIR in it
 #
-# INCLUDEDIR, LIBDIR and PYTHONDIR name other folders than PREFIX gives. Without python3 there is no PYTHONDIR, and no package is written.
+# BINDIR, MANDIR, BASHDIR, ZSHDIR, FISHDIR, INCLUDEDIR, LIBDIR and PYTHONDIR name other folders than PREFIX gives. Without cargo there is no
+# command line; without python3 there is no PYTHONDIR, and no package is written.
 PREFIX = /usr/local
+BINDIR = $(PREFIX)/bin
+MANDIR = $(PREFIX)/share/man
+BASHDIR = $(PREFIX)/share/bash-completion/completions
+ZSHDIR = $(PREFIX)/share/zsh/site-functions
+FISHDIR = $(PREFIX)/share/fish/vendor_completions.d
 INCLUDEDIR = $(PREFIX)/include
 LIBDIR = $(PREFIX)/lib
 PYTHONDIR = $(shell python3 -c 'import sysconfig as s; print(s.get_path("purelib", "posix_prefix", {"base": "$(PREFIX)"}))')
@@ -20,11 +27,15 @@ shared = $(plain).$(version)
 out = target/lib
 proved = target/levels/libvizhuthamen.a
 modules = $(wildcard python/vizhuthamen/*)
+CARGO := $(shell command -v cargo)
+cli = target/cli
+program = $(cli)/release/vizhuthamen
+texts = $(addprefix $(cli)/,vizhuthamen.1 vizhuthamen.bash vizhuthamen.zsh vizhuthamen.fish)
 
 .PHONY: all install
 .DELETE_ON_ERROR:
 
-all: $(out)/libvizhuthamen.a $(out)/$(shared)
+all: $(out)/libvizhuthamen.a $(out)/$(shared) $(if $(CARGO),$(program) $(texts))
 
 $(proved): $(shell find crates -name '*.rt')
 	tools/levels
@@ -49,6 +60,18 @@ $(out)/$(shared): $(out)/libvizhuthamen.a $(out)/exported
 	ln -sf $(shared) $(out)/$(soname)
 	ln -sf $(soname) $(out)/$(plain)
 
+# The archive that chooses a level is linked in; a folder of its own, since tests link others.
+$(program): $(proved) $(shell find rust/src -name '*.rs') rust/Cargo.toml rust/Cargo.lock rust/build.rs
+	VIZHUTHAMEN_LIB='$(CURDIR)/$(dir $(proved))' $(CARGO) build --release --offline --quiet --bins \
+	    --manifest-path rust/Cargo.toml --target-dir $(cli)
+	touch $@
+
+$(cli)/vizhuthamen.1: $(program)
+	$(program) help --man > $@
+
+$(cli)/vizhuthamen.%: $(program)
+	$(program) completions $* > $@
+
 install: all
 	install -d '$(DESTDIR)$(INCLUDEDIR)' '$(DESTDIR)$(LIBDIR)/pkgconfig'
 	install -m 644 $(header) '$(DESTDIR)$(INCLUDEDIR)'
@@ -58,5 +81,10 @@ install: all
 	ln -sf $(soname) '$(DESTDIR)$(LIBDIR)/$(plain)'
 	sed -e 's|@PREFIX@|$(PREFIX)|' -e 's|@INCLUDEDIR@|$(INCLUDEDIR)|' -e 's|@LIBDIR@|$(LIBDIR)|' -e 's|@VERSION@|$(version)|' \
 	    c/vizhuthamen.pc.in > '$(DESTDIR)$(LIBDIR)/pkgconfig/vizhuthamen.pc'
+	[ -z '$(CARGO)' ] || { install -D -m 755 $(program) '$(DESTDIR)$(BINDIR)/vizhuthamen' && \
+	    install -D -m 644 $(cli)/vizhuthamen.1 '$(DESTDIR)$(MANDIR)/man1/vizhuthamen.1' && \
+	    install -D -m 644 $(cli)/vizhuthamen.bash '$(DESTDIR)$(BASHDIR)/vizhuthamen' && \
+	    install -D -m 644 $(cli)/vizhuthamen.zsh '$(DESTDIR)$(ZSHDIR)/_vizhuthamen' && \
+	    install -D -m 644 $(cli)/vizhuthamen.fish '$(DESTDIR)$(FISHDIR)/vizhuthamen.fish'; }
 	[ -z '$(PYTHONDIR)' ] || { install -d '$(DESTDIR)$(PYTHONDIR)/vizhuthamen' && \
 	    install -m 644 $(modules) '$(DESTDIR)$(PYTHONDIR)/vizhuthamen'; }

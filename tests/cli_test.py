@@ -21,16 +21,22 @@ from model import MAX_RAW, MAX_RAW_STREAM, Model, area, filled, index_numbers, p
 
 ROOT = Path(__file__).resolve().parent.parent
 BINARY = Path(os.environ.get("VIZHUTHAMEN", ROOT / "rust" / "target" / "release" / "vizhuthamen"))
-COMMANDS = ("new", "number", "owner", "commit", "stream", "pad", "unpad", "book", "cancel", "collect", "list", "tally", "find",
-            "build", "check", "settle", "settle-deal", "show", "fsck", "repair", "salvage")
+COMMANDS = ("new", "number", "owner", "commit", "stream", "pad", "unpad", "book", "pack", "extract", "close", "cancel", "collect", "list",
+            "tally", "find", "build", "check", "settle", "settle-deal", "show", "fsck", "repair", "salvage", "prove", "verify", "help",
+            "completions")
 MODEL = Model()
 NUMBER = 0xfedcba9876543210  # of the deals here, and another one
 OTHER = NUMBER + 1
 GIVEN = "--number", NUMBER
-USAGE, DATA, IO, BUSY = 64, 65, 74, 75
+USAGE, DATA, NOT_PROVED, IO, BUSY = 64, 65, 66, 74, 75
 DONE = {"code": 0, "meaning": "done"}
 HOUSE = "VIZHUTHAMEN_HOUSE"
 os.environ.pop(HOUSE, None)  # what a test does not name is not named
+
+
+def told(number):
+    """A number as JSON has it: beyond 2^53 - 1 the text of its digits."""
+    return number if number < 1 << 53 else str(number)
 
 
 def nobody():
@@ -89,11 +95,29 @@ class Calls(unittest.TestCase):
         return out
 
     def failed(self, status, *words, **options):
-        """A call without an answer: nothing on standard output, one line on standard error. Gives that line."""
+        """A call without an answer: nothing on standard output but JSON where it is asked for, and one line on standard error. Gives that
+        line."""
         out, err = self.call(*words, status=status, **options)
-        self.assertEqual(out, "")
         self.assertRegex(err, r"\Avizhuthamen: [^\n]+\n\Z")
+        if "--json" not in words:
+            self.assertEqual(out, "")
+            return err
+        value = json.loads(out)
+        self.assertEqual(set(value), {"code", "meaning", "command", "error", "hints"})
+        self.assertEqual((value["code"], "; ".join([value["error"], *value["hints"]])), (status, err[len("vizhuthamen: "):-1]))
         return err
+
+    def object(self, *words, status=0, **options):
+        """The object that a call prints with --json, without what is judged here: the command, and the hints, which are on standard error
+        too or in the text."""
+        out, err = self.call(*words, "--json", status=status, **options)
+        self.assertEqual(out.count("\n"), 1)
+        value = json.loads(out)
+        self.assertEqual((value["code"], value.pop("command"), "error" in value), (status, words[0], False))
+        self.assertTrue(value["meaning"])
+        lines = [f"vizhuthamen: {hint}\n" for hint in value.pop("hints") if hint != value.get("hint")]
+        self.assertEqual("".join(lines), err)
+        return value
 
     def files(self):
         return sorted(p.name for p in self.folder.iterdir() if p.name != "program")
@@ -247,7 +271,7 @@ class Cancelling(Calls):
         self.answer("check", old, 1024, "record", *GIVEN)
         self.refused(9, "check", new, 1024, "record", *GIVEN)
         self.refused(9, "settle-deal", "deal", "record", *GIVEN)
-        self.answer("build", "deal", places[0], "-o", "record", *GIVEN)
+        self.answer("build", "deal", places[0], "-o", "record", "--force", *GIVEN)
         self.answer("check", new, 1024, "record", *GIVEN)
 
     def test_an_entry_that_stands_and_is_not_kept(self):
@@ -270,7 +294,8 @@ class Cancelling(Calls):
         for place in (0, 704, 767, 769, 800, 1024, (1 << 64) - 64):
             out, err = self.call("cancel", "deal", place, status=6)
             self.assertTrue(out.startswith("code 6: "), out)
-            self.assertIn("an entry place here is a multiple of 64 from 768 to 960; they are shown by: vizhuthamen list deal\n", err)
+            self.assertIn("an entry place here is a multiple of 64 from 768 to 960 (slots 0 to 3); they are shown by: "
+                          "vizhuthamen list deal\n", err)
         self.assertEqual(self.get("deal"), bytes(spoilt))
         self.put("deal", deal[:31] + b"\x40" + deal[32:])
         for place in (places[0], 960, 1):
@@ -356,8 +381,8 @@ class Collecting(Calls):
         """A record of the old deal is the old deal's alone; at the new places the new deal has others, which are accepted."""
         old_root, new_root = (MODEL.commitment(d)[1].hex() for d in (deal, new))
         for row in self.moved(deal, bytes(4), new):
-            self.answer("build", "deal", row["place"], "-o", "old", *GIVEN)
-            self.answer("build", "new", row["new_place"], "-o", "record", *GIVEN)
+            self.answer("build", "deal", row["place"], "-o", "old", "--force", *GIVEN)
+            self.answer("build", "new", row["new_place"], "-o", "record", "--force", *GIVEN)
             self.answer("check", old_root, 4096, "old", *GIVEN)
             self.answer("check", new_root, 4096, "record", *GIVEN)
             self.refused(9, "check", new_root, 4096, "old", *GIVEN)
@@ -380,10 +405,10 @@ class Collecting(Calls):
                 table[self.rng.randrange(4)] = self.rng.randrange(256)
             self.put("deal", bytes(deal))
             self.put("deal.owners", bytes(table))
-            out = json.loads(self.answer("collect", "deal", f"new{i}", "--json"))
+            out = self.object("collect", "deal", f"new{i}")
             new, owners = self.collected(bytes(deal), bytes(table))
             self.assertEqual((self.both(), self.both(f"new{i}")), ((deal, table), (new, owners)))
-            self.assertEqual(out, {"code": 0, "meaning": "done", "size": 4096, "moved": self.moved(deal, table, new), "left": []})
+            self.assertEqual(out, {**DONE, "size": 4096, "moved": self.moved(deal, table, new), "left": []})
 
     def test_an_empty_deal_and_the_largest(self):
         self.put("deal", bytes(512))
@@ -423,8 +448,8 @@ class Collecting(Calls):
         for length in (0, 3, 5, 128, 129, 100000):
             self.put("deal.owners", bytes(length))
             out = self.refused(23, "collect", "deal", "new")
-            self.assertIn(f"deal.owners has {length} bytes, and deal has 4 slots, with a byte each. Bring back the right table", out)
-            value = json.loads(self.answer("collect", "deal", "new", "--json", status=23))
+            self.assertIn(f"deal.owners has {length} bytes, and deal has 4 slots, with a byte each; bring back the right table", out)
+            value = self.object("collect", "deal", "new", status=23)
             self.assertEqual((value["wrong"], "vizhuthamen owner deal HOUSE" in value["hint"]), ("table", True))
         self.assertEqual((self.get("deal"), self.files()), (deal, ["deal", "deal.owners"]))
 
@@ -480,7 +505,7 @@ class Collecting(Calls):
                                             "slot 3 (place 1984) overlaps slot 0"])
         for part in ("vizhuthamen fsck deal", "vizhuthamen list deal", "vizhuthamen cancel deal PLACE"):
             self.assertIn(part, err)
-        value = json.loads(self.answer("collect", "deal", "new", "--json", status=20))
+        value = self.object("collect", "deal", "new", status=20)
         self.assertEqual([(w["slot"], w["place"], w["overlaps"]) for w in value["overlapping"]], [(2, 1920, 0), (3, 1984, 0)])
         self.assertEqual((self.get("deal"), self.files()), (over, ["deal", "deal.owners"]))
         self.answer("owner", "deal", 2)  # until then the two are nobody's, and no house cancels them
@@ -546,9 +571,10 @@ class Houses(Calls):
             hint = ("house 1 holds 2 of the 4 slots of deal, and books while it holds fewer than half of them: cancel an entry of "
                     "house 1 first, or take another deal; they are shown by: vizhuthamen owner deal")
             self.assertEqual(out.splitlines()[1:], [hint])
-            value = json.loads(self.answer("book", "deal", "segment", "--house", 1, "--json", status=22))
+            value = self.object("book", "deal", "segment", "--house", 1, status=22)
             del value["meaning"]
-            self.assertEqual(value, {"code": 22, "house": 1, "held": 2, "slots": 4, "hint": hint})
+            self.assertEqual(value, {"code": 22, "house": 1, "held": 2, "hint": hint, "entries": 4, "free_slots": 2,
+                                     "free_bytes": size - 512, "largest_segment": 0, "largest_raw": 0})
             self.book(1, first, 15)  # 15 comes before it
             self.assertEqual(self.both(), kept)
             for end in ("", ".owners", ".vz"):
@@ -580,7 +606,7 @@ class Houses(Calls):
         for house, place, other in ((1, 832, 2), (2, 768, 1)):
             out, err = self.call("cancel", "deal", place, "--house", house, status=16)
             self.assertIn(f"(place {place}) holds an entry that stands and is house {other}'s; only house {other} cancels it\n", err)
-            value = json.loads(self.answer("cancel", "deal", place, "--house", house, "--json", status=16))
+            value = self.object("cancel", "deal", place, "--house", house, status=16)
             self.assertEqual((value["house"], value["owner"]), (house, other))
         self.put("deal.owners", b"\0\7\0\0")
         for place, told in ((768, {"owner": 0}), (832, {"owner": 0, "owner_byte": 7})):
@@ -615,7 +641,7 @@ class Houses(Calls):
                 else:
                     place = self.rng.choice((768, 832, 896, 960, 960, 700))
                     code, *state = MODEL.cancel(*state, house, place)
-                    value = json.loads(self.answer("cancel", "deal", place, "--house", house, "--json", status=code))
+                    value = self.object("cancel", "deal", place, "--house", house, status=code)
                 self.assertEqual((value["code"], value["house"], self.both()), (code, house, tuple(state)))
                 met.add(code)
                 if not self.rng.randrange(6):
@@ -646,12 +672,12 @@ class Houses(Calls):
         before = self.both()
         for variable in (None, ""):
             err = book(status=USAGE, variable=variable)[1]
-            self.assertIn(f"two houses book in deal: say which with --house 1 or --house 2 (or {HOUSE}); nothing is changed", err)
+            self.assertIn(f"two houses book in deal; nothing is changed; say which with --house 1 or --house 2 (or {HOUSE})", err)
         env = {**os.environ, HOUSE: "2"}
         self.assertIn("say which with --house", self.failed(USAGE, "cancel", "deal", (1 << 21) - 704))
         self.assertEqual(self.both(), before)
         for variable in ("x", "-1", "1 ", "two", "1.0"):
-            self.assertIn(f"{HOUSE} is no house, 1 or 2: {variable}", book(status=USAGE, variable=variable)[1])
+            self.assertIn(f"{HOUSE} is no house: {variable}; give 1 or 2", book(status=USAGE, variable=variable)[1])
         self.assertIn(f"{HOUSE} says 7, which is no house: give 1 or 2", book(status=23, variable="7")[0])
         self.assertEqual(self.both(), before)
         self.assertTrue(self.answer("cancel", "deal", (1 << 21) - 704, env=env).endswith("house 2\n"))
@@ -668,8 +694,8 @@ class Houses(Calls):
                           ("cancel", "deal", 1), ("cancel", "short", 1), ("book", "strange", "segment"), ("cancel", "strange", 768)):
                 out = self.refused(23, *words, "--house", house)
                 self.assertEqual(out.splitlines()[1:], [f"--house says {house}, which is no house: give 1 or 2"])
-            value = json.loads(self.answer("book", "deal", "segment", "--house", house, "--json", status=23))
-            self.assertEqual((value["house"], value["wrong"]), (house, "house"))
+            value = self.object("book", "deal", "segment", "--house", house, status=23)
+            self.assertEqual((value["house"], value["wrong"]), (told(house), "house"))
         self.assertEqual({name: self.get(name) for name in self.files()}, before)
 
     def test_a_table_of_another_length_gets_23_right_after_2(self):
@@ -682,9 +708,9 @@ class Houses(Calls):
             for words in (("book", "deal", "segment"), ("book", "deal", "short"), ("cancel", "deal", 768), ("cancel", "deal", 1)):
                 for house in ((), ("--house", 1), ("--house", 2)):
                     hint = self.refused(23, *words, *house).splitlines()[1]
-                    self.assertIn(f"/deal.owners has {length} bytes, and deal has 4 slots, with a byte each. Bring back the right "
+                    self.assertIn(f"/deal.owners has {length} bytes, and deal has 4 slots, with a byte each; bring back the right "
                                   "table, or remove it and say whose the entries are: vizhuthamen owner deal HOUSE [PLACE...]", hint)
-            value = json.loads(self.answer("cancel", "deal", 768, "--json", status=23))
+            value = self.object("cancel", "deal", 768, status=23)
             self.assertEqual((value["house"], value["wrong"], value["hint"]), (1, "table", hint))
             self.refused(2, "book", "short", "segment")
             self.refused(2, "cancel", "short", 768)
@@ -704,7 +730,7 @@ class Houses(Calls):
         out, err = self.call("list", "deal")
         self.assertEqual([line.split()[3] for line in out.splitlines()[1:]], ["?", "?", "-", "-"])
         self.assertIn("/deal.owners is not there", err)
-        self.assertEqual(json.loads(self.answer("list", "deal", "--json"))["table"], "missing")
+        self.assertEqual(self.object("list", "deal")["table"], "missing")
         # Where nothing stands, the first booking makes it.
         bare = bytearray(deal)
         bare[768:832] = bytes(64)
@@ -739,7 +765,7 @@ class Houses(Calls):
         self.assertEqual((out.splitlines()[1].split()[2:4], why in err), (["kept", "?"], True))
         for command in ("fsck", "repair"):
             self.assertIn(why, self.answer(command, "deal", status=DATA, **options))
-        self.assertEqual(json.loads(self.answer("fsck", "deal", "--json", status=DATA, **options))["table"], "unreadable")
+        self.assertEqual(self.object("fsck", "deal", status=DATA, **options)["table"], "unreadable")
         self.assertIn(why, self.call("salvage", "deal", "out", **options)[1])
 
     def test_a_table_of_a_deal_that_is_gone(self):
@@ -747,7 +773,7 @@ class Houses(Calls):
         self.put("new.owners", b"\1\0\0\0")
         for words in (("new", "new", 1024), ("new", "new", 1 << 20)):
             error = self.failed(DATA, *words)
-            self.assertIn("new.owners is there, and is not the table of the new deal; nothing is done. Remove", error)
+            self.assertIn("new.owners is there, and is not the table of the new deal; nothing is done; remove", error)
         self.answer("collect", "deal", "new")  # it is that of this one
         self.assertEqual(self.get("new.owners"), b"\1\0\0\0")
         self.put("other.owners", bytes(4))
@@ -759,7 +785,7 @@ class Owners(Calls):
     """Whose the entries are: shown, and said."""
 
     def shown(self, *words, **options):
-        return json.loads(self.answer("owner", "deal", *words, "--json", **options))
+        return self.object("owner", "deal", *words, **options)
 
     def owners(self):
         return self.get("deal.owners")
@@ -774,13 +800,13 @@ class Owners(Calls):
                                      zip(range(3), places, ("1", "2", "nobody(7)"), ("256", "128", "128"), commitments)])
         self.assertEqual(" ".join(rows[4]), "of 4 slots house 1 holds 1 and house 2 holds 1; 1 entries are nobody's")
         entry = lambda i, size, owner: {"slot": i, "place": places[i], **owner, "size": size, "commitment": commitments[i]}
-        self.assertEqual(self.shown(), {**DONE, "slots": 4, "house_1": 1, "house_2": 1, "nobody": 1, "entries": [
+        self.assertEqual(self.shown(), {**DONE, "entries": 4, "house_1": 1, "house_2": 1, "nobody": 1, "owners": [
             entry(0, 256, {"owner": 1}), entry(1, 128, {"owner": 2}), entry(2, 128, {"owner": 0, "owner_byte": 7})]})
         self.assertEqual(self.both(), (deal, b"\1\2\7\1"))
         self.path("deal.owners").unlink()
         self.assertIn("deal.owners is not there, and 3 entries stand in deal", self.failed(DATA, "owner", "deal"))
         self.put("deal", bytes(1024))
-        self.assertEqual(self.shown(), {**DONE, "slots": 4, "house_1": 0, "house_2": 0, "nobody": 0, "entries": []})
+        self.assertEqual(self.shown(), {**DONE, "entries": 4, "house_1": 0, "house_2": 0, "nobody": 0, "owners": []})
         self.put("deal.owners", bytes(5))
         self.assertEqual(self.shown(status=23)["wrong"], "table")
 
@@ -794,8 +820,8 @@ class Owners(Calls):
             self.put("deal.owners", table)
             value = self.shown(*words)
             self.assertEqual(self.owners(), after, (table, words))
-            self.assertEqual([e["owner"] for e in value["entries"]], [b if b < 3 else 0 for b in after[:3]])
-            self.assertEqual([e["place"] for e in value["entries"]], list(places))
+            self.assertEqual([e["owner"] for e in value["owners"]], [b if b < 3 else 0 for b in after[:3]])
+            self.assertEqual([e["place"] for e in value["owners"]], list(places))
 
     def test_a_table_is_made(self):
         deal, _ = self.booked(1024, (256, 128, 128), (1, 2, 1))
@@ -859,7 +885,7 @@ class Owners(Calls):
                      "slot 2 (place 896) has the owner byte 1: the slot is blank",
                      "slot 3 (place 960) has the owner byte 255: no entry stands there"):
             self.assertIn(line + "; 0 is put there by: vizhuthamen owner deal 0\n", out)
-        value = json.loads(self.answer("fsck", "deal", "--json", status=DATA))
+        value = self.object("fsck", "deal", status=DATA)
         self.assertEqual((value["table"], [(w["slot"], w["state"], w["owner_byte"]) for w in value["owner_bytes"]]),
                          ("whole", [(0, "kept", 7), (2, "blank", 1), (3, "blank", 255)]))
         self.answer("owner", "deal", 0)
@@ -868,7 +894,7 @@ class Owners(Calls):
         # The byte of a damaged slot is that of the entry it held.
         self.put("deal.owners", b"\1\2\0\0")
         self.put("deal", deal[:768] + bytes([deal[768] ^ 1]) + deal[769:])
-        value = json.loads(self.answer("fsck", "deal", "--json", status=DATA))
+        value = self.object("fsck", "deal", status=DATA)
         self.assertEqual(value["owner_bytes"], [])
         self.answer("owner", "deal", 0)
         self.assertIn(", owner 1\n", self.answer("repair", "deal"))
@@ -880,15 +906,15 @@ class Owners(Calls):
             self.put("deal.owners", bytes(length))
             for command in ("fsck", "repair"):
                 self.assertIn(f"deal.owners has {length} bytes, and deal has 4 slots", self.answer(command, "deal", status=DATA))
-            value = json.loads(self.answer("fsck", "deal", "--json", status=DATA))
+            value = self.object("fsck", "deal", status=DATA)
             self.assertEqual((value["table"], value["table_bytes"]), ("wrong length", length))
         self.path("deal.owners").unlink()
         for command in ("fsck", "repair"):
             self.assertIn("deal.owners is not there, and 2 entries stand in deal", self.answer(command, "deal", status=DATA))
-        self.assertEqual(json.loads(self.answer("fsck", "deal", "--json", status=DATA))["table"], "missing")
+        self.assertEqual(self.object("fsck", "deal", status=DATA)["table"], "missing")
         self.answer("fsck", "-", stdin=deal)  # nothing lies beside a pipe
         self.put("deal", bytes(1024))
-        self.assertEqual(json.loads(self.answer("fsck", "deal", "--json"))["table"], "missing")
+        self.assertEqual(self.object("fsck", "deal")["table"], "missing")
 
 
 class Numbers(Calls):
@@ -900,7 +926,7 @@ class Numbers(Calls):
         root = MODEL.commitment(deal)[1].hex()
         for number in (0, 1, 1 << 63, (1 << 64) - 1, self.rng.randrange(1 << 64)):
             record = MODEL.build(deal, number, places[0])[1]
-            out = self.answer("build", "deal", places[0], "--number", number, "-o", "record")
+            out = self.answer("build", "deal", places[0], "--number", number, "-o", "record", "--force")
             self.assertEqual((out, self.get("record")), (f"length {len(record)}\nnumber {number}\n", record))
             self.answer("check", root, 1024, "record", "--number", number)
             self.answer("settle", root, 1024, "record", "record", f"--number={number}")
@@ -938,10 +964,10 @@ class Numbers(Calls):
         self.put("record", MODEL.build(deal, NUMBER, places[0])[1])
         for words in (("build", "deal", places[0]), ("settle-deal", "deal", "record")):
             error = self.failed(DATA, *words)
-            self.assertIn("the number of deal is not known: give --number N, or keep it beside the deal: "
+            self.assertIn("the number of deal is not known; give --number N, or keep it beside the deal: "
                           "vizhuthamen number deal N\n", error)
             error = self.failed(DATA, *("-" if w == "deal" else w for w in words), stdin=deal)
-            self.assertIn("the number of standard input is not known: give --number N\n", error)
+            self.assertIn("the number of standard input is not known; give --number N\n", error)
         error = self.failed(DATA, "number", "deal")
         self.assertIn("no number of deal is kept; it is kept by: vizhuthamen number deal N\n", error)
         for words in (("check", "00" * 32, 512, "record"), ("settle", "00" * 32, 512, "record", "record")):
@@ -975,13 +1001,16 @@ class Numbers(Calls):
         self.put("other", MODEL.build(deal, OTHER, places[0])[1])
         hint = (f"other names deal number {OTHER}, and {NUMBER} is asked for: it is the record of another deal, or "
                 f"{NUMBER} is not this deal's number")
-        for words in (("check", root, 1024, "other", *GIVEN), ("settle", root, 1024, "other", "mine", *GIVEN),
-                      ("settle", root, 1024, "mine", "other", *GIVEN), ("settle-deal", "deal", "other", *GIVEN)):
-            meaning, told = self.refused(21, *words).splitlines()
-            self.assertEqual(told, hint)
+        for words in (("check", root, 1024, "other", *GIVEN), ("settle-deal", "deal", "other", *GIVEN)):
+            meaning, line = self.refused(21, *words).splitlines()
+            self.assertEqual(line, hint)
             value = json.loads(self.answer(*words, "--json", status=21))
-            self.assertEqual(value, {"code": 21, "meaning": meaning[len("code 21: "):], "number": NUMBER,
-                                     "record_number": OTHER, "hint": hint})
+            self.assertEqual(value, {"code": 21, "meaning": meaning[len("code 21: "):], "command": words[0], "number": str(NUMBER),
+                                     "record_number": str(OTHER), "hint": hint, "hints": [hint]})
+        for records in (("other", "mine"), ("mine", "other")):
+            value = self.object("settle", root, 1024, *records, *GIVEN, status=21)
+            self.assertEqual((value["number"], value["record_number"]), (str(NUMBER), str(OTHER)))
+            self.assertIn(f"record, {hint.replace('other names', 'other, is refused with code 21: it names')}", value["hint"])
         # 1, 2 and 3 come before it; it comes before all else.
         spoilt = bytearray(self.get("other"))
         spoilt[49:57] = bytes(8)
@@ -1120,7 +1149,7 @@ class RawStreams(Calls):
         segment = b""
         for i in range(0, len(raw), MAX_RAW):
             self.put("piece", raw[i : i + MAX_RAW])
-            self.answer("pad", "piece", "-o", "padded")
+            self.answer("pad", "piece", "-o", "padded", "--force")
             segment += self.get("padded")
         self.put("segment", segment)
         self.put("area", filled(segment))
@@ -1133,8 +1162,8 @@ class RawStreams(Calls):
             expected = MODEL.tree(filled(segment))[-1][0].hex()
             for words, stdin in ((("stream", "--raw", "raw"), b""), (("stream", "--raw=-"), raw)):
                 self.assertEqual(self.answer(*words, stdin=stdin), expected + "\n")
-            value = json.loads(self.answer("stream", "--raw", "raw", "--json"))
-            self.assertEqual(value, {"code": 0, "meaning": "done", "commitment": expected, "raw_length": n, "size": len(segment),
+            value = self.object("stream", "--raw", "raw")
+            self.assertEqual(value, {**DONE, "commitment": expected, "raw_length": n, "size": len(segment),
                                      "area": len(filled(segment))})
 
     def test_as_pad_and_commit(self):
@@ -1144,16 +1173,16 @@ class RawStreams(Calls):
             raw = self.put("raw", data[:n])
             expected, size = self.committed(raw)
             self.assertEqual(self.answer("stream", "--raw", "raw"), expected, n)
-            value = json.loads(self.answer("stream", "--raw", "-", "--json", stdin=raw))
+            value = self.object("stream", "--raw", "-", stdin=raw)
             self.assertEqual((value["commitment"] + "\n", value["size"]), (expected, size))
 
     def test_the_commitment_that_booking_gives(self):
         self.answer("new", "deal", 1 << 21)
         for n in (1, 127, 128, 1000, 300000):
             self.put("raw", self.rng.randbytes(n))
-            self.answer("pad", "raw", "-o", "segment")
+            self.answer("pad", "raw", "-o", "segment", "--force")
             lines = dict(line.split() for line in self.answer("book", "deal", "segment").splitlines())
-            value = json.loads(self.answer("stream", "--raw", "raw", "--json"))
+            value = self.object("stream", "--raw", "raw")
             self.assertEqual((lines["commitment"], int(lines["size"])), (value["commitment"], value["size"]))
 
     def test_pieces_as_they_come_and_the_end_of_a_pipe(self):
@@ -1297,10 +1326,10 @@ class Archives(Calls):
             segment = pad(raw, bytes(segment_length(n)))[2]
             self.assertEqual(self.answer("pad", "raw"), segment.hex() + "\n")
             self.assertEqual(self.answer("pad", "-", stdin=raw), segment.hex() + "\n")
-            self.assertEqual(self.answer("pad", "raw", "--output", "segment"), f"length {len(segment)}\n")
+            self.assertEqual(self.answer("pad", "raw", "--output", "segment", "--force"), f"length {len(segment)}\n")
             self.assertEqual(self.get("segment"), segment)
             self.assertEqual(self.answer("unpad", n, "segment"), raw.hex() + "\n")
-            self.assertEqual(self.answer("unpad", n, "segment", "--output", "back"), f"length {n}\n")
+            self.assertEqual(self.answer("unpad", n, "segment", "--output", "back", "--force"), f"length {n}\n")
             self.assertEqual(self.get("back"), raw)
 
     def test_the_longest_archive(self):
@@ -1335,14 +1364,6 @@ class Archives(Calls):
 
 
 class Json(Calls):
-    def object(self, *words, status=0):
-        out = self.answer(*words, "--json", status=status)
-        self.assertEqual(out.count("\n"), 1)
-        value = json.loads(out)
-        self.assertEqual(value["code"], status)
-        self.assertTrue(value["meaning"])
-        return value
-
     def test_every_command(self):
         deal, places = self.booked()
         record = self.put("record", MODEL.build(deal, NUMBER, places[0])[1])
@@ -1354,9 +1375,9 @@ class Json(Calls):
         self.assertEqual((raw["length"], raw["raw"]), (len(record), record.hex()))
         self.assertEqual(self.object("new", "other", 512), {**DONE, "size": 512, "entries": 4, "start": 256})
         new = self.object("new", "numbered", 512, *GIVEN)
-        self.assertEqual(new, {**DONE, "size": 512, "entries": 4, "start": 256, "number": NUMBER})
-        self.assertEqual(self.object("number", "deal", NUMBER), {**DONE, "number": NUMBER})
-        self.assertEqual(self.object("number", "deal"), {**DONE, "number": NUMBER})
+        self.assertEqual(new, {**DONE, "size": 512, "entries": 4, "start": 256, "number": str(NUMBER)})
+        self.assertEqual(self.object("number", "deal", NUMBER), {**DONE, "number": str(NUMBER)})
+        self.assertEqual(self.object("number", "deal"), {**DONE, "number": str(NUMBER)})
         for command in ("commit", "stream"):
             hashed = self.object(command, "deal")
             self.assertEqual((hashed["commitment"], hashed["size"]), (root, 1024))
@@ -1365,7 +1386,7 @@ class Json(Calls):
         self.assertEqual((again["offset"], again["place"], again["commitment"], again["house"]), (0, places[0], commitment, 1))
         self.assertNotIn("number", self.object("list", "other"))
         listed = self.object("list", "deal")
-        self.assertEqual((listed["size"], listed["number"], listed["start"]), (1024, NUMBER, 768))
+        self.assertEqual((listed["size"], listed["number"], listed["start"]), (1024, str(NUMBER), 768))
         slots = listed["slots"]
         self.assertEqual([s["state"] for s in slots], ["kept", "kept", "blank", "blank"])
         self.assertEqual(slots[0], {"slot": 0, "place": places[0], "state": "kept", "owner": 1, "offset": 0, "size": 256,
@@ -1376,20 +1397,23 @@ class Json(Calls):
         found = self.object("find", "deal", commitment)
         self.assertEqual((found["offset"], found["size"], found["place"]), (0, 256, places[0]))
         built = self.object("build", "deal", places[0])
-        self.assertEqual(built, {**DONE, "length": len(record), "number": NUMBER, "record": record.hex()})
+        self.assertEqual(built, {**DONE, "length": len(record), "number": str(NUMBER), "record": record.hex()})
         built = self.object("build", "deal", places[0], "-o", "record")
-        self.assertEqual(built, {**DONE, "length": len(record), "number": NUMBER})
+        self.assertEqual(built, {**DONE, "length": len(record), "number": str(NUMBER)})
         for words in (("check", root, 1024, "record", *GIVEN), ("settle", root, 1024, "record", "record", *GIVEN),
                       ("settle-deal", "deal", "record")):
-            self.assertEqual(self.object(*words)["number"], NUMBER)
+            self.assertEqual(self.object(*words)["number"], str(NUMBER))
         collected = self.object("collect", "deal", "collected")
-        self.assertEqual(([m["new_place"] for m in collected["moved"]], collected["number"]), (places, NUMBER))
+        self.assertEqual(([m["new_place"] for m in collected["moved"]], collected["number"]), (places, str(NUMBER)))
         cancelled = self.object("cancel", "deal", places[0])
         self.assertEqual(cancelled, {**DONE, "offset": 0, "place": places[0], "size": 256, "commitment": commitment, "house": 1})
         self.assertEqual(self.object("cancel", "deal", places[0], status=16)["house"], 1)
         fields = self.object("show", "record")["fields"]
         self.assertEqual([f["tag"] for f in fields], [1, 2, 3, 4, 5, 6, 7])
-        self.assertEqual([f.get("value") for f in fields], [None, 0, 256, places[0], None, None, NUMBER])
+        self.assertEqual([f.get("value") for f in fields], [None, 0, 256, places[0], None, None, str(NUMBER)])
+        for f, nodes in zip(fields, (None, None, None, None, 2, 4, None)):
+            self.assertEqual(len(f["nodes"]) if "nodes" in f else None, nodes)
+            self.assertEqual("".join(f.get("nodes", [f["content"]])), f["content"])
         self.assertEqual((fields[6]["name"], fields[6]["content"]), ("deal number", NUMBER.to_bytes(8, "little").hex()))
         self.assertEqual(b"".join(bytes.fromhex(f["content"]) for f in fields)[:32], record[3:35])
 
@@ -1399,10 +1423,15 @@ class Json(Calls):
         self.assertEqual(self.object("build", "deal", 960, *GIVEN, status=16)["code"], 16)
         self.put("record", b"\2\10\0" + b"\xff" * 8)
         shown = self.object("show", "record", status=3)
-        self.assertEqual(shown["fields"][0]["value"], (1 << 64) - 1)
+        self.assertEqual(shown["fields"][0]["value"], str((1 << 64) - 1))
 
-    def test_failures_leave_standard_output_empty(self):
-        self.failed(IO, "--json", "list", "missing")
+    def test_numbers_that_no_reader_rounds(self):
+        for number in (0, 1, (1 << 53) - 1, 1 << 53, (1 << 53) + 1, (1 << 64) - 1):
+            self.answer("new", f"deal-{number}", 512, "--number", number)
+            self.assertEqual(self.object("number", f"deal-{number}"), {**DONE, "number": told(number)})
+
+    def test_failures(self):
+        self.assertIn("cannot read missing: ", self.failed(IO, "--json", "list", "missing"))
         self.failed(USAGE, "--json", "list")
 
 
@@ -1488,9 +1517,16 @@ class Usage(Calls):
             self.assertTrue(text.startswith(f"Usage: vizhuthamen {command} "), text)
             self.assertEqual(text, self.answer("help", command))
         self.assertIn("DEAL is locked", self.answer("book", "--help"))
-        for usage in ("number DEAL [N] [--no-wait] [--instead-of N]", "owner DEAL [HOUSE] [PLACE...] [--no-wait] [--instead-of N]",
-                      "cancel DEAL PLACE [OPTIONS]", "check COMMITMENT SIZE RECORD --number N",
-                      "build DEAL PLACE [--output FILE] [--number N]"):
+        for usage in ("number DEAL [N] [--no-wait] [--instead-of N]", "check COMMITMENT SIZE RECORD --number N",
+                      "owner DEAL [HOUSE] [PLACE...|--slot N] [--no-wait] [--instead-of N]",
+                      "build DEAL PLACE|--slot N [--output FILE] [--force] [--number N]",
+                      "cancel DEAL PLACE|--slot N [OPTIONS]", "commit [--raw] FILE", "book DEAL [--raw] SEGMENT [OPTIONS]",
+                      "find DEAL COMMITMENT|--raw FILE [--output FILE] [--force]", "prove DEAL [--segment] FILE --output FILE [OPTIONS]",
+                      "verify PROOF FILE [--commitment COMMITMENT] [--number N] [--size SIZE]",
+                      "pack FILE... --deal DEAL [OPTIONS]",
+                      "extract DEAL [NAME...] [--force] [--no-wait] [--to FOLDER]",
+                      "close DEAL [--force] [--no-wait] [--records FOLDER]",
+                      "stream [--raw] FILE [--state FILE] [--resume] [--progress]"):
             first = self.answer(usage.split()[0], "--help").splitlines()[0]
             self.assertEqual(first, f"Usage: vizhuthamen {usage} [--json]")
         self.assertRegex(self.answer("--version"), r"\Avizhuthamen \d+\.\d+\.\d+\n\Z")
@@ -1545,13 +1581,14 @@ class Usage(Calls):
         self.put("empty", b"")
         words = [*COMMANDS, "deal", "record", "empty", "missing", ".", "-", "--json", "--output", "made", "--", "0", "512", "1024",
                  "--force", "--no-wait", "--new-owner", "--segment", "--raw", "--commitment", "--place", "--number",
-                 "--instead-of", "--house", "--state", "--resume", "--progress",
+                 "--instead-of", "--house", "--state", "--resume", "--progress", "--slot", "--man", "bash", "--cid", "--size",
+                 "--deal", "--records", "--to", "--reopen",
                  str(places[0]), "00" * 32, "ff", "", "\udcff", "--help", MODEL.commitment(deal)[1].hex()]
         for _ in range(400):
             call = [self.rng.choice(COMMANDS), *self.rng.choices(words, k=self.rng.randrange(5))]
             self.put("noise", self.rng.randbytes(self.rng.randrange(400)))
             ran = subprocess.run([self.program, *call], input=self.rng.randbytes(300), capture_output=True, cwd=self.folder)
-            self.assertIn(ran.returncode, (*range(25), USAGE, DATA, IO), call)
+            self.assertIn(ran.returncode, (*range(25), USAGE, DATA, NOT_PROVED, IO), call)
             self.assertNotIn(b"panicked", ran.stderr, call)
             self.put("deal", deal)
 
@@ -1711,7 +1748,7 @@ class Failures(Calls):
             self.failed(USAGE, "build", "deal", places[0], "-o", name, *GIVEN)
         self.assertEqual(self.get("deal"), deal)
         self.put("record", b"an old and longer file" * 100)
-        self.answer("build", "deal", places[0], "-o", "record", *GIVEN)
+        self.answer("build", "deal", places[0], "-o", "record", "--force", *GIVEN)
         self.assertEqual(self.get("record"), MODEL.build(deal, NUMBER, places[0])[1])
         self.path("folder").mkdir()
         self.failed(IO, "build", "deal", places[0], "-o", "folder", *GIVEN)

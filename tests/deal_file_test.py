@@ -49,11 +49,6 @@ class Deals(Calls):
             deal[at] = value
         return self.put("deal", bytes(deal))
 
-    def object(self, *words, status=0):
-        value = json.loads(self.answer(*words, "--json", status=status))
-        self.assertEqual(value["code"], status)
-        return value
-
 
 class Locks(Deals):
     def held(self, name="deal", mode=fcntl.LOCK_EX):
@@ -589,7 +584,7 @@ class Sidecar(Deals):
             for words in (("new", "deal", 1024), ("collect", "source", "deal")):
                 error = self.failed(DATA, *words, *number)
                 self.assertIn(f"deal.vz is there and says the number {NUMBER}, and deal is to have", error)
-                self.assertIn("Remove", error)
+                self.assertIn("remove", error)
         self.assertEqual((self.get("deal.vz"), self.files()), (known, ["deal.vz", "source", "source.owners"]))
         self.answer("new", "deal", 1024, *GIVEN)
         self.put("other.vz", b"vizhuthamen deal 1\nsize 1024\n")
@@ -600,7 +595,7 @@ class Sidecar(Deals):
         deal, _, places = self.deal_of(1024, (128,))
         self.answer("number", "deal", NUMBER)
         self.path("deal.vz").chmod(0)
-        self.assertIn("is not known: give --number N", self.failed(DATA, "build", "deal", places[0], **nobody()))
+        self.assertIn("is not known; give --number N", self.failed(DATA, "build", "deal", places[0], **nobody()))
         out = self.answer("build", "deal", places[0], *GIVEN, **nobody())
         self.assertEqual(out, MODEL.build(deal, NUMBER, places[0])[1].hex() + "\n")
         self.assertIn("cannot read", self.failed(IO, "collect", "deal", "new", **nobody()))
@@ -831,7 +826,7 @@ class Replacing(Deals):
             self.assertIn("several names (hard links)", self.failed(IO, *words))
         self.assertEqual((self.get("deal"), self.get("second")), (deal, deal))
         self.assertTrue(self.path("deal").samefile(self.path("second")))
-        self.assertIn("several names", self.failed(IO, "pad", "segment", "-o", "second"))
+        self.assertIn("several names", self.failed(IO, "pad", "segment", "-o", "second", "--force"))
         self.path("second").unlink()
         self.answer("book", "deal", "segment")
 

@@ -18,6 +18,8 @@ its house in the table of owners; every deal must be a whole one with its own ta
 """
 import argparse
 import errno
+import hashlib
+import json
 import os
 import random
 import shutil
@@ -31,8 +33,9 @@ from collections import Counter
 from concurrent.futures import ProcessPoolExecutor
 from pathlib import Path
 
+import proofs
 from cases import node
-from model import MAX_RAW, Model, filled, pad, segment_length
+from model import MAX_RAW, Model, area, filled, pad, segment_length
 
 ROOT = Path(__file__).resolve().parent.parent
 BINARY = Path(os.environ.get("VIZHUTHAMEN", ROOT / "rust" / "target" / "release" / "vizhuthamen"))
@@ -45,7 +48,7 @@ SIGNALS = (signal.SIGINT, signal.SIGTERM, signal.SIGHUP)
 # Functions of the C library that the program uses and that need no fault: they do not go to the system, or only at the start, or their
 # failure is not the program's to handle (memory, threads, time).
 PLAIN = set("""_ITM_deregisterTMCloneTable _ITM_registerTMCloneTable __cxa_finalize __cxa_thread_atexit_impl __errno_location __gmon_start__
-__libc_start_main __tls_get_addr __xpg_strerror_r abort bcmp calloc clock_gettime clock_nanosleep dl_iterate_phdr dlsym free getauxval
+__libc_start_main __tls_get_addr __xpg_strerror_r abort bcmp calloc clock_gettime clock_nanosleep closedir dirfd dl_iterate_phdr dlsym free getauxval
 getenv getrandom gettid isatty malloc memcpy memmove memset memchr memcmp mmap64 mprotect munmap pause poll posix_memalign realloc
 sched_getaffinity sched_yield sigaction sigaltstack signal sigpending strlen syscall sysconf getpid nanosleep""".split())
 
@@ -144,7 +147,7 @@ def fault(at, what):
 
 class Scene:
     """A command, the files before it, what it does to files, its exit statuses (done, and run once more afterwards), and the deal that it
-    makes, if it makes one, with the number that is to be kept of that. A deal that is made has its table whenever it is there."""
+    makes, if it makes one, with the number that is to be kept of that. A deal that is made has its table, and its manifest where it gets one, whenever it is there."""
 
     def __init__(self, name, words, before, effect, again, made=None, number=None):
         self.name, self.words, self.before, self.effect, self.again = name, words, before, effect, again
@@ -160,13 +163,16 @@ class Scene:
         for name, data in self.before.items():
             check(name in state and (name in self.changed or state[name] == data), self.name, "lost:", name)
         check(self.made not in state or self.made + ".owners" in state, self.name, "a deal without its table")
+        listed = f"{self.made}.manifest.json"
+        check(self.made not in state or listed not in self.after or listed in state, self.name, "a deal without its manifest")
 
     def litter(self, state):
         return [name for name in state if name not in self.before and name not in self.after]
 
     def tidy(self, state):
-        """No table is there without the deal that was to be made."""
-        check(not self.made or self.made in state or self.made + ".owners" not in state, self.name, "a table without its deal")
+        """Neither a table nor a manifest is there without the deal that was to be made."""
+        for end in (".owners", ".manifest.json"):
+            check(not self.made or self.made in state or self.made + end not in state, self.name, "without its deal:", end)
 
     def together(self, state):
         """All files of the command are the old ones, or all are the new ones."""
@@ -192,6 +198,39 @@ def both(files, name="deal"):
 
 def booked(files, segment, house, name="deal"):
     return with_deal(files, *MODEL.book(*both(files, name), house, segment)[3:], name)
+
+
+def entry(deal, place):
+    """What the entry at a place says, as a manifest has it."""
+    offset, size = (int.from_bytes(deal[place + at : place + at + 8], "little") for at in (32, 40))
+    return {"place": place, "offset": offset, "size": size, "commitment": deal[place : place + 32].hex()}
+
+
+def manifest(lines):
+    """The text of a manifest: a line for each file, by place."""
+    lines = sorted(lines, key=lambda line: line["place"])
+    text = ",\n".join(json.dumps(line, separators=(",", ":")) for line in lines)
+    files = f"\n{text}\n" if lines else ""
+    return f'{{\n"form":"vizhuthamen manifest",\n"version":1,\n"files":[{files}]\n}}\n'.encode()
+
+
+def packed(files, names, house):
+    """The files with these packed into the deal for a house, by falling area and then by name, and listed in a manifest where there is none."""
+    (deal, table), lines = both(files), []
+    for name in sorted(names, key=lambda name: (-area(segment_length(len(files[name]))), name)):
+        raw = files[name]
+        _, _, place, deal, table = MODEL.book(deal, table, house, pad(raw, bytes(segment_length(len(raw))))[2])
+        digest = hashlib.sha256(raw).hexdigest()
+        lines.append({"names": [name], "length": len(raw), "sha256": digest, **entry(deal, place)})
+    return {**with_deal(files, deal, table), "deal.manifest.json": manifest(lines)}
+
+
+def still_listed(files, deal, name="deal"):
+    """The manifest of the deal for another one that has some of its segments."""
+    lines = json.loads(files["deal.manifest.json"])["files"]
+    places = {deal[place : place + 32].hex(): place for place in range(len(deal) - 256, len(deal), 64)}
+    lines = [{**line, **entry(deal, places[line["commitment"]])} for line in lines if line["commitment"] in places]
+    return {**files, name + ".manifest.json": manifest(lines)}
 
 
 def scenes(rng):
@@ -226,13 +265,29 @@ def scenes(rng):
         words = "new", "deal", 1024, *(() if number is None else ("--number", number))
         made = lambda files, number=number: with_deal(files, bytes(1024), bytes(4), "deal", number)
         yield Scene(name, words, {"segment": segment}, made, (0, IO), "deal", number)
+    raw = {"a": rng.randbytes(200), "b": rng.randbytes(100)}
+    pack = lambda files: packed(files, raw, 2)
+    before = {**raw, "deal": old, "deal.owners": owned, "deal.vz": sidecar(old, 58)}
+    yield Scene("pack", ("pack", "a", "b", "--deal", "deal", "--house", 2), before, pack, (0,))
+    listed = {**pack(before), "segment": third}
+    without = lambda files: MODEL.cancel(*both(files), 2, 832)[1:]
+    cancel = lambda files: with_deal(still_listed(files, without(files)[0]), *without(files))
+    yield Scene("cancel, listed", ("cancel", "deal", 832, "--house", 2), listed, cancel, (0, 16))
+    collected = lambda files: MODEL.collect(*both(files), bytes(1024), bytes(4))[1:]
+    collect = lambda files: with_deal(still_listed(files, collected(files)[0], "new"), *collected(files), "new", 58)
+    yield Scene("collect, listed", ("collect", "deal", "new"), cancel(listed), collect, (0, IO), "new", 58)
+    close = lambda files: {**files, "deal.vz": sidecar(files["deal"], 58) + b"closed %s\n" % MODEL.commitment(files["deal"])[1].hex().encode()}
+    yield Scene("close", ("close", "deal"), {"deal": old, "deal.owners": owned, "deal.vz": sidecar(old, 58)}, close, (0,))
     repair = lambda files: {**with_deal(files, old, owned), "deal.before-repair": spoilt}
     yield Scene("repair", ("repair", "deal"), {"deal": spoilt, "deal.owners": owned}, repair, (0, 0))
     output = lambda files: {**files, "record": record}
     build = "build", "deal", 768, "-o", "record"
     yield Scene("output", (*build, "--number", 58), {"deal": old}, output, (0, 0))
     before = {"deal": old, "deal.vz": sidecar(old, 58), "record": b"before"}
-    yield Scene("output, replaced", build, before, output, (0, 0))
+    yield Scene("output, replaced", (*build, "--force"), before, output, (0, 0))
+    before = {"deal": old, "deal.vz": sidecar(old, 58), "file": first}
+    proof = lambda files: {**files, "proof": proofs.text(proofs.members(old, 58, 768, first, "file", "none")).encode()}
+    yield Scene("proof", ("prove", "deal", "--segment", "file", "-o", "proof"), before, proof, (0, 0))
 
 
 class Faults:
@@ -305,7 +360,7 @@ class Faults:
                     continue
                 self.place.put(scene.before)
                 status, out, err = self.place.run(scene.words, fault=fault(at, what), plain=plain)
-                here = (scene.name, at, name, what, status, err)
+                here = (scene.name, at, name, what, status, out, err)
                 # A repair that cannot read the table mends the deal, and says what is left.
                 unread = scene.name == "repair" and status == DATA and b"/deal.owners: " in out
                 check(status in (0, IO) or unread, *here)
@@ -316,7 +371,7 @@ class Faults:
                 made = all(state.get(n) == scene.after[n] for n in scene.changed)
                 # A size that is not beside a new deal is noted; a number that is not is an error.
                 noted = scene.made and scene.number is None and b"could not be written" in err
-                check(made or status != 0 or noted, *here)
+                check(made or status != 0 and not unread or noted, *here)
                 check(b"nothing is changed" not in err or not made, *here)
                 # A name that could not be removed, or a change that the next call ends, may be left for that.
                 check(not scene.litter(state) or name == "unlink" or b"next call" in err, *here, *scene.litter(state))
@@ -492,7 +547,7 @@ class Faults:
             self.place.put({**scene.before, "raw": raw, ".record.vz-new.0": b"dead"})
             first = self.place.start(scene.words, fault=fault(at, f"kill {int(signal.SIGSTOP)}"), plain=plain)
             os.waitid(os.P_PID, first.pid, os.WSTOPPED | os.WEXITED | os.WNOWAIT)
-            second = self.place.start(("pad", "raw", "-o", "record"), plain=plain)
+            second = self.place.start(("pad", "raw", "-o", "record", "--force"), plain=plain)
             try:
                 second.wait(timeout=0.2)
             except subprocess.TimeoutExpired:
@@ -728,16 +783,20 @@ class Races:
         self.counts["races"] += 1
 
     def writers(self, processes):
-        """Processes write one output at once: it is whole, and one of theirs."""
+        """Processes write one output at once: it is whole, and one of theirs. Without --force one of them writes it, and the others say
+        that it is there."""
         self.place.clean()
         contents = [bytes([i]) * (1 << 16) for i in range(processes)]
         for i, data in enumerate(contents):
             self.place.path(f"raw{i}").write_bytes(data)
-        for plain in (False, True):
-            calls = [self.place.start(("pad", f"raw{i}", "-o", "out"), plain=plain) for i in range(processes)]
-            for call in calls:
-                _, err = call.communicate()
-                check(call.returncode == 0, "output, by several:", call.returncode, err)
+        for plain, force in ((False, False), (False, True), (True, False), (True, True)):
+            if not force:
+                self.place.path("out").unlink(missing_ok=True)
+            words = [("pad", f"raw{i}", "-o", "out", *(("--force",) if force else ())) for i in range(processes)]
+            calls = [self.place.start(call, plain=plain) for call in words]
+            said = [call.communicate()[1] for call in calls]
+            statuses = sorted(call.returncode for call in calls)
+            check(statuses == [0] + ([0] if force else [IO]) * (processes - 1), "output, by several:", statuses, *said)
             state = self.place.state()
             check(sorted(state) == sorted([*(f"raw{i}" for i in range(processes)), "out"]), "left:", *sorted(state))
             status, out, _ = self.place.run(("unpad", 1 << 16, "out", "-o", "-"))
@@ -808,7 +867,7 @@ def disturb(place, rng, name, plain, options):
     every = options.large or (scene.name, plain) in EVERY_ERROR
     faults.errors(scene, plain, ERRORS if every else (errno.ENOSPC, errno.EIO))
     faults.breakdowns(scene, plain, BREAKDOWNS if options.large else BREAKDOWNS[:2] if plain else BREAKDOWNS[1:])
-    if scene.name in ("book, nothing known", "repair") or scene.name == "cancel, nothing known" and options.large:
+    if scene.name in ("book, nothing known", "repair", "pack") or scene.name == "cancel, nothing known" and options.large:
         faults.recoveries(scene, plain, options.large)
     if scene.name in ("book", "cancel"):
         faults.readers(scene, plain)
@@ -820,7 +879,7 @@ def disturb(place, rng, name, plain, options):
         faults.abandoned_makers(scene)
     if scene.name == "output, replaced":
         faults.paused_outputs(scene, plain, rng.randbytes(1000))
-    if scene.words[0] in ("book", "cancel", "number", "owner", "collect") and "deal.owners" in scene.before:
+    if scene.words[0] in ("book", "cancel", "number", "owner", "collect", "pack") and "deal.owners" in scene.before:
         faults.pauses(scene, plain, b"".join(node(rng) for _ in range(4)))
     mode = ("", ", no unnamed files", ", no unnamed files, no rename to a free name")[plain]
     return counts, f"{scene.name}{mode}: {len(names)} calls"
@@ -887,12 +946,13 @@ def large(place, rng, name, plain, options):
 
 
 # With unnamed files (0), without them (1), and without a rename to a free name too (2). At the gate a cancellation and
-# a number, which change files as a booking does, and a collection, which makes a deal as `new` does, are run in some of
-# these ways.
+# a number, which change files as a booking does, a collection, which makes a deal as `new` does, and a proof, which is an
+# output, are run in some of these ways.
 WAYS = {"book, nothing known": (0, 1, 2), "collect": (0, 1, 2), "new": (0, 1, 2), "new, numbered": (0, 1, 2),
-        "output": (0, 1, 2)}
+        "output": (0, 1, 2), "proof": (0, 1, 2)}
 WAYS_AT_THE_GATE = {**WAYS, "cancel": (0,), "cancel, nothing known": (1,), "number": (1,),
-                    "number, nothing known": (0,), "collect": (0, 1), "new, numbered": (1, 2)}
+                    "number, nothing known": (0,), "collect": (0, 1), "new, numbered": (1, 2), "proof": (0,),
+                    "cancel, listed": (0,), "collect, listed": (1,), "close": (1,)}
 # Commands and ways that get every error at the gate: one file, several files, a new deal.
 EVERY_ERROR = (("book", 0), ("book, nothing known", 1), ("collect", 1))
 

@@ -2,12 +2,14 @@
 
 Run from anywhere, after make: python3 tests/format_test.py. Every table of the document is read; one that is not known ends the run.
 """
+import hashlib
 import json
 import re
 import sys
 
+import proofs
 from header import ROOT, defined
-from model import MAX_RAW, area, index_numbers, pad, segment_length
+from model import MAX_RAW, area, index_numbers, pad, segment_length, unpad
 from operations import MODEL
 from vectors_test import data, vz
 
@@ -145,7 +147,50 @@ def raw_table(rows):
         same(f"segment of {cell}", told(segment), pad(raw, bytes(segment_length(len(raw))))[2], vz.pad(raw))
 
 
+def cid_table(rows):
+    zeros = laid_out(rows)
+    same("the piece CID's bytes", zeros, proofs.HEAD + MODEL.commitment(bytes(128))[1], proofs.HEAD + vz.commitment(bytes(128)))
+
+
+def zeros_table(rows):
+    """The piece CIDs of zeros, whose commitments are hashed up from a node."""
+    for power, cid in rows:
+        node, lent = bytes(32), bytes(32)
+        for _ in range(int(power.removeprefix("2^")) - 5):
+            node, lent = MODEL.h.node(2 * node), vz.commitment(2 * lent)
+        same(f"piece CID of {power} zeros", cid.strip("`"), proofs.cid(node), proofs.cid(lent))
+
+
+def example_proof():
+    """The plain file of the example's proof and the members, by the model."""
+    file = told(re.search(r"whose segment is the second one above: (.*)\.", TEXT)[1])
+    return file, proofs.members(booked()[0], NUMBER, PLACE, file, "letter.txt")
+
+
+def proof_table(rows):
+    file, members = example_proof()
+    same("the segment of the example's file", SEGMENTS[1], pad(file, bytes(100))[2], vz.pad(file))
+    record = vz.build(booked()[1], NUMBER, PLACE).hex()
+    stated = {name.strip("`"): record if cell == "the record above" else cell.strip("`") for name, _, cell in rows}
+    same("the proof's members", tuple(stated), proofs.MEMBERS)
+    for name, value in stated.items():
+        same(f"member {name} of the proof", value, members[name])
+
+
+def manifest_table(rows):
+    """A line of a manifest: the second segment as that of a plain file."""
+    deal, lent = booked()
+    plain = unpad(99, SEGMENTS[1], bytes(99))[2]
+    number = lambda at: int.from_bytes(deal[PLACE + at : PLACE + at + 8], "little")
+    values = {"names": ["letter.txt"], "length": 99, "sha256": hashlib.sha256(plain).hexdigest(), "place": PLACE, "offset": number(32),
+              "size": number(40), "commitment": deal[PLACE : PLACE + 32].hex()}
+    same("the example's plain file", plain, vz.unpad(99, bytes(lent[128:228])))
+    same("a line of the manifest", {name.strip("`"): json.loads(cell.strip("`")) for name, _, cell in rows}, values)
+    same("the order of its members", [name.strip("`") for name, _, _ in rows], list(values))
+
+
 TABLES = {
+    ("member", "what it says of a file", "in the example"): manifest_table,
     ("bytes", "their commitment"): commitments,
     ("D", "slots", "start"): sizes,
     ("at", "bytes", "the deal", "in the example"): deal_table,
@@ -156,6 +201,9 @@ TABLES = {
     ("code", "the check refuses with it where"): check_table,
     ("position", "segment path, from the commitment", "entry path, from the entry's node hash", "position"): way_table,
     ("raw bytes", "segment"): raw_table,
+    ("at", "bytes", "the piece CID", "of 128 zero bytes"): cid_table,
+    ("zero bytes", "their piece CID"): zeros_table,
+    ("member", "what it says", "in the example"): proof_table,
 }
 
 

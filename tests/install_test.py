@@ -1,14 +1,16 @@
-"""Installs the libraries below a prefix, looks at what is there, and runs programs in C, Rust and Python with it.
+"""Installs all below a prefix, looks at what is there, and runs programs in C, Rust and Python with it, and the command line.
 
 Run from anywhere, after cargo build --release --examples: python3 tests/install_test.py
 
 The shared library has the header's functions for others and no other name, each proved one as a choice of levels. The C smoke program
 is linked with the shared and the static library by what pkg-config says. The three programs of examples/ check records of
-vectors/vectors.json, and must say the same.
+vectors/vectors.json, and must say the same. The command line stands alone, chooses a level when it starts, and its man page and
+completions, which lie where man and the shells look for them, are those that it prints.
 """
 import json
 import os
 import re
+import shutil
 import subprocess
 import sys
 import sysconfig
@@ -20,6 +22,9 @@ from vectors_test import data
 
 VERSION = defined("VZ_VERSION")
 SONAME = "libvizhuthamen.so." + VERSION.rsplit(".", 1)[0]
+TEXTS = {"share/man/man1/vizhuthamen.1": ("help", "--man"), "share/bash-completion/completions/vizhuthamen": ("completions", "bash"),
+         "share/zsh/site-functions/_vizhuthamen": ("completions", "zsh"),
+         "share/fish/vendor_completions.d/vizhuthamen.fish": ("completions", "fish")}
 CHECKED = ("no-fault", "p4", "p7", "p7-other-node", "fault-size", "fault-form", "fault-number", "fault-path-bits", "fault-segment-path",
            "fault-entry-path", "cut", "other-commitment")
 
@@ -44,7 +49,7 @@ def expected_files():
     package = Path(sysconfig.get_path("purelib", "posix_prefix", {"base": ""})).relative_to("/") / "vizhuthamen"
     modules = [str(package / path.name) for path in (ROOT / "python" / "vizhuthamen").iterdir() if path.is_file()]
     libraries = ["libvizhuthamen.a", "libvizhuthamen.so", SONAME, f"libvizhuthamen.so.{VERSION}", "pkgconfig/vizhuthamen.pc"]
-    return sorted(["include/vizhuthamen.h", *(f"lib/{name}" for name in libraries), *modules]), package.parent
+    return sorted(["bin/vizhuthamen", *TEXTS, "include/vizhuthamen.h", *(f"lib/{name}" for name in libraries), *modules]), package.parent
 
 
 def install(folder):
@@ -137,11 +142,41 @@ def examples(prefix):
     return len(programs)
 
 
+def command_line(prefix):
+    """The installed program needs no library of ours beside it, has the functions of the archive that chooses, and printed its texts; man
+    finds its page below the prefix."""
+    program = prefix.root / "bin/vizhuthamen"
+    if f"vizhuthamen {VERSION}\n" != ran(program, "--version", env={}):
+        fail("the command line tells another version")
+    if "vizhuthamen" in ran("readelf", "--dynamic", program):
+        fail("the command line needs the shared library")
+    if not re.search(r" i vz_commitment$", ran("nm", program), re.MULTILINE):
+        fail("the command line does not choose a level when it starts")
+    for name, words in TEXTS.items():
+        if (prefix.root / name).read_text() != ran(program, *words):
+            fail(f"{name} is not what the command line prints")
+    if shutil.which("man"):
+        found = ran("man", "--where", "vizhuthamen", env=os.environ | {"MANPATH": str(prefix.root / "share/man")}).strip()
+        if found != str(prefix.root / "share/man/man1/vizhuthamen.1"):
+            fail(f"man finds another page: {found}")
+
+
+def licence():
+    """One licence, by its name in LICENSE, the crate, the Python package and the README."""
+    texts = {"LICENSE": "SPDX-License-Identifier: 0BSD", "rust/Cargo.toml": 'license = "0BSD"', "README.md": "(0BSD)",
+             "python/vizhuthamen/__init__.py": '__license__ = "0BSD"'}
+    for name, part in texts.items():
+        if part not in (ROOT / name).read_text():
+            fail(f"{name} does not say: {part}")
+
+
 def main():
+    licence()
     with tempfile.TemporaryDirectory() as folder:
         root, package = install(Path(folder))
         symbols(root / "lib" / SONAME)
         prefix = Prefix(root, package)
+        command_line(prefix)
         answers, programs = smoke(prefix), examples(prefix)
         print(f"install_test: {len(installed(root))} files; {len(functions())} functions; {answers} answers of the C smoke program with "
               f"either library; {len(CHECKED)} records checked by each of {programs} examples")

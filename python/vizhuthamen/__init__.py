@@ -13,6 +13,8 @@ and yet carry values (15 of a booking, 17 of a settling) are the cases AlreadyKe
 
 What is written, a deal that is booked into among them, is a bytearray or a memoryview that may be written. What is read is copied only
 where it is a memoryview that may not be written. No other thread may change lent memory during a call.
+
+Anyone may use, copy, change and pass on this package, without conditions (0BSD).
 """
 from ._codes import Refusal, meaning, version
 from ._deal import (MAX_DEAL, MAX_TABLE, AlreadyKept, Booked, Booking, Found, Free, Kept, Position, Slot, Standing, Tally, book, cancel,
@@ -26,6 +28,7 @@ from ._record import (MAX_RECORD, Collision, Field, Same, Settled, build, build_
 from ._streaming import MAX_STREAM, STREAM_STATE, Streamed, Streaming
 from ._tree import filled_tree, tree_fill, tree_length, tree_row
 
+__license__ = "0BSD"
 __all__ = [
     "MAX_DEAL", "MAX_RAW", "MAX_RECORD", "MAX_STREAM", "MAX_TABLE", "STREAM_STATE", "AlreadyKept", "Blank", "Booked", "Booking",
     "Collision", "Damaged", "Entry", "Field", "Found", "Free", "IndexNumbers", "Kept", "Position", "Readable", "ReadEntry", "Refusal", "Same", "Settled",

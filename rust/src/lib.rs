@@ -5,7 +5,8 @@
 //! [`commitment_with_threads`] and [`tree_fill_with_threads`] say how many threads may. [`RawStreaming`] pads a raw archive, and
 //! commits to it, part by part in the same way. A refusal is
 //! a [`Refusal`], which carries the code and its meaning in words. The answers with a code that is not 0 and yet carry values (15
-//! of a booking, 17 of a settling) are cases of [`Booking`] and [`Settled`].
+//! of a booking, 17 of a settling) are cases of [`Booking`] and [`Settled`]. A commitment is a [`Node`], which is written in
+//! hex, or as a piece CID ([`cid`]).
 //!
 //! Whoever builds many records of one deal keeps its tree beside it ([`filled_tree`]), and lends it to [`book`],
 //! [`cancel`], [`build`] and [`settle_with_deal`], which then hash little of the deal. [`collect`] fills one for the
@@ -30,6 +31,7 @@
 #![warn(missing_debug_implementations)]
 
 mod archive;
+pub mod cid;
 mod codes;
 mod deal;
 mod entry;

@@ -1,6 +1,7 @@
 //! The answer of a command: a code, what it says, and values as text and as JSON.
+use super::commitments;
 use super::failure;
-use super::json::Json;
+use super::json::{self, Json};
 use std::path::{Path, PathBuf};
 use vizhuthamen::Refusal;
 
@@ -10,10 +11,14 @@ pub struct Answer {
     code: u32,
     meaning: &'static str,
     text: String,
+    /// A sentence before all else.
+    verdict: String,
     members: Vec<(&'static str, Json)>,
+    /// What the text says beside the values, and JSON has among the hints.
+    told: Vec<String>,
     /// Bytes for standard output in the place of the text.
     pub bytes: Option<Vec<u8>>,
-    /// Lines for standard error beside the answer.
+    /// Lines for standard error beside the answer; the hints for JSON.
     pub notes: Vec<String>,
     /// Whether a file was written.
     pub wrote: bool,
@@ -24,8 +29,9 @@ pub struct Answer {
 impl Answer {
     /// Code 0 with its meaning for this command.
     pub fn done(meaning: &'static str) -> Answer {
-        let (text, members, notes) = (String::new(), vec![], vec![]);
-        Answer { code: 0, meaning, text, members, bytes: None, notes, wrote: false, spent: None }
+        let (text, verdict) = (String::new(), String::new());
+        let (members, told, notes) = (vec![], vec![], vec![]);
+        Answer { code: 0, meaning, text, verdict, members, told, bytes: None, notes, wrote: false, spent: None }
     }
 
     /// A refusal of the library.
@@ -38,10 +44,32 @@ impl Answer {
         Answer { code: u32::from(failure::DATA), ..Answer::done(meaning) }
     }
 
+    /// A proof does not prove what is asked: the exit status in the place of a code.
+    pub fn not_proved(meaning: &'static str) -> Answer {
+        Answer { code: u32::from(failure::NOT_PROVED), ..Answer::done(meaning) }
+    }
+
+    /// The answer in a word and a sentence, before all else.
+    pub fn with_verdict(mut self, word: &str, sentence: String) -> Answer {
+        self.verdict = format!("{word}: {sentence}\n");
+        self.members.push(("verdict", Json::Text(word.to_string())));
+        self.members.push(("sentence", Json::Text(sentence)));
+        self
+    }
+
+    /// The answer with its commitments as piece CIDs: in the place of hex in text, beside it in JSON.
+    pub fn with_cids(mut self) -> Answer {
+        let found = commitments::add_cids(&mut self.members);
+        self.text = commitments::show_cids(&self.text, &found);
+        self.verdict = commitments::show_cids(&self.verdict, &found);
+        self
+    }
+
     /// A value with its own line of text, `name value`.
     pub fn with_value(mut self, name: &'static str, value: Json) -> Answer {
         let shown = match &value {
             Json::Text(text) => text.clone(),
+            Json::Number(number) => number.to_string(),
             other => other.encode(),
         };
         self.text.push_str(&format!("{name} {shown}\n"));
@@ -53,6 +81,13 @@ impl Answer {
     pub fn with_text(mut self, text: String, members: Vec<(&'static str, Json)>) -> Answer {
         self.text.push_str(&text);
         self.members.extend(members);
+        self
+    }
+
+    /// A line of text that says what can be done.
+    pub fn with_hint(mut self, hint: String) -> Answer {
+        self.text.push_str(&format!("{hint}\n"));
+        self.told.push(hint);
         self
     }
 
@@ -74,7 +109,7 @@ impl Answer {
         self
     }
 
-    /// A line for standard error beside the answer.
+    /// A line for standard error beside the answer, and a hint for JSON.
     pub fn with_note(mut self, note: String) -> Answer {
         self.notes.push(note);
         self
@@ -87,27 +122,30 @@ impl Answer {
 
     /// The answer as lines of text.
     pub fn to_text(&self) -> String {
-        if self.code == 0 && !self.text.is_empty() {
-            return self.text.clone();
-        }
-        format!("code {}: {}\n{}", self.code, self.meaning, self.text)
+        let said = !self.text.is_empty() || !self.verdict.is_empty();
+        let code = match self.code {
+            0 if said => String::new(),
+            _ => format!("code {}: {}\n", self.code, self.meaning),
+        };
+        format!("{}{code}{}", self.verdict, self.text)
     }
 
     /// One JSON object and a newline.
-    pub fn to_json(&self) -> String {
-        let mut members =
-            vec![("code", Json::Number(u64::from(self.code))), ("meaning", Json::Text(self.meaning.to_string()))];
-        members.extend(self.members.iter().cloned());
-        Json::Object(members).encode() + "\n"
+    pub fn to_json(&self, command: Option<&str>) -> String {
+        let hints = [&self.told[..], &self.notes].concat();
+        json::outcome(self.code, self.meaning, command, self.members.clone(), &hints)
     }
 }
 
-/// Asserts that an answer is this refusal, with these lines after it in text and these members in JSON.
+/// Asserts that an answer is this refusal, with these lines after it in text and these members in JSON, before the
+/// hints.
 #[cfg(test)]
 pub fn assert_refused(answer: &Answer, refusal: Refusal, lines: &str, members: &str) {
     let (code, meaning) = (refusal.code(), refusal.meaning());
     assert_eq!(answer.to_text(), format!("code {code}: {meaning}\n{lines}"));
-    assert_eq!(answer.to_json(), format!("{{\"code\":{code},\"meaning\":\"{meaning}\"{members}}}\n"));
+    let (json, _) =
+        answer.to_json(None).split_once(",\"hints\":[").map(|(a, b)| (a.to_string(), b.to_string())).unwrap();
+    assert_eq!(json, format!("{{\"code\":{code},\"meaning\":\"{meaning}\",\"command\":null{members}"));
     assert_eq!(u32::from(answer.status()), code);
 }
 
@@ -120,8 +158,38 @@ mod tests {
         let answer =
             Answer::done("done").with_value("offset", Json::Number(128)).with_value("place", Json::Number(320));
         assert_eq!(answer.to_text(), "offset 128\nplace 320\n");
-        assert_eq!(answer.to_json(), "{\"code\":0,\"meaning\":\"done\",\"offset\":128,\"place\":320}\n");
+        let members = "\"command\":\"book\",\"offset\":128,\"place\":320,\"hints\":[]";
+        assert_eq!(answer.to_json(Some("book")), format!("{{\"code\":0,\"meaning\":\"done\",{members}}}\n"));
         assert_eq!(answer.status(), 0);
+    }
+
+    #[test]
+    fn numbers_in_text_are_digits_however_large() {
+        let answer = Answer::done("done").with_value("number", Json::Number(u64::MAX));
+        assert_eq!(answer.to_text(), "number 18446744073709551615\n");
+        assert!(answer.to_json(None).contains(",\"number\":\"18446744073709551615\","));
+    }
+
+    #[test]
+    fn hints_and_notes_are_the_hints_for_json() {
+        let answer = Answer::done("done").with_note("noted".to_string()).with_hint("told".to_string());
+        assert_eq!((answer.to_text().as_str(), answer.notes.as_slice()), ("told\n", &["noted".to_string()][..]));
+        assert!(answer.to_json(None).ends_with(",\"hints\":[\"told\",\"noted\"]}\n"));
+    }
+
+    #[test]
+    fn a_verdict_comes_first() {
+        let said = |answer: Answer| answer.with_verdict("no", "it is not".to_string()).with_value("a", Json::Number(1));
+        let refused = said(Answer::refused(Refusal::NO_PLACE));
+        assert_eq!(refused.to_text(), "no: it is not\ncode 14: no free place\na 1\n");
+        let members = "\"verdict\":\"no\",\"sentence\":\"it is not\",\"a\":1,\"hints\":[]";
+        assert_eq!(
+            refused.to_json(Some("verify")),
+            format!("{{\"code\":14,\"meaning\":\"no free place\",\"command\":\"verify\",{members}}}\n")
+        );
+        assert_eq!(said(Answer::done("done")).to_text(), "no: it is not\na 1\n");
+        assert_eq!(Answer::done("done").with_verdict("yes", "it is".to_string()).to_text(), "yes: it is\n");
+        assert_eq!(Answer::not_proved("other").status(), 66);
     }
 
     #[test]

@@ -1,25 +1,35 @@
 //! The commands: each reads its files, asks the library, and gives an answer.
 mod book;
 mod cancel;
+mod close;
 mod collect;
+mod extract;
 mod fsck;
 mod house;
 mod list;
+mod locate;
 mod number;
 mod owner;
+mod pack;
+mod prove;
+mod records;
 mod repair;
 mod salvage;
+mod settle;
 mod stream;
+mod verify;
 
 use super::answer::Answer;
-use super::args::{Command, Stream};
+use super::args::{At, Command, Output, Stream};
 use super::failure::{self, Failure};
 use super::files::{self, Content};
 use super::json::Json;
 use super::progress::Progress;
+use super::reasons::{self, Terms};
+use super::segments;
 use super::store::{self, aside::Fill, Attributes, NewDeal};
-use super::survey;
 use super::table::{table, Column};
+use super::{room, survey};
 use std::path::Path;
 use vizhuthamen::{hex, Entry, Field, Node, Refusal, Settled, MAX_DEAL, MAX_RAW};
 
@@ -35,24 +45,31 @@ pub fn run(command: Command) -> Result<Answer, Failure> {
         Command::Unpad { raw_length, segment, output } => unpad(raw_length, &segment, output),
         Command::Owner { deal, give: None, .. } => owner::show(&deal),
         Command::Owner { deal, give: Some(give), wait } => owner::give(&deal, &give, wait),
-        Command::Book { deal, segment, house, force, access } => book::book(&deal, &segment, house, force, access),
-        Command::Cancel { deal, place, house, commitment, access } => {
-            cancel::cancel(&deal, place, house, commitment.as_deref(), access)
+        Command::Pack(packing) => pack::pack(&packing),
+        Command::Extract(extracting) => extract::extract(&extracting),
+        Command::Close { deal, records, force, wait } => close::close(&deal, records.as_deref(), force, wait),
+        Command::Book(booking) => book::book(&booking),
+        Command::Cancel { deal, at, house, commitment, reopen, access } => {
+            cancel::cancel(&deal, at, house, commitment.as_deref(), reopen, access)
         }
         Command::Collect { deal, new, number, force, wait } => collect::collect(&deal, &new, number, force, wait),
         Command::List { deal } => list::list(&deal),
         Command::Tally { deal } => tally(&deal),
         Command::Find { deal, commitment, output } => find(&deal, &commitment, output),
-        Command::Build { deal, number, place, output } => build(&deal, number, place, output),
+        Command::FindRaw { deal, raw, output } => locate::find_raw(&deal, &raw, output),
+        Command::Build { deal, number, at, output } => build(&deal, number, at, output),
         Command::Check { commitment, size, number, record } => check(&commitment, size, number, &record),
         Command::Settle { commitment, size, number, first, second } => {
-            settle(&commitment, size, number, &first, &second)
+            settle::settle(&commitment, Terms { size, number }, &first, &second)
         }
         Command::SettleDeal { deal, number, record } => settle_deal(&deal, number, &record),
         Command::Show { record } => show(&record),
         Command::Fsck { deal, wait } => fsck::fsck(&deal, wait),
-        Command::Repair { deal, in_hand, place, access } => repair::repair(&deal, in_hand.as_ref(), place, access),
+        Command::Repair { deal, in_hand, at, access } => repair::repair(&deal, in_hand.as_ref(), at, access),
         Command::Salvage { deal, folder, wait } => salvage::salvage(&deal, &folder, wait),
+        Command::Prove { deal, file, how } => prove::prove(&deal, &file, how),
+        Command::Verify { proof, file, given } => verify::verify(&proof, &file, &given),
+        Command::WithCids(command) => run(*command).map(Answer::with_cids),
     }
 }
 
@@ -74,10 +91,27 @@ fn refused(refusal: Refusal, deal: &Content) -> Answer {
         (Refusal::PLACE, Ok(numbers)) => {
             let (first, last) = (numbers.start, deal.bytes.len() - survey::ENTRY);
             let places = format!("an entry place here is a multiple of 64 from {first} to {last}");
-            answer.with_note(format!("{places}; they are shown by: vizhuthamen list {}", deal.name))
+            let slots = format!("slots 0 to {}", numbers.entries - 1);
+            answer.with_note(format!("{places} ({slots}); they are shown by: vizhuthamen list {}", deal.name))
         }
+        (Refusal::NO_SLOT | Refusal::NO_PLACE, _) => room::told(answer, deal),
         _ => answer,
     }
+}
+
+/// The entry place of a slot. A number that no slot has is that of a place outside of the index, which the library
+/// refuses; so it does a deal of a size that has no index.
+fn place_in(deal: &[u8], at: At) -> u64 {
+    match (at, survey::numbers(deal)) {
+        (At::Place(place), _) => place,
+        (At::Slot(slot), Ok(numbers)) => numbers.start.saturating_add(slot.saturating_mul(survey::ENTRY as u64)),
+        (At::Slot(_), Err(_)) => 0,
+    }
+}
+
+/// Refuses to go on where a slot is damaged or does not stand.
+fn unsound(why: String, deal: &str, force: &str) -> Failure {
+    failure::data(why).hint(format!("see: vizhuthamen fsck {deal}, vizhuthamen repair {deal}")).hint(force)
 }
 
 /// The entry that stands at a place of a deal, where the library has found one.
@@ -112,7 +146,7 @@ fn new(deal: &Stream, size: u64, number: Option<u64>) -> Result<Answer, Failure>
         }
     };
     let table = vec![0; numbers.entries as usize];
-    let made = NewDeal { fill: Fill::Zeros(size), table: Some(&table), number };
+    let made = NewDeal { fill: Fill::Zeros(size), table: Some(&table), manifest: None, number };
     let note = store::create(path_of(deal)?, &made, Attributes::NEW)?;
     let answer = note.into_iter().fold(Answer::done("done").writing(), Answer::with_note);
     let answer = answer
@@ -127,11 +161,15 @@ fn commit(file: &Stream) -> Result<Answer, Failure> {
     let _progress = Progress::start("hashing", run.bytes.len());
     Ok(match vizhuthamen::commitment(&run.bytes) {
         Ok(node) => committed(node, run.bytes.len() as u64),
-        Err(Refusal::SIZE) => {
-            let note = format!("{}; a run has a power of two from 32 to {MAX_DEAL} bytes", run.described());
-            Answer::refused(Refusal::SIZE).with_note(note)
+        Err(refusal) => {
+            let what = match refusal {
+                Refusal::SIZE => format!("{}; a run has a power of two from 32 to {MAX_DEAL} bytes", run.described()),
+                _ => segments::stray(&run),
+            };
+            let plain =
+                format!("the commitment of a plain file is printed by: vizhuthamen commit --raw {}", run.operand());
+            Answer::refused(refusal).with_note(format!("{what}; {plain}"))
         }
-        Err(refusal) => Answer::refused(refusal),
     })
 }
 
@@ -141,20 +179,15 @@ fn committed(node: Node, size: u64) -> Answer {
     Answer::done("done").with_text(format!("{node}\n"), members)
 }
 
-fn pad(raw: &Stream, output: Option<Stream>) -> Result<Answer, Failure> {
+fn pad(raw: &Stream, output: Output) -> Result<Answer, Failure> {
     let raw = files::read(raw)?;
-    let segment = match Progress::during("padding", raw.bytes.len(), || vizhuthamen::pad(&raw.bytes)) {
-        Ok(segment) => segment,
-        Err(refusal) => {
-            let longer = "the commitment of a longer one is printed by: vizhuthamen stream --raw";
-            let note = format!("{}; an archive has from 1 to {MAX_RAW} bytes, and {longer}", raw.described());
-            return Ok(Answer::refused(refusal).with_note(note));
-        }
-    };
-    put_or_show("segment", vec![], output, &segment, &raw)
+    match segments::padded(&raw) {
+        Ok(segment) => put_or_show("segment", vec![], output, &segment, &raw),
+        Err(answer) => Ok(answer),
+    }
 }
 
-fn unpad(raw_length: u64, segment: &Stream, output: Option<Stream>) -> Result<Answer, Failure> {
+fn unpad(raw_length: u64, segment: &Stream, output: Output) -> Result<Answer, Failure> {
     let segment = files::read(segment)?;
     let unpadded =
         Progress::during("unpadding", segment.bytes.len(), || vizhuthamen::unpad(raw_length, &segment.bytes));
@@ -190,23 +223,27 @@ fn tally(deal: &Stream) -> Result<Answer, Failure> {
     })
 }
 
-fn find(deal: &Stream, commitment: &[u8], output: Option<Stream>) -> Result<Answer, Failure> {
+fn find(deal: &Stream, commitment: &[u8], output: Output) -> Result<Answer, Failure> {
     let deal = files::read_deal(deal)?;
     let found = Progress::during("searching", deal.bytes.len(), || vizhuthamen::find(&deal.bytes, commitment));
     let found = match found {
         Ok(found) => found,
         Err(refusal) => return Ok(refused(refusal, &deal)),
     };
-    let answer = Answer::done("done")
-        .with_value("offset", Json::Number(found.offset))
-        .with_value("size", Json::Number(found.size))
-        .with_value("place", Json::Number(found.place));
-    put(answer, output, found.segment, &deal)
+    put(found_answer(found.offset, found.size, found.place), output, found.segment, &deal)
 }
 
-fn build(deal: &Stream, number: Option<u64>, place: u64, output: Option<Stream>) -> Result<Answer, Failure> {
+/// Where a segment was found.
+fn found_answer(offset: u64, size: u64, place: u64) -> Answer {
+    Answer::done("done")
+        .with_value("offset", Json::Number(offset))
+        .with_value("size", Json::Number(size))
+        .with_value("place", Json::Number(place))
+}
+
+fn build(deal: &Stream, number: Option<u64>, at: At, output: Output) -> Result<Answer, Failure> {
     let (deal, number) = number::read_with_number(deal, number)?;
-    let build = || vizhuthamen::build(&deal.bytes, None, number, place);
+    let build = || vizhuthamen::build(&deal.bytes, None, number, place_in(&deal.bytes, at));
     let record = match Progress::during("building", deal.bytes.len(), build) {
         Ok(record) => record,
         Err(refusal) => return Ok(refused(refusal, &deal)),
@@ -219,12 +256,12 @@ fn build(deal: &Stream, number: Option<u64>, place: u64, output: Option<Stream>)
 fn put_or_show(
     name: &'static str,
     told: Vec<(&'static str, Json)>,
-    output: Option<Stream>,
+    output: Output,
     bytes: &[u8],
     read: &Content,
 ) -> Result<Answer, Failure> {
     let values = [vec![("length", Json::Number(bytes.len() as u64))], told].concat();
-    let answer = match output {
+    let answer = match output.to {
         Some(_) => {
             values.into_iter().fold(Answer::done("done"), |answer, (name, value)| answer.with_value(name, value))
         }
@@ -237,11 +274,11 @@ fn put_or_show(
 }
 
 /// Writes bytes to the output, if there is one.
-fn put(answer: Answer, output: Option<Stream>, bytes: &[u8], read: &Content) -> Result<Answer, Failure> {
-    match output {
+fn put(answer: Answer, output: Output, bytes: &[u8], read: &Content) -> Result<Answer, Failure> {
+    match output.to {
         None => Ok(answer),
         Some(Stream::Standard) => Ok(answer.with_bytes(bytes.to_vec())),
-        Some(Stream::File(path)) => files::write(&path, bytes, read).map(|()| answer.writing()),
+        Some(Stream::File(path)) => files::write(&path, bytes, read, output.force).map(|()| answer.writing()),
     }
 }
 
@@ -249,32 +286,38 @@ fn check(commitment: &[u8], size: u64, number: u64, record: &Stream) -> Result<A
     let record = files::read(record)?;
     Ok(match vizhuthamen::check(commitment, size, number, &record.bytes) {
         Ok(()) => number::with_number(Answer::done("the record is accepted"), number),
-        Err(refusal) => number::refused_records(refusal, number, &[&record]),
+        Err(refusal) => refused_record(refusal, Terms { size, number }, &record),
     })
 }
 
-fn settle(commitment: &[u8], size: u64, number: u64, first: &Stream, second: &Stream) -> Result<Answer, Failure> {
-    let (first, second) = (files::read(first)?, files::read(second)?);
-    let settled = vizhuthamen::settle_records(commitment, size, number, &first.bytes, &second.bytes);
-    Ok(settled_answer(settled, "the two records are the same", number, &[&first, &second]))
+/// A refusal of a record, with the reason in words.
+fn refused_record(refusal: Refusal, terms: Terms, record: &Content) -> Answer {
+    let answer = number::refused_records(refusal, terms.number, &[record]);
+    if refusal == Refusal::DEAL_NUMBER {
+        return answer;
+    }
+    let hint = format!("{}: {}", record.name, reasons::reason(refusal, &terms, &record.bytes));
+    answer.with_text(String::new(), vec![("hint", text(&hint))]).with_hint(hint)
 }
 
 fn settle_deal(deal: &Stream, number: Option<u64>, record: &Stream) -> Result<Answer, Failure> {
     let ((deal, number), record) = (number::read_with_number(deal, number)?, files::read(record)?);
     let _progress = Progress::start("settling", deal.bytes.len());
     match vizhuthamen::settle_with_deal(&deal.bytes, None, number, &record.bytes) {
-        Err(refusal) if refusal != Refusal::DEAL_NUMBER => Ok(number::with_number(refused(refusal, &deal), number)),
-        settled => Ok(settled_answer(settled, "the record is the one that the deal gives", number, &[&record])),
+        Err(refusal @ (Refusal::SIZE | Refusal::STRAY_BITS)) => {
+            Ok(number::with_number(refused(refusal, &deal), number))
+        }
+        Err(refusal) => Ok(refused_record(refusal, Terms { size: deal.bytes.len() as u64, number }, &record)),
+        Ok(settled) => Ok(settled_answer(settled, "the record is the one that the deal gives", number)),
     }
 }
 
-fn settled_answer(settled: Result<Settled, Refusal>, same: &'static str, number: u64, records: &[&Content]) -> Answer {
+fn settled_answer(settled: Settled, same: &'static str, number: u64) -> Answer {
     match settled {
-        Ok(Settled::Same) => number::with_number(Answer::done(same), number),
-        Ok(Settled::Collision { left, right }) => number::with_number(Answer::refused(Refusal::COLLISION), number)
+        Settled::Same => number::with_number(Answer::done(same), number),
+        Settled::Collision { left, right } => number::with_number(Answer::refused(Refusal::COLLISION), number)
             .with_value("left", text(hex::encode(&left)))
             .with_value("right", text(hex::encode(&right))),
-        Err(refusal) => number::refused_records(refusal, number, records),
     }
 }
 
@@ -337,7 +380,15 @@ fn add_field(field: &Field, rows: &mut Vec<Vec<String>>, fields: &mut Vec<Json>)
         ("content", text(hex::encode(field.content))),
     ];
     members.extend(number.map(|number| ("value", Json::Number(number))));
+    members.extend(nodes(field).map(|nodes| ("nodes", Json::List(nodes))));
+    members.extend((field.tag == 1).then(|| ("commitment", text(hex::encode(field.content)))));
     fields.push(Json::Object(members));
+}
+
+/// The nodes of a path, where all are whole.
+fn nodes(field: &Field) -> Option<Vec<Json>> {
+    let whole = matches!(field.tag, 5 | 6) && field.content.len().is_multiple_of(32);
+    whole.then(|| field.content.chunks(32).map(|node| text(hex::encode(node))).collect())
 }
 
 #[cfg(test)]
@@ -349,7 +400,7 @@ mod tests {
     #[test]
     fn a_collision_is_printed_with_its_pair() {
         let collision = Settled::Collision { left: [0x11; 64], right: [0x22; 64] };
-        let answer = settled_answer(Ok(collision), "same", 7, &[]);
+        let answer = settled_answer(collision, "same", 7);
         let (left, right) = ("11".repeat(64), "22".repeat(64));
         let members = format!(",\"number\":7,\"left\":\"{left}\",\"right\":\"{right}\"");
         assert_refused(&answer, Refusal::COLLISION, &format!("left {left}\nright {right}\n"), &members);
@@ -369,5 +420,30 @@ mod tests {
         assert_eq!(rows[3], ["7", "deal number", "50", "8", "18446744073709551615"]);
         assert_eq!(rows[4], ["9", "unknown", "61", "0", "-"]);
         assert_eq!(fields.len(), 4);
+    }
+
+    #[test]
+    fn a_path_is_the_list_of_its_nodes() {
+        let node = |byte: u8| text(hex::encode(&[byte; 32]));
+        let listed = |tag, content: &[u8]| nodes(&Field { tag, start: 0, content, next: 0 });
+        for tag in [5, 6] {
+            assert_eq!(listed(tag, &[[1; 32], [2; 32]].concat()), Some(vec![node(1), node(2)]));
+            assert_eq!(listed(tag, &[]), Some(vec![]));
+            assert_eq!(listed(tag, &[1; 33]), None);
+        }
+        assert_eq!(listed(1, &[1; 32]), None);
+    }
+
+    #[test]
+    fn a_slot_by_its_number_is_its_place() {
+        let deal = [0; 1024];
+        let places = [(0, 768), (3, 960), (4, 1024), (1 << 58, u64::MAX), (u64::MAX, u64::MAX)];
+        for (slot, place) in places {
+            assert_eq!(place_in(&deal, At::Slot(slot)), place);
+            let judged = vizhuthamen::inspect(&deal, place);
+            assert_eq!(judged.is_ok(), slot < 4, "{judged:?}");
+        }
+        assert_eq!(place_in(&deal, At::Place(7)), 7);
+        assert_eq!(place_in(&deal[..1000], At::Slot(1)), 0);
     }
 }

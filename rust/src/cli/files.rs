@@ -1,6 +1,7 @@
 //! Reading files, and writing outputs so that a failure or a kill leaves the old ones whole.
 use super::args::Stream;
 use super::failure::{self, Failure};
+use super::manifest::{self, Manifest};
 use super::owners::Owners;
 use super::store::aside::{remove_dead, Aside, Fill};
 use super::store::change::{self, Part};
@@ -12,6 +13,9 @@ use std::os::fd::AsFd;
 use std::os::unix::fs::MetadataExt;
 use std::path::{Path, PathBuf};
 use vizhuthamen::MAX_DEAL;
+
+/// The name of standard input in messages.
+const STANDARD_INPUT: &str = "standard input";
 
 /// What was read: the bytes (of a longer file the first 2^24 + 1), the name for messages, and which file it is.
 pub struct Content {
@@ -28,6 +32,14 @@ impl Content {
     pub fn length(&self) -> u64 {
         let read = self.bytes.len() as u64;
         self.metadata.as_ref().filter(|metadata| metadata.is_file()).map_or(read, |metadata| metadata.len().max(read))
+    }
+
+    /// The word that names it in a call.
+    pub fn operand(&self) -> &str {
+        match self.name.as_str() {
+            STANDARD_INPUT => "-",
+            name => name,
+        }
     }
 
     /// The name and the size, for messages about sizes.
@@ -54,7 +66,7 @@ pub fn read(stream: &Stream) -> Result<Content, Failure> {
     match stream {
         Stream::Standard => {
             let metadata = io::stdin().as_fd().try_clone_to_owned().and_then(|fd| File::from(fd).metadata()).ok();
-            read_from(io::stdin().lock(), "standard input".to_string(), metadata)
+            read_from(io::stdin().lock(), STANDARD_INPUT.to_string(), metadata)
         }
         Stream::File(path) => {
             let file = File::open(path).map_err(|error| cannot("read", &shown(path), error))?;
@@ -76,15 +88,20 @@ pub fn read_deal(stream: &Stream) -> Result<Content, Failure> {
     Ok(content)
 }
 
-/// Reads a deal, which must have the size that is known of it, and the number that is kept of it. It was kept while the
-/// deal was read: where it has changed meanwhile, both are read again.
+/// Reads a deal, which must have the size that is known of it, and the number that is kept of it.
 pub fn read_numbered(stream: &Stream) -> Result<(Content, Option<u64>), Failure> {
+    read_known(stream).map(|(content, known)| (content, known.and_then(|known| known.number)))
+}
+
+/// Reads a deal, and what is known of it. It was known while the deal was read: where it has changed meanwhile, both
+/// are read again.
+pub fn read_known(stream: &Stream) -> Result<(Content, Option<Known>), Failure> {
     loop {
-        let before = real(stream).and_then(|path| store::number(&path));
+        let before = real(stream).and_then(|path| store::said(&path));
         let content = read(stream)?;
-        let number = known(stream, content.length())?.and_then(|known| known.number);
-        if number == before {
-            return Ok((content, number));
+        let known = known(stream, content.length())?;
+        if known == before {
+            return Ok((content, known));
         }
     }
 }
@@ -92,8 +109,8 @@ pub fn read_numbered(stream: &Stream) -> Result<(Content, Option<u64>), Failure>
 /// A deal that is read without a lock, with what lies beside it where it is a file.
 pub struct Viewed {
     pub content: Content,
-    /// The number that is kept of it.
-    pub number: Option<u64>,
+    /// What is known of it.
+    pub known: Option<Known>,
     /// The table of its owners, or why it cannot be read; its names.
     table: Option<(Home, Result<Option<OwnerTable>, Failure>)>,
 }
@@ -109,10 +126,10 @@ impl Viewed {
 pub fn read_viewed(stream: &Stream) -> Result<Viewed, Failure> {
     match stream {
         Stream::File(path) if path.is_file() => {
-            let View { content, number, table, home } = store::view(path)?;
-            Ok(Viewed { content, number, table: Some((home, table)) })
+            let View { content, known, table, home } = store::view(path)?;
+            Ok(Viewed { content, known, table: Some((home, table)) })
         }
-        _ => read(stream).map(|content| Viewed { content, number: None, table: None }),
+        _ => read(stream).map(|content| Viewed { content, known: None, table: None }),
     }
 }
 
@@ -157,12 +174,26 @@ impl Source {
         }
     }
 
+    /// The manifest of the deal, true or not. A pipe has none.
+    pub fn manifest(&self) -> Result<Option<Manifest>, Failure> {
+        match self {
+            Source::Locked(file) => manifest::read(file.path()),
+            Source::Piped(_) => Ok(None),
+        }
+    }
+
     /// Whose the entries of its slots are.
     pub fn owners(&self, slots: usize) -> Owners {
         match self {
             Source::Locked(file) => Owners::read(file.home(), &file.table(), slots),
             Source::Piped(_) => Owners::Nowhere,
         }
+    }
+
+    /// The manifest of the deal for another one that has its segments.
+    pub fn manifest_for(&self, other: &[u8]) -> Result<Option<Manifest>, Failure> {
+        let manifest = self.manifest()?.map(|manifest| manifest.renewed(other)).transpose().map_err(failure::data)?;
+        Ok(manifest.map(|renewed| renewed.manifest))
     }
 
     /// What is known of the deal, which must have the length that is known. Nothing is known of a pipe.
@@ -200,23 +231,63 @@ fn read_from(source: impl Read, name: String, metadata: Option<Metadata>) -> Res
     Ok(Content { bytes, name, metadata })
 }
 
-/// Writes an output file. It must not be a file that the command has read.
-pub fn write(path: &Path, bytes: &[u8], read: &Content) -> Result<(), Failure> {
+/// Writes an output file. It must not be a file that the command has read; one that is there is replaced only by force.
+pub fn write(path: &Path, bytes: &[u8], read: &Content, force: bool) -> Result<(), Failure> {
     let failed = |error| cannot("write", &shown(path), error);
     match fs::metadata(path) {
         Ok(old) if same_file(&old, read) => {
             Err(failure::usage(format!("--output would replace {}, which was read", shown(path))))
         }
-        Ok(old) if old.is_file() => replace(path, bytes),
+        Ok(old) if old.is_file() => write_over(path, bytes, force),
         // A device, a pipe: written as it is. A directory: refused by the system.
         Ok(_) => OpenOptions::new().write(true).open(path).and_then(|mut file| file.write_all(bytes)).map_err(failed),
-        Err(error) if error.kind() == ErrorKind::NotFound => match make(path, bytes)? {
-            true => Ok(()),
-            // Another process has made it in the meantime.
-            false => replace(path, bytes),
-        },
+        Err(error) if error.kind() == ErrorKind::NotFound => write_new(path, bytes, force),
         Err(error) => Err(failed(error)),
     }
+}
+
+/// Writes a file that is not there; where it is all the same, as by another process in the meantime, it is replaced
+/// only by force.
+fn write_new(path: &Path, bytes: &[u8], force: bool) -> Result<(), Failure> {
+    match make(path, bytes)? {
+        true => Ok(()),
+        false => write_over(path, bytes, force),
+    }
+}
+
+/// Replaces an output that is there, where that is needed.
+pub fn write_over(path: &Path, bytes: &[u8], force: bool) -> Result<(), Failure> {
+    match must_write(path, bytes, force)? {
+        true => replace(path, bytes),
+        false => clear(&fs::canonicalize(path).unwrap_or_else(|_| path.to_path_buf())),
+    }
+}
+
+/// Whether an output that is there is to be replaced, which is done by force alone. One that has the very bytes is as
+/// it should be: a call that is repeated after a kill ends well.
+pub fn must_write(path: &Path, bytes: &[u8], force: bool) -> Result<bool, Failure> {
+    if force {
+        return Ok(true);
+    }
+    let exists = |why: &str| {
+        failure::io(format!("cannot write {}: the file exists{why}", shown(path)))
+            .hint("give another name, or --force to replace it")
+    };
+    match holds(path, bytes) {
+        Ok(true) => Ok(false),
+        Ok(false) => Err(exists(", with other bytes")),
+        Err(error) => Err(exists(&format!(" and cannot be read: {error}"))),
+    }
+}
+
+/// Whether a file has these bytes. Of one that has another length nothing is read.
+fn holds(path: &Path, bytes: &[u8]) -> io::Result<bool> {
+    let file = File::open(path)?;
+    let mut there = vec![];
+    if file.metadata()?.len() == bytes.len() as u64 {
+        file.take(bytes.len() as u64 + 1).read_to_end(&mut there)?;
+    }
+    Ok(there == bytes)
 }
 
 /// Whether a file is the one that was read.
@@ -226,15 +297,26 @@ pub fn same_file(file: &Metadata, read: &Content) -> bool {
 
 /// Makes a file in one step. Says false where the name is taken.
 pub fn make(path: &Path, bytes: &[u8]) -> Result<bool, Failure> {
+    let made = make_unflushed(path, bytes)?;
+    if made {
+        flush_folder(path)?;
+    }
+    Ok(made)
+}
+
+/// The same, but its name may not last until the folder is flushed.
+pub fn make_unflushed(path: &Path, bytes: &[u8]) -> Result<bool, Failure> {
     let failed = |error: String| failure::io(format!("cannot write {}: {error}", shown(path)));
     let (home, held) = (Home::of(path), Held::start());
     remove_dead(&home.part(0)).map_err(failed)?;
     let mut aside = Aside::write(&home, 0, Fill::Bytes(bytes), Attributes::NEW, &held).map_err(failed)?;
-    let made = aside.make(path, &held).map_err(failed)?;
-    if made {
-        change::flush(&home.folder).map_err(|error| failed(format!("its folder could not be flushed: {error}")))?;
-    }
-    Ok(made)
+    aside.make(path, &held).map_err(failed)
+}
+
+/// Flushes the folder of a file to the disk.
+pub fn flush_folder(path: &Path) -> Result<(), Failure> {
+    change::flush(&Home::of(path).folder)
+        .map_err(|error| failure::io(format!("cannot write {}: its folder could not be flushed: {error}", shown(path))))
 }
 
 /// Removes a file that is done with, where it is still there, and what a dead process has left beside it.
@@ -243,6 +325,11 @@ pub fn remove(path: &Path) -> Result<(), Failure> {
         Err(error) if error.kind() != ErrorKind::NotFound => return Err(cannot("remove", &shown(path), error)),
         _ => {}
     }
+    clear(path)
+}
+
+/// Removes what a dead process has left beside an output.
+fn clear(path: &Path) -> Result<(), Failure> {
     remove_dead(&Home::of(path).part(0)).map(drop).map_err(failure::io)
 }
 
@@ -397,11 +484,32 @@ mod tests {
         let path = folder.join("deal");
         fs::write(&path, b"deal").unwrap();
         let content = read(&Stream::File(path.clone())).unwrap();
-        assert_eq!(write(&path, b"segment", &content).unwrap_err().status, 64);
+        for force in [false, true] {
+            assert_eq!(write(&path, b"segment", &content, force).unwrap_err().status, 64);
+        }
         assert_eq!(fs::read(&path).unwrap(), b"deal");
-        write(&folder.join("other"), b"segment", &content).unwrap();
-        write(&folder.join("other"), b"again", &content).unwrap();
-        assert_eq!(fs::read(folder.join("other")).unwrap(), b"again");
+        assert_eq!(names(&folder), ["deal"]);
+    }
+
+    #[test]
+    fn an_output_is_replaced_by_force_alone() {
+        let (folder, path) = old_deal("output");
+        let content = read(&Stream::File(path)).unwrap();
+        let other = folder.join("other");
+        for (bytes, force, written) in [
+            (b"first", false, true),
+            (b"again", false, false),
+            (b"first", false, true),
+            (b"again", true, true),
+            (b"again", false, true),
+            (b"first", false, false),
+        ] {
+            let before = fs::read(&other).unwrap_or_default();
+            let answer = write(&other, bytes, &content, force);
+            assert_eq!(answer.is_ok(), written);
+            assert_eq!(fs::read(&other).unwrap(), if written { bytes.to_vec() } else { before });
+            assert!(written || answer.unwrap_err().line().ends_with("give another name, or --force to replace it"));
+        }
         assert_eq!(names(&folder), ["deal", "other"]);
     }
 
@@ -410,7 +518,7 @@ mod tests {
         let folder = folder("new");
         let path = folder.join("deal");
         let create = |size, number| {
-            let new = NewDeal { fill: Fill::Zeros(size), table: Some(&[0; 4]), number };
+            let new = NewDeal { fill: Fill::Zeros(size), table: Some(&[0; 4]), manifest: None, number };
             store::create(&path, &new, Attributes::NEW)
         };
         assert_eq!(create(512, Some(7)).unwrap(), None);
@@ -431,7 +539,7 @@ mod tests {
         let folder = folder("table");
         let (path, table) = (folder.join("deal"), folder.join("deal.owners"));
         let create = |table: Option<&[u8]>| {
-            let new = NewDeal { fill: Fill::Zeros(512), table, number: None };
+            let new = NewDeal { fill: Fill::Zeros(512), table, manifest: None, number: None };
             store::create(&path, &new, Attributes::NEW)
         };
         fs::write(&table, [0, 1, 0, 0]).unwrap();

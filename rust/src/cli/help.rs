@@ -1,39 +1,49 @@
-//! The texts of `--help`, and what each command takes.
+//! The table of commands and options, and the texts of `--help`, which are made of it. So are the man page (`man`) and
+//! the completions for shells (`completions`).
 use std::ops::RangeInclusive;
 
 /// A command: its name, its operands, the options that not all take, and the text after its usage line.
 pub struct Topic {
     /// The word that names it.
     pub name: &'static str,
-    /// What follows the name; in brackets what may be left out.
+    /// What follows the name; in brackets what may be left out, and after a bar the option that stands for it.
     pub operands: &'static [&'static str],
     /// The names of its options.
     pub options: &'static [&'static str],
-    summary: &'static str,
-    text: &'static str,
+    /// What it does, in a line.
+    pub summary: &'static str,
+    /// What it does: paragraphs, and lists whose lines begin with two spaces.
+    pub text: &'static str,
 }
 
-/// An option that some commands take: its name, its value (none where that is empty), and what it does.
+/// An option: its name, its value (none where that is empty), and what it does.
 pub struct Choice {
     /// The word after `--`.
     pub name: &'static str,
     /// What its value is.
     pub value: &'static str,
-    summary: &'static str,
+    /// What it does, in a line.
+    pub summary: &'static str,
 }
 
 /// The options that some commands take.
-pub const OPTIONS: [Choice; 14] = [
-    Choice { name: "output", value: "FILE", summary: "write to FILE, replacing it (also -o)" },
-    Choice { name: "house", value: "HOUSE", summary: "the house that books or cancels, 1 or 2" },
-    Choice { name: "force", value: "", summary: "go on where a slot is damaged, or valid and not standing" },
+pub const OPTIONS: &[Choice] = &[
+    Choice { name: "output", value: "FILE", summary: "write to FILE, which must not be there yet (also -o)" },
+    Choice { name: "house", value: "HOUSE", summary: "the house that books, packs or cancels, 1 or 2" },
+    Choice { name: "force", value: "", summary: "replace FILE; go on where a slot is damaged or does not stand" },
     Choice { name: "no-wait", value: "", summary: "do not wait where another process works on the deal" },
     Choice { name: "new-owner", value: "", summary: "let the deal be the caller's where its owner cannot be kept" },
-    Choice { name: "segment", value: "FILE", summary: "the segment in hand" },
-    Choice { name: "raw", value: "FILE", summary: "a raw archive: the one in hand, or the one that is streamed" },
-    Choice { name: "commitment", value: "COMMITMENT", summary: "the commitment in hand (hex)" },
-    Choice { name: "place", value: "PLACE", summary: "the entry place that is repaired" },
+    Choice { name: "segment", value: "FILE", summary: "a segment: the one in hand, or the one that is proved" },
+    Choice { name: "raw", value: "FILE", summary: "a plain file, which is padded: a raw archive" },
+    Choice { name: "commitment", value: "COMMITMENT", summary: "the commitment in hand; of verify: the deal's" },
+    Choice { name: "place", value: "PLACE", summary: "the entry place that is meant" },
+    Choice { name: "deal", value: "DEAL", summary: "the deal file that files are packed into" },
+    Choice { name: "records", value: "FOLDER", summary: "write the records of all files with names into FOLDER" },
+    Choice { name: "to", value: "FOLDER", summary: "write files below FOLDER and not below the current folder" },
+    Choice { name: "reopen", value: "", summary: "change a deal that is closed, and open it again" },
+    Choice { name: "slot", value: "N", summary: "the slot by its number from 0 on, in place of its entry place" },
     Choice { name: "number", value: "N", summary: "the deal's number, from 0 to 18446744073709551615" },
+    Choice { name: "size", value: "SIZE", summary: "the deal's size in bytes; of pack: where it is made" },
     Choice {
         name: "instead-of",
         value: "N",
@@ -42,10 +52,19 @@ pub const OPTIONS: [Choice; 14] = [
     Choice { name: "state", value: "FILE", summary: "keep the state in FILE until the answer is there" },
     Choice { name: "resume", value: "", summary: "go on from the state" },
     Choice { name: "progress", value: "", summary: "show progress also where standard error is no terminal" },
+    Choice { name: "man", value: "", summary: "print the man page (roff)" },
+];
+
+/// The options that every command takes.
+pub const GENERAL: &[Choice] = &[
+    Choice { name: "json", value: "", summary: "print one JSON object, whatever comes of the call" },
+    Choice { name: "cid", value: "", summary: "show commitments as piece CIDs; with --json beside the hex digits" },
+    Choice { name: "help", value: "", summary: "print help, of one command after its name (also -h)" },
+    Choice { name: "version", value: "", summary: "print the version (also -V)" },
 ];
 
 /// The commands.
-pub const TOPICS: [Topic; 21] = [
+pub const TOPICS: &[Topic] = &[
     Topic {
         name: "new",
         operands: &["DEAL", "SIZE"],
@@ -68,7 +87,7 @@ there without it. A DEAL.owners that was left by another deal, with other bytes,
         text: "Prints the number that is kept of the deal in DEAL.vz; with N it keeps that one, from 0 to
 18446744073709551615. A record names its deal by this number, and the bytes of the deal do not hold it. `build` and
 `settle-deal` take the kept number, and refuse any other that --number gives. Exit status 65: no number is kept.
-With --json a number has up to 20 digits; a program must not round it.
+With --json a number above 2^53 - 1 is a text of its digits, which no reader rounds.
 
 A number that is kept already is changed only with --instead-of and that number, so that of two calls with
 different numbers one is refused (65). Records that were built with the old number get code 21 from then on. DEAL
@@ -76,8 +95,8 @@ is locked as with `book`, and DEAL.vz is replaced as a whole; DEAL itself is not
     },
     Topic {
         name: "owner",
-        operands: &["DEAL", "[HOUSE]", "[PLACE...]"],
-        options: &["instead-of", "no-wait"],
+        operands: &["DEAL", "[HOUSE]", "[PLACE...|--slot N]"],
+        options: &["instead-of", "slot", "no-wait"],
         summary: "show or say which house owns which entries",
         text: "Two houses, 1 and 2, book in one deal. Which of them an entry is of stands in the table DEAL.owners, one byte a
 slot: 1 or 2 for the house, anything else for nobody; it counts only where the entry stands. `book` sets the
@@ -85,10 +104,11 @@ slot's byte and `cancel` clears it, together with DEAL: both files are changed, 
 every entry that stands, and how many slots each house holds. A house that holds half the slots or more cannot
 book (code 22).
 
-With HOUSE, the entries that stand at each PLACE, a byte offset in DEAL, are that house's from then on; without
-PLACE all that are nobody's. With HOUSE 0 they are nobody's; without PLACE that makes 0 of every byte that is no
-house's or is of a blank slot. An entry that is the other house's is not taken: nothing is changed and the exit
-status is 65. With --instead-of N it is, where it is house N's; without PLACE all of house N change hands.
+With HOUSE, the entries that stand at each PLACE, a byte offset in DEAL, or in the slot of the number that --slot
+gives, are that house's from then on; without a slot all that are nobody's. With HOUSE 0 they are nobody's; without a
+slot that makes 0 of every byte that is no house's or is of a blank slot. An entry that is the other house's is not
+taken: nothing is changed and the exit status is 65. With --instead-of N it is, where it is house N's; without a slot
+all of house N change hands.
 
 A deal that was made by an older version or by another program, and a copy without its table, has no DEAL.owners.
 Where no entry stands in it, the first booking makes the table. Where entries stand, `book` and `cancel` refuse
@@ -98,10 +118,14 @@ written.",
     },
     Topic {
         name: "commit",
-        operands: &["FILE"],
-        options: &[],
+        operands: &["[--raw] FILE"],
+        options: &["raw"],
         summary: "print the commitment of a file",
-        text: "Prints the commitment of the bytes of FILE in hex. FILE has a power of two from 32 to 16777216 bytes.",
+        text: "Prints the commitment of the bytes of FILE in hex, with --cid as a piece CID. FILE has a power of two from 32 to
+16777216 bytes.
+
+With --raw, FILE is a plain file of 1 to 68182605824 bytes: what is printed is the commitment of its segment, padded
+and filled with zeros, as by `stream --raw`.",
     },
     Topic {
         name: "stream",
@@ -127,38 +151,38 @@ On a terminal the part that is done, the rate and the time that is left are show
     Topic {
         name: "pad",
         operands: &["RAW"],
-        options: &["output"],
+        options: &["output", "force"],
         summary: "pad a raw archive to a segment (Fr32)",
         text: "Pads the bytes of RAW, from 1 to 8323072 of them, to a segment: 254 bits and then two zero bits for every node of
 32 bytes. The segment has 128/127 of the raw length, rounded up. With --output FILE the segment's bytes go to
-FILE and its length is printed; otherwise it is printed in hex.",
+FILE and its length is printed; otherwise it is printed in hex, but not on a terminal.",
     },
     Topic {
         name: "unpad",
         operands: &["RAW_LENGTH", "SEGMENT"],
-        options: &["output"],
+        options: &["output", "force"],
         summary: "take the raw bytes back out of a segment",
         text: "Takes RAW_LENGTH raw bytes back out of the bytes of SEGMENT. Code 24: SEGMENT has another length than so many raw
 bytes give. Code 11: it has stray bits, or bits after the last raw one. A segment of T bytes made by `pad` has
 127 x T / 128 raw bytes, rounded down. With --output FILE the raw bytes go to FILE and their number is printed;
-otherwise they are printed in hex.",
+otherwise they are printed in hex, but not on a terminal.",
     },
     Topic {
         name: "book",
-        operands: &["DEAL", "SEGMENT"],
-        options: &["house", "force", "no-wait", "new-owner"],
+        operands: &["DEAL", "[--raw] SEGMENT"],
+        options: &["raw", "house", "force", "reopen", "no-wait", "new-owner"],
         summary: "book a segment file into a deal file",
         text: "Books the bytes of SEGMENT, already padded (see pad), into the file DEAL, and prints offset, entry place, size,
 commitment and house. The size is from 1 byte to half of the deal; zeros follow up to the segment's area, the
 smallest power of two at or above both the size and 128. A segment that the house keeps in the deal already gets
 code 15, with its offset and entry place; what the other house keeps is booked again. Nothing is changed by any
-code but 0.
+code but 0. With --raw, SEGMENT is a plain file, which is padded as by `pad`.
 
 --house says which house books, 1 or 2; without it the variable VIZHUTHAMEN_HOUSE of the environment does. Without
 either it is house 1, as long as no entry of house 2 stands in DEAL; else the exit status is 64. A house that
 holds half the slots or more gets code 22, whatever the other holds; another number, or a DEAL.owners of another
-length, code 23. DEAL.owners gets the house for the new entry's slot (see owner); DEAL and DEAL.owners are changed
-both or not at all.
+length, code 23. Codes 13, 14 and 22 say how full the deal is, and 13 and 14 which size would be booked. DEAL.owners
+gets the house for the new entry's slot (see owner); DEAL and DEAL.owners are changed both or not at all.
 
 Booking takes the lowest slot without a standing entry. Where that slot is not blank (damaged, or valid and not
 standing), or where the booking would overwrite bytes that may be those of a damaged slot, nothing is changed and
@@ -169,20 +193,77 @@ does not: nothing is changed and the exit status is 75. The new files are writte
 renamed over DEAL and DEAL.owners, with their owner, permissions and extended attributes. DEAL is the old or the
 new deal at any moment, never a part of either; a change that was cut short is ended by the next call that changes
 or lists DEAL. A file with several hard links, or a DEAL whose owner cannot be kept, is refused; --new-owner allows
-the latter.",
+the latter. A deal that is closed (see close) is refused (65); with --reopen it is open again with that change.",
+    },
+    Topic {
+        name: "pack",
+        operands: &["FILE..."],
+        options: &["deal", "size", "number", "records", "house", "force", "reopen", "no-wait", "new-owner"],
+        summary: "pack plain files and folders into a deal file, with a manifest",
+        text: "Pads (Fr32) each plain FILE, and each file of a folder FILE and of the folders in it, and books all of
+them into the file DEAL in one change: all, or none where one does not fit. Beside DEAL goes the manifest
+DEAL.manifest.json, with the names, length, SHA-256, place, offset, size and commitment of each file (docs/FORMAT.md).
+What was booked and what is kept already, with place and offset, and the commitment of the deal are printed. A file
+whose bytes the house keeps in the deal is not booked again: the manifest lists it once, with all its names. The
+house is chosen as with `book`; a segment that both houses have has one line in the manifest too.
+
+A file has its own name, and one of a folder its path below that folder, in any bytes. Two files of one name with
+different bytes are refused (exit status 65), also where the manifest has the name already. In a folder, symbolic
+links, empty files, what is no regular file, and the files of DEAL itself are skipped, and said to be; as FILE they
+are refused (64), but links, which are followed. Folders without files, permissions and times are not kept.
+
+Where DEAL is not there it is made first, as by `new`, of the size that --size gives or else of the smallest that
+holds all, with the number that --number gives. A house books in half of the slots at most: in up to 64 of them. Files
+are booked by falling area, equal ones by name: no other order takes more. Where some do not fit, nothing is written,
+and they are named, with the code of the first: 2 (no deal holds it), 4, 13, 14 or 22. With 22 it is said how many
+more files the house may book. Code 23, for all of them: the house is none, or DEAL.owners has another length.
+
+With --records FOLDER the inclusion record of every file of the manifest is written to NAME.record in FOLDER; the
+deal's number must be known. Records that are there and differ are refused before anything is changed (74); --force
+replaces them. A run that was killed is run again: what is done is found done. DEAL is locked and replaced as with
+`book`, together with DEAL.owners and the manifest. A deal that is closed is refused (65) without --reopen.",
+    },
+    Topic {
+        name: "extract",
+        operands: &["DEAL", "[NAME...]"],
+        options: &["to", "force", "no-wait"],
+        summary: "write packed files out by their names",
+        text: "Writes the plain files with these names, all files below a name that is a folder, or all files of the
+manifest where no NAME is given, below the current folder, or below the one that --to names, which is made where it is
+not there. Each entry must be kept, and the unpadded bytes must have the length and the SHA-256 of the manifest; a
+file that is not so is not written and is named (exit status 65).
+
+Each file is written whole or not at all. One that is there is not replaced without --force, unless it has the very
+bytes already; where one is in the way nothing is written (74). A name that leads out of the folder is refused (65),
+and no link is followed below it. Where the manifest does not agree with the deal the entries of the deal are taken,
+and it is said.",
+    },
+    Topic {
+        name: "close",
+        operands: &["DEAL"],
+        options: &["records", "force", "no-wait"],
+        summary: "close a deal: its records are built from now on",
+        text: "Keeps in DEAL.vz that DEAL is closed, with its commitment, and prints commitment, size, number and the
+number of its entries. Every booking and every cancellation gives the deal another commitment, and all records that
+were built belong to the one before: from now on `book`, `cancel` and `pack` refuse DEAL (exit status 65) without
+--reopen, which opens it again with that change. DEAL itself is not written. `list` and `fsck` say that it is closed,
+and `fsck` whether it still has that commitment. A deal that `collect` makes of it is another one, and open.
+
+With --records FOLDER the records of all files of the manifest are written as by `pack`. Closing a closed deal again
+writes them anew, and changes nothing else.",
     },
     Topic {
         name: "cancel",
-        operands: &["DEAL", "PLACE"],
-        options: &["house", "commitment", "no-wait", "new-owner"],
+        operands: &["DEAL", "PLACE|--slot N"],
+        options: &["house", "commitment", "slot", "reopen", "no-wait", "new-owner"],
         summary: "cancel an entry of a deal file",
-        text: "Cancels the entry of the house that stands at PLACE, a byte offset in the file DEAL, whether it is kept or not,
-and prints what it said: offset, entry place, size and commitment, and the house. Its 64 bytes and its slot's byte
-of DEAL.owners are zeros afterwards, and no other byte changes. The slot is then free for booking, and so are the
-segment's bytes wherever no other standing entry covers them; they stay in DEAL until a booking takes them, and
-`collect` makes a deal without them. Code 16: no entry of the house stands at PLACE; `list` shows the places and
-the owners. What is nobody's is cancelled by no house: `owner` gives it to one. The house is chosen as with
-`book`.
+        text: "Cancels the entry of the house that stands at PLACE, a byte offset in the file DEAL, or in the slot of the number
+that --slot gives (`list` shows both), whether it is kept or not, and prints what it said: offset, entry place, size
+and commitment, and the house. Its 64 bytes and its slot's byte of DEAL.owners are zeros afterwards, and no other
+byte changes. The slot is then free for booking, and so are the segment's bytes wherever no other standing entry
+covers them; they stay in DEAL until a booking takes them, and `collect` makes a deal without them. Code 16: no entry
+of the house stands there; `list` shows the owners too. What is nobody's is cancelled by no house: `owner` gives it
+to one. The house is chosen as with `book`.
 
 A free place goes to the next booking, so that a place that was noted earlier may be another segment's by now.
 With --commitment an entry that has another commitment is not cancelled: nothing is changed and the exit status is
@@ -191,7 +272,8 @@ With --commitment an entry that has another commitment is not cancelled: nothing
 DEAL has another commitment afterwards: records that were built before belong to the old one. As long as neither
 the slot nor the bytes are booked again, `repair DEAL --segment FILE --place PLACE` brings the entry back, as
 nobody's, and `owner DEAL HOUSE PLACE` gives it to its house. DEAL and DEAL.owners are locked and replaced as with
-`book`.",
+`book`, together with the manifest of a deal that was packed: the line of a segment that is not in DEAL any more goes.
+A deal that is closed is refused (65) without --reopen.",
     },
     Topic {
         name: "collect",
@@ -202,7 +284,8 @@ nobody's, and `owner DEAL HOUSE PLACE` gives it to its house. DEAL and DEAL.owne
 areas, the larger ones first and equal ones by offset, packed from byte 0 on, and their entries from the first
 slot on in that order; all else is zero. For each entry its owner and the old and the new place and offset are
 printed, by new places. NEW.owners has each moved entry's byte as it was, nobody's too, for its new slot, and
-zeros after them. Where entries stand in DEAL and it has no table, NEW has none either. DEAL is not changed.
+zeros after them. Where entries stand in DEAL and it has no table, NEW has none either. NEW.manifest.json has the
+names of DEAL's manifest, where there is one, with the new places. DEAL is not changed.
 Records that were built from DEAL belong to its commitment, and not to that of NEW.
 
 NEW is made as by `new`: a file that is there is never overwritten, and NEW.vz goes beside it. Code 23:
@@ -241,39 +324,47 @@ valid (the checksum is right, standing or not). Together they are all slots.",
     },
     Topic {
         name: "find",
-        operands: &["DEAL", "COMMITMENT"],
-        options: &["output"],
-        summary: "find a segment by its commitment",
-        text: "Prints offset, size and entry place of the lowest slot that holds a kept entry with COMMITMENT (hex).
-With --output FILE the segment's bytes go to FILE.",
+        operands: &["DEAL", "COMMITMENT|--raw FILE"],
+        options: &["raw", "output", "force"],
+        summary: "find a segment by its commitment, or a plain file",
+        text: "Prints offset, size and entry place of the lowest slot that holds a kept entry with COMMITMENT.
+With --output FILE the segment's bytes go to FILE.
+
+With --raw FILE the segment of a plain file is found, padded as by `pad`: the lowest kept entry with its commitment
+and its size. Code 16: it is not there; a note says what is there in its place.",
     },
     Topic {
         name: "build",
-        operands: &["DEAL", "PLACE"],
-        options: &["number", "output"],
+        operands: &["DEAL", "PLACE|--slot N"],
+        options: &["slot", "number", "output", "force"],
         summary: "build the inclusion record of an entry place",
-        text: "Builds the inclusion record of the kept entry at PLACE, a byte offset in the deal. It names the deal by the
-number that is kept of it (see number), or by the one that --number gives where none is kept. Exit status 65: the
-two differ, or there is neither. With --output FILE the record's bytes go to FILE, and length and number are
-printed; otherwise it is printed in hex. The other commands read records as bytes.",
+        text: "Builds the inclusion record of the kept entry at PLACE, a byte offset in the deal, or in the slot of
+the number that --slot gives; `list` shows both. It names the deal by the number that is kept of it (see number), or
+by the one that --number gives where none is kept. Exit status 65: the two differ, or there is neither. With --output
+FILE the record's bytes go to FILE, and length and number are printed; otherwise it is printed in hex, but not on a
+terminal. The other commands read records as bytes.",
     },
     Topic {
         name: "check",
         operands: &["COMMITMENT", "SIZE", "RECORD"],
         options: &["number"],
         summary: "check a record against a deal's commitment, size and number",
-        text: "Checks the record in the file RECORD against the commitment (hex), the size, a power of two from 512 to
-68719476736, and the number of a deal. Code 0: the record is accepted. Code 21: it names a deal of another number,
-which is printed (with --json as record_number).",
+        text: "Checks the record in the file RECORD against the commitment, the size, a power of two from 512 to 68719476736,
+and the number of a deal. Code 0: the record is accepted. Any other code comes with its reason in words (with --json
+as hint). Code 9: it does not belong to this commitment; a booking or a cancellation after the record was built gives
+the deal another one, and the record belongs to the older. Code 21: it names a deal of another number, which is
+printed (with --json as record_number).",
     },
     Topic {
         name: "settle",
         operands: &["COMMITMENT", "SIZE", "RECORD", "RECORD"],
         options: &["number"],
         summary: "settle two records of one deal",
-        text: "Checks two records against one deal's commitment (hex), size and number, and compares them. Code 0: they are
-the same. Code 17: they differ and both are accepted; two different 64-byte strings with one node hash are printed
-in hex, the first record's as left. Code 21: one names a deal of another number, which is printed.",
+        text: "Checks two records against one deal's commitment, size and number, and compares them. Code 0: they are the
+same. Code 17: they differ and both are accepted; two different 64-byte strings with one node hash are printed in
+hex, the first record's as left. Any other code is that of the first record that is refused, and for each record it
+is said whether it is accepted, and why not (with --json in the list records). Code 18: both are accepted, and they
+are of two different entries. Code 21: one names a deal of another number, which is printed.",
     },
     Topic {
         name: "settle-deal",
@@ -291,37 +382,40 @@ and is another one; two different 64-byte strings with one node hash are printed
         options: &[],
         summary: "show the fields of a record",
         text: "Shows the fields of a record in turn: tag, name, where the content starts, its length, the content. Numbers are
-in decimal, all else in hex. Code 3: the record is malformed; the fields before the fault are shown.",
+in decimal, all else in hex, a path by its nodes. Code 3: the record is malformed; the fields before the fault are
+shown.",
     },
     Topic {
         name: "fsck",
         operands: &["DEAL"],
         options: &["no-wait"],
         summary: "find all that is wrong with a deal",
-        text: "Names every stray bit (its byte, its node, and whose area it lies in) and every slot that is not in order:
+        text: "Names every stray bit (its byte, its node, and whose area it lies in) and every slot that is not in
+order:
   damaged       its checksum is wrong
   not standing  its checksum is right, but its size or its offset is not allowed
   overlapping   its area overlaps that of a lower slot
   not kept      its commitment is not that of the bytes at its offset, or these have stray bits
 Names also a table DEAL.owners that has another length than one byte a slot, or that is not there though entries
 stand, and owner bytes that no command here writes: those other than 0, 1 and 2, and a house's where the slot is
-blank. Exit status 0: nothing is wrong. 65: something is, or DEAL has another size than DEAL.vz says. Nothing is
-changed.",
+blank. Exit status 0: nothing is wrong. 65: something is, or DEAL has another size than DEAL.vz says, or another
+commitment than it was closed with, or its manifest does not agree with its entries. Nothing is changed.",
     },
     Topic {
         name: "repair",
         operands: &["DEAL"],
-        options: &["segment", "raw", "commitment", "place", "no-wait", "new-owner"],
+        options: &["segment", "raw", "commitment", "place", "slot", "no-wait", "new-owner"],
         summary: "repair what can be told for certain",
         text: "Clears stray bits, which no segment and no entry has. Makes the entry of each damaged slot anew where it can be
 told for certain: from its own bytes, where either its commitment or its checksum agrees with the bytes of the
-deal, or from the segment in hand: --segment or --raw names its file, --commitment its commitment. --place names
-the slot where several are damaged, or where it is not damaged but blank. With the segment in hand the bytes of an
-entry that stands and is not kept are written anew too. DEAL.owners is not changed: a damaged entry has the owner
-again that it had, and one whose byte was cleared is nobody's (see owner).
+deal, or from the segment in hand: --segment or --raw names its file, --commitment its commitment. --place or
+--slot names the slot where several are damaged, or where it is not damaged but blank. With the segment in hand the
+bytes of an entry that stands and is not kept are written anew too. DEAL.owners is not changed: a damaged entry has
+the owner again that it had, and one whose byte was cleared is nobody's (see owner).
 
-The deal as it was is kept as DEAL.before-repair (or DEAL.before-repair.N); the repaired deal and this copy are
-put in place together or not at all. Exit status 0: fsck finds nothing wrong any more. 65: something is left.",
+The deal as it was is kept as DEAL.before-repair (or DEAL.before-repair.N); the repaired deal and this copy are put in
+place together or not at all, and with them the manifest, where it did not agree with the entries. Exit status 0: fsck
+finds nothing wrong any more. 65: something is left.",
     },
     Topic {
         name: "salvage",
@@ -333,22 +427,90 @@ FOLDER, which is made where it is not there. DEAL is not changed, and may have s
 stays: it must have the same bytes. Exit status 0: the segment of every slot that is not blank is written. 65:
 those of some are not, and they are named.",
     },
+    Topic {
+        name: "prove",
+        operands: &["DEAL", "[--segment] FILE"],
+        options: &["segment", "number", "place", "slot", "output", "force"],
+        summary: "write the proof that a file is in a deal",
+        text: "Writes a proof file: a text (JSON) that says in words and members that the plain file FILE is in the deal, with its
+length and SHA-256, the deal's commitment, size and number, and the inclusion record that proves it. Whoever has
+FILE and the proof can check it with `verify`, and needs neither the deal nor the house.
+
+FILE is padded as by `pad`, and the lowest slot that keeps it is taken, or the one that --place or --slot names; with
+--segment, FILE is a segment that was booked as it is. The number is chosen as with `build`. Code 16: DEAL does not keep FILE; a
+note says what it keeps in its place. The proof belongs to the commitment that DEAL has now: a booking or a
+cancellation gives DEAL another one.
+
+The proof is written whole or not at all.",
+    },
+    Topic {
+        name: "verify",
+        operands: &["PROOF", "FILE"],
+        options: &["commitment", "size", "number"],
+        summary: "say whether a proof proves that a file is in a deal",
+        text: "Says yes or no, and why: whether the proof file PROOF, as `prove` writes it, proves that FILE is in the deal. FILE is
+padded and its commitment worked out, every member of PROOF is compared with the record in it and with FILE, and the
+record is checked. Nothing but the two files is needed.
+
+Exit status 0: yes. With a code of the rules: no, the record in it is refused with that code. 66: no, FILE is another
+file, or PROOF contradicts itself; the wrong member is named. 65: PROOF is no proof file, or is damaged; where, and what
+is wrong there, is said.
+
+Anyone can make a deal and write a proof for it. So the deal's commitment must come from a source that you trust:
+the contract, the ledger that has the deal, a court's file; so must its size and its number. What you know from
+there is given with --commitment, --size and --number; the answer says what it has from PROOF alone.",
+    },
+    Topic {
+        name: "help",
+        operands: &["[COMMAND]"],
+        options: &["man"],
+        summary: "print help, of one command, or the man page",
+        text: "Prints the help of all commands, or that of COMMAND. With --man it prints the man page of the program
+(roff), as `make install` puts it in its place: vizhuthamen help --man | man -l -",
+    },
+    Topic {
+        name: "completions",
+        operands: &["SHELL"],
+        options: &[],
+        summary: "print the completions for a shell: bash, zsh or fish",
+        text: "Prints a script that completes the commands, options and file names of this program in a shell: SHELL is
+bash, zsh or fish. `make install` puts all three in their places. In a bash without that:
+source <(vizhuthamen completions bash)",
+    },
 ];
 
-const ABOUT: &str = "vizhuthamen: deals, segments and inclusion records (FRC-0058), by a proved library";
+/// What the program is, in a line.
+pub const ABOUT: &str = "deals, segments and inclusion records (FRC-0058), by a proved library";
 
-const CONVENTIONS: &str = "Conventions:
-  Nodes are 64 hex digits; sizes, places, houses and deal numbers are decimal. The file name - is standard input (for
-  --output: standard output, without any other text there). -- ends the options. VIZHUTHAMEN_HOUSE in the environment
-  is the house where --house is not given.
+/// What holds for all commands: headings and texts.
+pub const CONVENTIONS: &[(&str, &str)] = &[
+    (
+        "Conventions",
+        "Nodes are 64 hex digits; sizes, places, houses and deal numbers are decimal. A commitment is taken in hex or as a
+piece CID (baga6ea4seaq...), and shown as one with --cid. The file name - is standard input (for --output: standard
+output, without any other text there). -- ends the options. An output that is there is not replaced without --force,
+unless it has the very bytes already. Bytes are not written to a terminal. VIZHUTHAMEN_HOUSE in the environment is the
+house where --house is not given.",
+    ),
+    (
+        "Exit status",
+        "0 with code 0; with any other code that code, 1 to 24, and the line `code N: meaning` on standard output (on
+standard error with --output -, where nothing else is written then);
+66 where verify says no and no code of the rules does, on standard output too;
+64 wrong usage; 65 a deal, a proof, or the state of a stream, is damaged or is not what is known of it, or a deal's
+number or the owners of its entries are not known; 74 reading or writing failed; 75 another process works on the deal
+and --no-wait is given; each with a message on standard error.",
+    ),
+];
 
-Exit status:
-  0 with code 0; with any other code that code, 1 to 24, and the line `code N: meaning` on standard output (on
-  standard error with --output -, where nothing else is written then);
-  64 wrong usage; 65 a deal, or the state of a stream, is damaged or is not what is known of it, or a deal's number or
-  the owners of its entries are not known; 74 reading or writing failed; 75 another process works on the deal and
-  --no-wait is given; each with a message on standard error.
-";
+/// What is said of `--json`.
+pub const JSON: (&str, &str) = (
+    "JSON",
+    "With --json every outcome is one object on one line of standard output, those with the exit statuses 64 to 75
+too. It has `code`, the exit status; `meaning`; `command`, or null; the members of the answer, or `error`; and
+`hints`, a list of what can be done. Standard error is as without --json. A number above 2^53 - 1 is a text of its
+digits.",
+);
 
 /// The command of that name.
 pub fn topic(name: &str) -> Option<&'static Topic> {
@@ -362,30 +524,34 @@ pub fn version() -> String {
 
 /// The help of the whole program.
 pub fn overall() -> String {
-    let mut text = format!("{ABOUT}\n\nUsage: vizhuthamen COMMAND [OPTIONS] ...\n\nCommands:\n");
-    for topic in &TOPICS {
+    let mut text = format!("vizhuthamen: {ABOUT}\n\nUsage: vizhuthamen COMMAND [OPTIONS] ...\n\nCommands:\n");
+    for topic in TOPICS {
         text.push_str(&format!("  {:<48} {}\n", operands(topic), topic.summary));
     }
-    text + "\n" + CONVENTIONS + &options(|_| true)
+    text + "\n" + &conventions() + &part(&JSON) + &options(|_| true)
 }
 
 /// The help of one command.
 pub fn of(topic: &Topic) -> String {
     let options = options(|choice| topic.options.contains(&choice.name));
-    format!("Usage: vizhuthamen {} [--json]\n\n{}\n\n{CONVENTIONS}{options}", call(topic), topic.text)
+    format!("Usage: vizhuthamen {} [--json]\n\n{}\n\n{}{options}", call(topic), topic.text, conventions())
+}
+
+fn conventions() -> String {
+    CONVENTIONS.iter().map(part).collect()
+}
+
+/// A text below its heading.
+fn part((heading, text): &(&str, &str)) -> String {
+    format!("{heading}:\n  {}\n\n", text.replace('\n', "\n  "))
 }
 
 /// The options that are wanted, and those of every command.
 fn options(wanted: impl Fn(&Choice) -> bool) -> String {
-    let mut text = "\nOptions:\n".to_string();
-    let mut add = |name: String, summary| text.push_str(&format!("  {name:<25} {summary}\n"));
-    for choice in OPTIONS.iter().filter(|choice| wanted(choice)) {
-        add(spelled(choice), choice.summary);
-    }
-    add("--json".to_string(), "print one JSON object");
-    add("-h, --help".to_string(), "print help, of one command after its name");
-    add("-V, --version".to_string(), "print the version");
-    text
+    let shown = OPTIONS.iter().filter(|choice| wanted(choice)).chain(GENERAL);
+    shown.fold("Options:\n".to_string(), |text, choice| {
+        text + &format!("  {:<25} {}\n", spelled(choice), choice.summary)
+    })
 }
 
 /// The command with its operands, and with the options that it cannot do without.
@@ -395,26 +561,38 @@ fn operands(topic: &Topic) -> String {
 }
 
 /// An option with its value.
-fn spelled(choice: &Choice) -> String {
+pub fn spelled(choice: &Choice) -> String {
     format!("--{} {}", choice.name, choice.value).trim_end().to_string()
 }
 
 /// How many operands a command may have.
 pub fn counts(topic: &Topic) -> RangeInclusive<usize> {
-    let most =
-        if topic.operands.iter().any(|operand| operand.contains("...")) { usize::MAX } else { topic.operands.len() };
+    let most = if topic.operands.iter().any(|operand| repeated(operand)) { usize::MAX } else { topic.operands.len() };
     topic.operands.iter().filter(|operand| !operand.ends_with(']')).count()..=most
 }
 
-/// Whether a command cannot do without an option: the number of a deal that it has not in hand.
+/// Whether an operand can be given more than once: the last one of its command.
+pub fn repeated(operand: &str) -> bool {
+    operand.contains("...")
+}
+
+/// Whether a command cannot do without an option: the number of a deal that it has not in hand, where a proof goes, the
+/// deal that is packed into.
 fn needed(topic: &Topic, choice: &Choice) -> bool {
-    choice.name == "number" && matches!(topic.name, "check" | "settle")
+    matches!((topic.name, choice.name), ("check" | "settle", "number") | ("prove", "output") | ("pack", "deal"))
+}
+
+/// Whether an option of a command names one of its operands.
+pub fn among_operands(topic: &Topic, option: &str) -> bool {
+    let option = format!("--{option}");
+    topic.operands.iter().any(|operand| operand.split([' ', '[', ']', '|']).any(|word| word == option))
 }
 
 /// The command with its operands and options, by name where they are few.
 pub fn call(topic: &Topic) -> String {
-    let among = |choice: &&Choice| topic.operands.iter().any(|word| word.contains(&format!("--{}]", choice.name)));
-    let free = |choice: &&Choice| topic.options.contains(&choice.name) && !needed(topic, choice) && !among(choice);
+    let free = |choice: &&Choice| {
+        topic.options.contains(&choice.name) && !needed(topic, choice) && !among_operands(topic, choice.name)
+    };
     let chosen: Vec<&Choice> = OPTIONS.iter().filter(free).collect();
     let options = match chosen.len() {
         0..=3 => chosen.iter().map(|choice| format!(" [{}]", spelled(choice))).collect(),

@@ -1,9 +1,14 @@
-//! A JSON encoder for answers.
+//! A JSON encoder, and the object that every outcome of a call is (docs/JSON.md).
 use std::fmt::Write;
+
+/// The largest number that no reader of JSON rounds: 2^53 - 1.
+const EXACT: u64 = (1 << 53) - 1;
 
 /// A JSON value. Objects keep the order in which their members are given.
 #[derive(Clone, Debug, PartialEq, Eq)]
 pub enum Json {
+    Null,
+    /// A number; beyond 2^53 - 1 the text of its digits.
     Number(u64),
     Text(String),
     List(Vec<Json>),
@@ -20,7 +25,9 @@ impl Json {
 
     fn append(&self, out: &mut String) {
         match self {
-            Json::Number(number) => out.push_str(&number.to_string()),
+            Json::Null => out.push_str("null"),
+            Json::Number(number @ ..=EXACT) => out.push_str(&number.to_string()),
+            Json::Number(number) => append_text(&number.to_string(), out),
             Json::Text(text) => append_text(text, out),
             Json::List(items) => append_all(out, '[', ']', items, |item, out| item.append(out)),
             Json::Object(members) => append_all(out, '{', '}', members, |(name, value), out| {
@@ -30,6 +37,24 @@ impl Json {
             }),
         }
     }
+}
+
+/// The object of an outcome, and a newline: its code, what that says, the command, its own members, and the hints.
+pub fn outcome(
+    code: u32,
+    meaning: &str,
+    command: Option<&str>,
+    members: Vec<(&'static str, Json)>,
+    hints: &[String],
+) -> String {
+    let text = |text: &str| Json::Text(text.to_string());
+    let first = vec![
+        ("code", Json::Number(u64::from(code))),
+        ("meaning", text(meaning)),
+        ("command", command.map_or(Json::Null, text)),
+    ];
+    let hints = vec![("hints", Json::List(hints.iter().map(|hint| text(hint)).collect()))];
+    Json::Object([first, members, hints].concat()).encode() + "\n"
 }
 
 fn append_all<T>(out: &mut String, open: char, close: char, items: &[T], append: impl Fn(&T, &mut String)) {
@@ -70,10 +95,15 @@ mod tests {
     fn values() {
         let value = Json::Object(vec![
             ("code", Json::Number(0)),
+            ("exact", Json::Number(9007199254740991)),
+            ("beyond", Json::Number(9007199254740992)),
             ("largest", Json::Number(u64::MAX)),
+            ("none", Json::Null),
             ("list", Json::List(vec![Json::Text("a".into()), Json::List(vec![]), Json::Object(vec![])])),
         ]);
-        assert_eq!(value.encode(), r#"{"code":0,"largest":18446744073709551615,"list":["a",[],{}]}"#);
+        let numbers = r#""exact":9007199254740991,"beyond":"9007199254740992","largest":"18446744073709551615""#;
+        let expected = format!(r#"{{"code":0,{numbers},"none":null,"list":["a",[],{{}}]}}"#);
+        assert_eq!(value.encode(), expected);
     }
 
     #[test]

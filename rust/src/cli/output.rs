@@ -1,7 +1,7 @@
 //! Standard output and standard error.
 use super::failure::{self, Failure};
 use super::store::system;
-use std::io::{self, Write};
+use std::io::{self, IsTerminal, Write};
 
 /// A failure where standard output was closed when the program began.
 pub fn open() -> Result<(), Failure> {
@@ -9,6 +9,11 @@ pub fn open() -> Result<(), Failure> {
         true => Err(failure::io("standard output is closed; nothing is done")),
         false => Ok(()),
     }
+}
+
+/// Whether a person reads standard output.
+pub fn is_terminal() -> bool {
+    io::stdout().is_terminal()
 }
 
 /// Writes to standard output. A reader that has gone away is a failure like any other.

@@ -1,5 +1,5 @@
 //! Whose the entries of a deal are, by the table that lies beside it.
-use super::failure::Failure;
+use super::failure::{self, Failure};
 use super::json::Json;
 use super::store::names::{shown, Home};
 use super::store::OwnerTable;
@@ -63,7 +63,7 @@ pub enum Owners {
     /// Nothing, and nothing is missing: nothing lies beside a deal that is no file.
     Nowhere,
     /// The table cannot be read.
-    Unreadable { why: String },
+    Unreadable { why: Failure },
     /// There is no table with this name.
     Missing { file: String },
     /// The table has another length than one byte a slot.
@@ -87,7 +87,7 @@ impl Owners {
     pub fn read(home: &Home, table: &Result<Option<OwnerTable>, Failure>, slots: usize) -> Owners {
         match table {
             Ok(table) => Owners::of(home, table.as_ref(), slots),
-            Err(failure) => Owners::Unreadable { why: failure.message.clone() },
+            Err(failure) => Owners::Unreadable { why: failure.clone() },
         }
     }
 
@@ -140,7 +140,7 @@ impl Owners {
 
     /// Why the owners of these slots are not known, and what to do; of a table that is missing only where some entry
     /// stands. `deal` is the name for commands.
-    pub fn unknown(&self, slots: &[Slot], deal: &str) -> Option<String> {
+    pub fn unknown(&self, slots: &[Slot], deal: &str) -> Option<Failure> {
         let standing = slots.iter().filter(|slot| slot.standing().is_some()).count();
         match self {
             Owners::Unreadable { why } => Some(why.clone()),
@@ -164,20 +164,18 @@ impl Owners {
 }
 
 /// There is no table, and entries stand.
-fn missing(file: &str, standing: usize, deal: &str) -> String {
+fn missing(file: &str, standing: usize, deal: &str) -> Failure {
     let entries = if standing == 1 { "an entry stands".to_string() } else { format!("{standing} entries stand") };
-    format!(
-        "{file} is not there, and {entries} in {deal}: whose is not known. If {deal} is a copy, copy that table too; \
-         otherwise say whose they are: vizhuthamen owner {deal} HOUSE [PLACE...] (0 for nobody)"
-    )
+    failure::data(format!("{file} is not there, and {entries} in {deal}: whose is not known"))
+        .hint(format!("if {deal} is a copy, copy that table too"))
+        .hint(format!("else say whose they are: vizhuthamen owner {deal} HOUSE [PLACE...] (0 for nobody)"))
 }
 
 /// The table has not one byte a slot.
-fn wrong_length(file: &str, length: u64, slots: usize, deal: &str) -> String {
-    format!(
-        "{file} has {length} bytes, and {deal} has {slots} slots, with a byte each. Bring back the right table, or remove \
-         it and say whose the entries are: vizhuthamen owner {deal} HOUSE [PLACE...]"
-    )
+fn wrong_length(file: &str, length: u64, slots: usize, deal: &str) -> Failure {
+    failure::data(format!("{file} has {length} bytes, and {deal} has {slots} slots, with a byte each")).hint(format!(
+        "bring back the right table, or remove it and say whose the entries are: vizhuthamen owner {deal} HOUSE [PLACE...]"
+    ))
 }
 
 /// How many of the slots each house holds, and how many entries are nobody's.

@@ -112,7 +112,7 @@ impl Pieces {
         let now = file.metadata().map_err(|error| cannot("read", &self.name, error))?;
         match Known::of(&now) == Some(known) && self.count == known.length {
             true => Ok(()),
-            false => Err(failure::data(format!("{} was changed while it was read; begin again", self.name))),
+            false => Err(failure::data(format!("{} was changed while it was read", self.name)).hint("begin again")),
         }
     }
 

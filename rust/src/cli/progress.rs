@@ -120,6 +120,51 @@ impl Drop for Arriving {
     }
 }
 
+/// Progress of a number of steps, each of which takes about as long as any other: on a terminal, once they take long.
+pub struct Steps {
+    what: &'static str,
+    total: usize,
+    done: usize,
+    began: Instant,
+    told: Option<Instant>,
+    terminal: bool,
+}
+
+impl Steps {
+    /// So many files, to each of which something is done.
+    pub fn start(what: &'static str, total: usize) -> Steps {
+        Steps { what, total, done: 0, began: Instant::now(), told: None, terminal: io::stderr().is_terminal() }
+    }
+
+    /// One more is done.
+    pub fn step(&mut self) {
+        self.done += 1;
+        let (elapsed, pause) = (self.began.elapsed(), Duration::from_millis(200));
+        if self.terminal && elapsed > pause && self.told.is_none_or(|told| told.elapsed() > pause) {
+            let mut err = io::stderr().lock();
+            let _ = write!(err, "\r\x1b[K{} ...", self.line(elapsed)).and_then(|()| err.flush());
+            self.told = Some(Instant::now());
+        }
+    }
+
+    /// How many are done of how many, and how long the rest will take.
+    fn line(&self, time: Duration) -> String {
+        let (done, total) = (self.done.max(1), self.total.max(1));
+        let left = time.as_secs_f64() / done as f64 * self.total.saturating_sub(self.done) as f64;
+        let percent = self.done * 100 / total;
+        format!("{}: {} of {total} files, {percent} %, {} left", self.what, self.done, time_left(left.ceil() as u64))
+    }
+}
+
+impl Drop for Steps {
+    fn drop(&mut self) {
+        if self.told.is_some() {
+            let mut err = io::stderr().lock();
+            let _ = write!(err, "\r\x1b[K").and_then(|()| err.flush());
+        }
+    }
+}
+
 /// A number of seconds in words.
 fn time_left(seconds: u64) -> String {
     match seconds {
@@ -146,6 +191,15 @@ mod tests {
         assert_eq!(line(gib(1), Some(gib(4)), gib(1), 1), "hashing: 1024 of 4096 MiB, 25 %, 0 MiB/s, ? left");
         assert_eq!(line(0, Some(gib(4)), gib(4), 32), "hashing: 4096 of 4096 MiB, 100 %, 128 MiB/s, 0 s left");
         assert_eq!(line(0, None, gib(1), 8), "hashing: 1024 MiB, 128 MiB/s");
+    }
+
+    #[test]
+    fn steps_and_estimate() {
+        let mut steps = Steps::start("packing", 40);
+        for _ in 0..10 {
+            steps.step();
+        }
+        assert_eq!(steps.line(Duration::from_secs(7)), "packing: 10 of 40 files, 25 %, 21 s left");
     }
 
     #[test]

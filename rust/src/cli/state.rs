@@ -84,9 +84,10 @@ fn fields<'t>(lines: &mut impl Iterator<Item = &'t str>) -> Option<State> {
 /// Reads the state at a path. It must be one of a stream of this kind over this file.
 pub fn read(path: &Path, raw: bool, known: Known, name: &str) -> Result<State, Failure> {
     let text = fs::read(path).map_err(|error| {
-        failure::io(format!("cannot read {}: {error}; without a state begin without --resume", shown(path)))
+        failure::io(format!("cannot read {}: {error}", shown(path))).hint("without a state begin without --resume")
     })?;
-    let wrong = |why| failure::data(format!("{why}; remove {} and begin again without --resume", shown(path)));
+    let again = format!("remove {} and begin again without --resume", shown(path));
+    let wrong = |why: String| failure::data(why).hint(&again);
     let state =
         State::parse(&text).map_err(|why| wrong(format!("{} is not the state of a stream: {why}", shown(path))))?;
     let old = state.known;
@@ -118,11 +119,10 @@ impl Keeper {
         match files::make(path, state.text().as_bytes())? {
             true => Ok(Keeper::resume(path)),
             false => Err(match fs::read(path).map(|text| State::parse(&text)) {
-                Ok(Ok(_)) => failure::data(format!(
-                    "{0} is the state of a run that has not ended; go on with --resume, or remove {0} to begin again",
-                    shown(path)
-                )),
-                _ => failure::io(format!("cannot keep a state in {}: the file exists; give another name", shown(path))),
+                Ok(Ok(_)) => failure::data(format!("{} is the state of a run that has not ended", shown(path)))
+                    .hint(format!("go on with --resume, or remove {} to begin again", shown(path))),
+                _ => failure::io(format!("cannot keep a state in {}: the file exists", shown(path)))
+                    .hint("give another name"),
             }),
         }
     }
@@ -140,7 +140,7 @@ impl Keeper {
         }
         let kept = files::replace(&self.path, state().text().as_bytes());
         if let Some(failure) = kept.as_ref().err().filter(|_| !self.failing) {
-            output::message(&format!("{}; the run goes on", failure.message));
+            output::message(&format!("{}; the run goes on", failure.line()));
         }
         self.failing = kept.is_err();
         self.last = Instant::now();

@@ -11,7 +11,7 @@
 //!
 //! **Beside a deal** lie what is known of it (`sidecar`) and the table of its owners (`owners`), which changes
 //! together with the deal or alone. All three are read under the lock, or without it as they were at one moment
-//! (`view`).
+//! (`view`). So does its manifest (`cli::manifest`), which changes with the deal and is read under the lock alone.
 //!
 //! **Names** that a change needs for a moment are those of the deal with a number (`names`). Whoever holds the deal's lock may remove
 //! them, so that they never pile up; a file aside that is written without a deal's lock is locked itself for as long as it is in use.
@@ -32,6 +32,6 @@ pub use attributes::{Attributes, Keep};
 pub use create::{create, NewDeal};
 pub use deal::{troubled, Access, DealFile};
 pub use owners::{NewTable, OwnerTable};
-pub use sidecar::{known, number, Known};
+pub use sidecar::{known, said, Known};
 pub use signals::Held;
 pub use view::{view, View};

@@ -1,40 +1,43 @@
 //! Booking a segment into a deal file.
 use super::super::answer::Answer;
-use super::super::args::Stream;
+use super::super::args::ToBook;
 use super::super::failure::{self, Failure};
-use super::super::files::{self, Content};
+use super::super::files::Content;
 use super::super::progress::Progress;
-use super::super::store::{Access, DealFile};
+use super::super::segments;
+use super::super::store::DealFile;
 use super::super::survey::{self, Slot, State};
 use super::house::Housed;
-use super::{entry_at, path_of, refused, with_entry};
+use super::{entry_at, path_of, refused, unsound, with_entry};
 use vizhuthamen::{Booking, Entry, Position, Refusal};
 
-/// Books a segment for a house, and puts the new deal and the new table of owners in the place of the old ones.
-pub fn book(
-    deal: &Stream,
-    segment: &Stream,
-    house: Option<u64>,
-    force: bool,
-    access: Access,
-) -> Result<Answer, Failure> {
-    let path = path_of(deal)?;
+/// Books a segment, or that of a plain file, for a house, and puts the new deal and the new table of owners in the
+/// place of the old ones.
+pub fn book(given: &ToBook) -> Result<Answer, Failure> {
+    let path = path_of(&given.deal)?;
     // The segment first: it may come from a pipe, and nobody is kept waiting for that.
-    let segment = files::read(segment)?;
-    let old = DealFile::open(path, access)?;
-    let mut housed = Housed::open(&old, house)?;
+    let segment = match segments::read(&given.segment, given.raw)? {
+        Ok(segment) => segment,
+        Err(answer) => return Ok(answer),
+    };
+    let mut old = DealFile::open(path, given.access)?;
+    old.open_or(given.reopen)?;
+    let mut housed = Housed::open(&old, given.house)?;
     let progress = Progress::start("booking", old.content.bytes.len());
     let (mut bytes, number) = (old.content.bytes.clone(), housed.house());
     let booking = match vizhuthamen::book(&mut bytes, None, &mut housed.table.bytes, number, &segment.bytes) {
         Ok(booking) => booking,
-        Err(refusal) => return Ok(housed.refused(refusal, refused_booking(refusal, &old.content, &segment))),
+        Err(refusal) => {
+            let answer = refused_booking(refusal, &old.content, &segment);
+            return Ok(housed.refused(refusal, answer, &old.content));
+        }
     };
     let (Booking::Booked(Position { place, .. }) | Booking::AlreadyKept(Position { place, .. })) = booking;
     let entry = entry_at(&bytes, place)?;
     let answer = match booking {
         Booking::Booked(_) => {
-            if !force {
-                spares(&old.content, &entry, place)?;
+            if !given.force {
+                spares(&old.content, &entry, place, "--force books all the same")?;
             }
             old.replace(&bytes, Some(&housed.table), vec![])?;
             Answer::done("done").writing()
@@ -53,7 +56,8 @@ fn refused_booking(refusal: Refusal, deal: &Content, segment: &Content) -> Answe
         }
         // The code does not say which of the two has the stray bits.
         Refusal::STRAY_BITS if survey::stray(&deal.bytes).is_empty() => {
-            format!("{} has stray bits: a raw archive is padded first (vizhuthamen pad)", segment.name)
+            let plain = format!("vizhuthamen book {} --raw {}", deal.name, segment.operand());
+            format!("{}; a plain file is padded and booked by: {plain}", segments::stray(segment))
         }
         _ => return refused(refusal, deal),
     };
@@ -61,15 +65,13 @@ fn refused_booking(refusal: Refusal, deal: &Content, segment: &Content) -> Answe
 }
 
 /// Refuses a booking that takes a slot that is not blank, or bytes that may be those of a damaged slot's segment.
-fn spares(deal: &Content, booked: &Entry, place: u64) -> Result<(), Failure> {
+pub fn spares(deal: &Content, booked: &Entry, place: u64, force: &str) -> Result<(), Failure> {
     let slots = survey::slots(&deal.bytes).map_err(failure::data)?;
     let found = slot_in_the_way(&slots, place).or_else(|| segment_in_the_way(&deal.bytes, &slots, booked));
     let name = &deal.name;
     match found {
         None => Ok(()),
-        Some(why) => Err(failure::data(format!(
-            "{why}; nothing is changed; see: vizhuthamen fsck {name}, vizhuthamen repair {name}; --force books all the same"
-        ))),
+        Some(why) => Err(unsound(format!("{why}; nothing is changed"), name, force)),
     }
 }
 

@@ -4,6 +4,7 @@ use super::super::args::Stream;
 use super::super::failure::{self, Failure};
 use super::super::files::{self, Content, Source};
 use super::super::json::Json;
+use super::super::manifest;
 use super::super::owners::{Owner, Owners};
 use super::super::progress::Progress;
 use super::super::store::aside::Fill;
@@ -12,9 +13,9 @@ use super::super::store::{self, Attributes, NewDeal};
 use super::super::survey::{self, area, Slot};
 use super::super::table::{table, Column};
 use super::fsck::wrong_slot;
-use super::house::wrong;
+use super::house::wrong_table;
 use super::list::{slot_members, state};
-use super::{path_of, refused, text};
+use super::{path_of, refused, text, unsound};
 use std::cmp::Reverse;
 use std::fs;
 use std::os::unix::fs::MetadataExt;
@@ -23,7 +24,7 @@ use vizhuthamen::{Entry, Refusal};
 
 /// Writes the standing segments of a deal, without gaps, to a new deal file, with the table of their owners. The deal
 /// is not changed, and its lock is held to the end, so that the new one is the collection of what the deal still is.
-/// The new one has the given number, or that of the deal, whose place it takes.
+/// The new one has the given number, or that of the deal, whose place it takes, and the names of the deal's manifest.
 pub fn collect(deal: &Stream, new: &Stream, number: Option<u64>, force: bool, wait: bool) -> Result<Answer, Failure> {
     let new = path_of(new)?;
     let source = Source::open(deal, wait)?;
@@ -45,12 +46,17 @@ pub fn collect(deal: &Stream, new: &Stream, number: Option<u64>, force: bool, wa
     if !force {
         leaves_nothing(&left, old)?;
     }
-    let made = NewDeal { fill: Fill::Bytes(&bytes), table: known.as_deref(), number: number.or(kept) };
+    let (manifest, unread) = manifest::if_understood(source.manifest_for(&bytes))?;
+    let manifest = manifest.map(|manifest| manifest.text());
+    let unread = unread.map(|why| format!("{why}; {} gets none", shown(new)));
+    let (fill, number_kept) = (Fill::Bytes(&bytes), number.or(kept));
+    let made = NewDeal { fill, table: known.as_deref(), manifest: manifest.as_deref(), number: number_kept };
     let note = store::create(new, &made, attributes(old))?;
     drop(progress);
     let left_out = left.iter().map(|slot| format!("{}, and is left out", slot.described()));
     let unknown = known.is_none().then(|| unknown(&old.name, &shown(new)));
-    let notes = note.into_iter().chain(left_out).chain(unknown).chain(notes(&old.name, &shown(new), number, kept));
+    let notes = note.into_iter().chain(unread).chain(left_out).chain(unknown);
+    let notes = notes.chain(notes_of(&old.name, &shown(new), number, kept));
     let answer = notes.fold(Answer::done("done"), Answer::with_note);
     Ok(told(answer.writing(), &moves, &left, bytes.len(), number.or(kept)))
 }
@@ -64,7 +70,7 @@ fn unknown(old: &str, new: &str) -> String {
 }
 
 /// What the caller has to know of the new deal's number and of records.
-fn notes(old: &str, new: &str, number: Option<u64>, kept: Option<u64>) -> Vec<String> {
+fn notes_of(old: &str, new: &str, number: Option<u64>, kept: Option<u64>) -> Vec<String> {
     let handed_on = kept.filter(|_| number.is_none()).map(|kept| {
         format!(
             "{new} has the number {kept} of {old}, whose place it takes; if it is another deal: \
@@ -98,8 +104,7 @@ fn refused_collecting(refusal: Refusal, source: &Source, entries: usize) -> Resu
     let name = &deal.name;
     match refusal {
         Refusal::HOUSE => {
-            let hint = owners.unknown(&slots(&deal.bytes)?, name).unwrap_or_default();
-            return Ok(wrong(Answer::refused(refusal), "table", &hint));
+            return Ok(wrong_table(Answer::refused(refusal), &owners, &slots(&deal.bytes)?, name));
         }
         Refusal::OVERLAP => {}
         _ => return Ok(refused(refusal, deal)),
@@ -122,11 +127,10 @@ fn leaves_nothing(left: &[Slot], deal: &Content) -> Result<(), Failure> {
     let name = &deal.name;
     match left.first() {
         None => Ok(()),
-        Some(slot) => Err(failure::data(format!(
-            "{}, and the new deal would be without it; nothing is written; see: vizhuthamen fsck {name}, \
-             vizhuthamen repair {name}; --force collects all the same",
-            slot.described()
-        ))),
+        Some(slot) => {
+            let why = format!("{}, and the new deal would be without it; nothing is written", slot.described());
+            Err(unsound(why, name, "--force collects all the same"))
+        }
     }
 }
 

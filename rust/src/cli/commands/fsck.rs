@@ -11,9 +11,9 @@ use super::super::survey::{self, area, Slot, State, Stray, Survey};
 use super::list::{slot_members, state};
 use super::{refused, text};
 use std::path::Path;
-use vizhuthamen::Refusal;
+use vizhuthamen::{Node, Refusal};
 
-/// Names all that is wrong with a deal and with the table of its owners. Nothing is changed.
+/// Names all that is wrong with a deal, and with what lies beside it. Nothing is changed.
 pub fn fsck(deal: &Stream, wait: bool) -> Result<Answer, Failure> {
     let read = read(deal, wait)?;
     let progress = Progress::start("checking", read.deal.bytes.len());
@@ -21,26 +21,56 @@ pub fn fsck(deal: &Stream, wait: bool) -> Result<Answer, Failure> {
         Ok(survey) => survey,
         Err(refusal) => return Ok(read.refused(refusal)),
     };
+    let closed = read.closed;
+    let changed = closed.filter(|node| vizhuthamen::commitment(&read.deal.bytes) != Ok(*node));
     drop(progress);
     let wrong = Wrong::of(&survey, &read.owners, &read.deal.name);
-    let answer = match wrong.lines.is_empty() && read.disagrees.is_none() {
+    let right = wrong.lines.is_empty() && read.disagrees.is_none() && changed.is_none() && read.unlisted.is_empty();
+    let answer = match right {
         true => Answer::done("nothing is wrong with the deal"),
         false => Answer::damaged("something is wrong with the deal"),
     };
-    Ok(wrong.told(disagreeing(answer, read.disagrees), &survey))
+    let answer = disagreeing(answer, read.disagrees);
+    let answer = changed.into_iter().fold(answer, |answer, node| {
+        answer.with_text(format!("it was closed with the commitment {node}, and has another one now\n"), vec![])
+    });
+    let answer = match read.unlisted.is_empty() {
+        true => answer,
+        false => {
+            let lines = read.unlisted.iter().map(|line| format!("the manifest: {line}\n")).collect();
+            answer.with_text(lines, vec![("manifest", text(read.unlisted.join("; ")))])
+        }
+    };
+    let answer = wrong.told(answer, &survey);
+    Ok(closed.into_iter().fold(answer, |answer, node| answer.with_value("closed", text(node))))
 }
 
-/// A deal that was read under its lock, whose its entries are, and where it has another size than is known of it.
+/// A deal that was read under its lock, and what lies beside it.
 pub struct Read {
     pub deal: Content,
+    /// Whose its entries are.
     pub owners: Owners,
+    /// That it has another size than is known of it.
     pub disagrees: Option<String>,
+    /// The commitment with which it was closed, where it is.
+    closed: Option<Node>,
+    /// What its manifest says that is not so.
+    unlisted: Vec<String>,
 }
 
 impl Read {
     /// A refusal, with a note where the deal has another size than is known of it.
     pub fn refused(self, refusal: Refusal) -> Answer {
         self.disagrees.into_iter().fold(refused(refusal, &self.deal), Answer::with_note)
+    }
+}
+
+/// What the manifest says that is not so.
+fn unlisted(source: &Source) -> Vec<String> {
+    match source.manifest() {
+        Ok(None) => vec![],
+        Ok(Some(manifest)) => manifest.renewed(&source.content().bytes).map_or(vec![], |renewed| renewed.told),
+        Err(failure) => vec![failure.line()],
     }
 }
 
@@ -55,10 +85,14 @@ pub fn disagreeing(answer: Answer, disagrees: Option<String>) -> Answer {
 /// Reads a deal under its lock where it is a file, and what lies beside it.
 pub fn read(deal: &Stream, wait: bool) -> Result<Read, Failure> {
     let source = Source::open(deal, wait)?;
-    let disagrees = source.known().err().map(|failure| failure.message);
+    let (disagrees, known) = match source.known() {
+        Ok(known) => (None, known),
+        Err(failure) => (Some(failure.line()), None),
+    };
+    let (closed, unlisted) = (known.and_then(|known| known.closed), unlisted(&source));
     let slots = survey::numbers(&source.content().bytes).map_or(0, |numbers| numbers.entries);
     let owners = source.owners(slots as usize);
-    Ok(Read { deal: source.into_content(), owners, disagrees })
+    Ok(Read { deal: source.into_content(), owners, disagrees, closed, unlisted })
 }
 
 /// What is wrong: a line of text for each, and the same for JSON.
@@ -81,7 +115,7 @@ impl Wrong {
         for slot in &survey.slots {
             wrong.add_slot(survey, slot, owners);
         }
-        wrong.lines.extend(owners.unknown(&survey.slots, name));
+        wrong.lines.extend(owners.unknown(&survey.slots, name).map(|failure| failure.line()));
         for slot in &survey.slots {
             wrong.add_owner(slot, owners, name);
         }

@@ -2,8 +2,10 @@
 use super::super::answer::Answer;
 use super::super::args::decimal;
 use super::super::failure::{self, Failure};
+use super::super::files::Content;
 use super::super::json::Json;
 use super::super::owners::Owners;
+use super::super::room;
 use super::super::store::names::shown;
 use super::super::store::{DealFile, NewTable};
 use super::super::survey::{self, Slot};
@@ -24,7 +26,6 @@ pub struct Housed {
     /// Where the number comes from.
     said: &'static str,
     slots: Vec<Slot>,
-    deal: String,
 }
 
 impl Housed {
@@ -32,21 +33,34 @@ impl Housed {
     /// entry. A deal in which nothing stands needs no table yet.
     pub fn open(deal: &DealFile, given: Option<u64>) -> Result<Housed, Failure> {
         let said = said(given)?;
-        let (old, name) = (deal.table()?, deal.content.name.clone());
+        let (old, name) = (deal.table()?, &deal.content.name);
         // A deal whose size is not allowed has none, and the library refuses it.
         let slots = survey::slots(&deal.content.bytes).unwrap_or_default();
         let owners = Owners::of(deal.home(), old.as_ref(), slots.len());
         let is_house = said.is_none_or(|(number, _)| matches!(number, 1 | 2));
-        if let (Owners::Missing { .. }, true, Some(why)) = (&owners, is_house, owners.unknown(&slots, &name)) {
-            return Err(failure::data(format!("{why}; nothing is changed")));
+        if let (Owners::Missing { .. }, true, Some(failure)) = (&owners, is_house, owners.unknown(&slots, name)) {
+            return Err(failure.and("nothing is changed"));
         }
         if said.is_none() && owners.held(&slots).by(2) > 0 {
-            let why = format!("two houses book in {name}: say which with --house 1 or --house 2 (or {VARIABLE})");
-            return Err(failure::usage(format!("{why}; nothing is changed")));
+            return Err(failure::usage(format!("two houses book in {name}; nothing is changed"))
+                .hint(format!("say which with --house 1 or --house 2 (or {VARIABLE})")));
         }
         let bytes = old.as_ref().map_or_else(|| vec![0; slots.len()], |old| old.bytes.clone());
         let (number, said) = said.unwrap_or((1, "--house"));
-        Ok(Housed { table: NewTable { old, bytes }, owners, number, said, slots, deal: name })
+        Ok(Housed { table: NewTable { old, bytes }, owners, number, said, slots })
+    }
+
+    /// The same for a deal that is to be made, and is empty.
+    pub fn of_empty(deal: &Content, given: Option<u64>) -> Result<Housed, Failure> {
+        let slots = survey::slots(&deal.bytes).unwrap_or_default();
+        let (bytes, (number, said)) = (vec![0; slots.len()], said(given)?.unwrap_or((1, "--house")));
+        let owners = Owners::Whole { bytes: bytes.clone() };
+        Ok(Housed { table: NewTable { old: None, bytes }, owners, number, said, slots })
+    }
+
+    /// Whether it is a house.
+    pub fn is_house(&self) -> bool {
+        matches!(self.number, 1 | 2)
     }
 
     /// The house as the library is told it: a number beyond a byte is neither 1 nor 2, as 255 is.
@@ -59,41 +73,71 @@ impl Housed {
         answer.with_value("house", Json::Number(self.number))
     }
 
-    /// Adds the house to a refusal, and what codes 22 and 23 are about.
-    pub fn refused(&self, refusal: Refusal, answer: Answer) -> Answer {
+    /// Adds the house to a refusal over a deal, and what codes 22 and 23 are about.
+    pub fn refused(&self, refusal: Refusal, answer: Answer, deal: &Content) -> Answer {
         let answer = answer.with_text(String::new(), vec![("house", Json::Number(self.number))]);
-        match refusal {
-            Refusal::QUOTA => self.quota(answer),
-            Refusal::HOUSE => self.wrong(answer),
+        match (refusal, self.number) {
+            (Refusal::QUOTA, _) => self.quota(answer, deal),
+            (Refusal::HOUSE, 1 | 2) => wrong_table(answer, &self.owners, &self.slots, &deal.name),
+            (Refusal::HOUSE, number) => {
+                wrong_house(answer, format!("{} says {number}, which is no house: give 1 or 2", self.said))
+            }
             _ => answer,
         }
     }
 
-    /// How many slots the house holds.
-    fn quota(&self, answer: Answer) -> Answer {
+    /// Adds the house to a refusal to book several files, what the codes of those that do not fit are about, and how
+    /// full the deal is.
+    pub fn refused_files(&self, refusals: &[Refusal], answer: Answer, deal: &Content) -> Answer {
+        if refusals.contains(&Refusal::HOUSE) {
+            return self.refused(Refusal::HOUSE, answer, deal);
+        }
+        let answer = answer.with_text(String::new(), vec![("house", Json::Number(self.number))]);
         let (held, slots) = (self.owners.held(&self.slots).by(self.house()), self.slots.len());
-        let (house, deal) = (self.number, &self.deal);
-        let hint = format!(
-            "house {house} holds {held} of the {slots} slots of {deal}, and books while it holds fewer than half of them: \
-             cancel an entry of house {house} first, or take another deal; they are shown by: vizhuthamen owner {deal}"
-        );
-        let numbers = vec![("held", Json::Number(held as u64)), ("slots", Json::Number(slots as u64))];
-        answer.with_text(format!("{hint}\n"), [numbers, vec![("hint", text(&hint))]].concat())
+        let more = slots.div_ceil(2).saturating_sub(held);
+        let answer = match refusals.iter().filter(|refusal| **refusal == Refusal::QUOTA).count() {
+            0 => answer,
+            beyond => {
+                let (house, name) = (self.number, &deal.name);
+                let hint = format!(
+                    "house {house} holds {held} of the {slots} slots of {name}, and books while it holds fewer than \
+                     half of them: {more} more entries, and {beyond} of the files are beyond that"
+                );
+                let members = vec![("held", Json::Number(held as u64)), ("hint", text(&hint))];
+                answer.with_text(String::new(), members).with_hint(hint)
+            }
+        };
+        match more {
+            0 => room::told_to_house(answer, deal, self.number),
+            _ => room::told(answer, deal),
+        }
     }
 
-    /// Which is wrong, the house or the table.
-    fn wrong(&self, answer: Answer) -> Answer {
-        let (what, hint) = match self.number {
-            1 | 2 => ("table", self.owners.unknown(&self.slots, &self.deal).unwrap_or_default()),
-            number => ("house", format!("{} says {number}, which is no house: give 1 or 2", self.said)),
-        };
-        wrong(answer, what, &hint)
+    /// How many slots the house holds, and how full the deal is.
+    fn quota(&self, answer: Answer, deal: &Content) -> Answer {
+        let (held, slots) = (self.owners.held(&self.slots).by(self.house()), self.slots.len());
+        let (house, name) = (self.number, &deal.name);
+        let hint = format!(
+            "house {house} holds {held} of the {slots} slots of {name}, and books while it holds fewer than half of them: \
+             cancel an entry of house {house} first, or take another deal; they are shown by: vizhuthamen owner {name}"
+        );
+        let members = vec![("held", Json::Number(held as u64)), ("hint", text(&hint))];
+        room::told_to_house(answer.with_text(String::new(), members).with_hint(hint), deal, house)
     }
 }
 
-/// Adds to a refusal with code 23 which is wrong, the house or the table, and what to do.
-pub fn wrong(answer: Answer, what: &str, hint: &str) -> Answer {
-    answer.with_text(format!("{hint}\n"), vec![("wrong", text(what)), ("hint", text(hint))])
+/// Adds to a refusal with code 23 that the house is wrong, and what to do.
+pub fn wrong_house(answer: Answer, hint: String) -> Answer {
+    wrong(answer, "house", hint)
+}
+
+/// Adds to a refusal with code 23 that the table is wrong, and what to do.
+pub fn wrong_table(answer: Answer, owners: &Owners, slots: &[Slot], deal: &str) -> Answer {
+    wrong(answer, "table", owners.unknown(slots, deal).map(|failure| failure.line()).unwrap_or_default())
+}
+
+fn wrong(answer: Answer, what: &str, hint: String) -> Answer {
+    answer.with_text(String::new(), vec![("wrong", text(what)), ("hint", text(&hint))]).with_hint(hint)
 }
 
 /// The number of the house, and what says so.
@@ -102,7 +146,7 @@ fn said(given: Option<u64>) -> Result<Option<(u64, &'static str)>, Failure> {
         (Some(number), _) => Ok(Some((number, "--house"))),
         (None, Some(value)) if !value.is_empty() => match value.to_str().and_then(decimal) {
             Some(number) => Ok(Some((number, VARIABLE))),
-            None => Err(failure::usage(format!("{VARIABLE} is no house, 1 or 2: {}", shown(&value)))),
+            None => Err(failure::usage(format!("{VARIABLE} is no house: {}", shown(&value))).hint("give 1 or 2")),
         },
         _ => Ok(None),
     }

@@ -13,7 +13,7 @@ use super::{refused, text};
 /// Lists every slot of the index.
 pub fn list(deal: &Stream) -> Result<Answer, Failure> {
     let viewed = files::read_viewed(deal)?;
-    let deal = &viewed.content;
+    let (deal, known) = (&viewed.content, viewed.known.as_ref());
     // The library judges size and stray bits.
     if let Err(refusal) = vizhuthamen::tally(&deal.bytes) {
         return Ok(refused(refusal, deal));
@@ -28,11 +28,14 @@ pub fn list(deal: &Stream) -> Result<Answer, Failure> {
     let rows: Vec<_> = survey.slots.iter().map(|slot| slot_row(slot, state(slot), &owners)).collect();
     let slots = survey.slots.iter().map(|slot| Json::Object(slot_members(slot, state(slot), &owners))).collect();
     let mut members = vec![("size", Json::Number(deal.bytes.len() as u64))];
-    members.extend(viewed.number.map(|number| ("number", Json::Number(number))));
+    members.extend(known.and_then(|known| known.number).map(|number| ("number", Json::Number(number))));
     members.extend(owners.table_members());
     members.extend([("start", Json::Number(survey.numbers.start)), ("slots", Json::List(slots))]);
     let answer = Answer::done("done").with_text(table(&SLOT_COLUMNS, &rows), members);
-    Ok(owners.unknown(&survey.slots, &deal.name).into_iter().fold(answer, Answer::with_note))
+    let unknown = owners.unknown(&survey.slots, &deal.name).map(|failure| failure.line());
+    let answer = unknown.into_iter().fold(answer, Answer::with_note);
+    let closed = known.and_then(|known| known.closed);
+    Ok(closed.into_iter().fold(answer, |answer, node| answer.with_value("closed", text(node))))
 }
 
 /// What a slot holds, in a word.

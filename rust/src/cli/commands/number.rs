@@ -16,8 +16,13 @@ pub fn show(deal: &Stream) -> Result<Answer, Failure> {
     let name = &deal.name;
     match kept {
         Some(number) => Ok(Answer::done("done").with_value("number", Json::Number(number))),
-        None => Err(failure::data(format!("no number of {name} is kept; it is kept by: vizhuthamen number {name} N"))),
+        None => Err(not_kept(name)),
     }
+}
+
+/// No number of a deal is kept beside it.
+pub fn not_kept(name: &str) -> Failure {
+    failure::data(format!("no number of {name} is kept")).hint(format!("it is kept by: vizhuthamen number {name} N"))
 }
 
 /// Keeps a number of a deal, under its lock. One that is kept already is changed only where it is the one meant.
@@ -31,16 +36,12 @@ pub fn keep(deal: &Stream, set: SetNumber, wait: bool) -> Result<Answer, Failure
     match (deal.number(), set.instead_of) {
         (Some(kept), _) if kept == number => return Ok(answer),
         (Some(kept), meant) if meant != Some(kept) => {
-            return Err(failure::data(format!(
-                "{name} has the number {kept}; nothing is changed; if {number} is right: \
-                 vizhuthamen number {name} {number} --instead-of {kept}"
-            )));
+            return Err(failure::data(format!("{name} has the number {kept}; nothing is changed"))
+                .hint(format!("if {number} is right: vizhuthamen number {name} {number} --instead-of {kept}")));
         }
         (None, Some(meant)) => {
-            return Err(failure::data(format!(
-                "no number of {name} is kept, and --instead-of says {meant}; nothing is changed; if {number} is right: \
-                 vizhuthamen number {name} {number}"
-            )));
+            let why = format!("no number of {name} is kept, and --instead-of says {meant}; nothing is changed");
+            return Err(failure::data(why).hint(format!("if {number} is right: vizhuthamen number {name} {number}")));
         }
         _ => deal.keep_number(number)?,
     }
@@ -52,21 +53,31 @@ pub fn keep(deal: &Stream, set: SetNumber, wait: bool) -> Result<Answer, Failure
 /// not differ.
 pub fn read_with_number(deal: &Stream, given: Option<u64>) -> Result<(Content, u64), Failure> {
     let (content, kept) = files::read_numbered(deal)?;
-    let name = &content.name;
-    match (given, kept) {
-        (Some(given), Some(kept)) if given != kept => Err(failure::data(format!(
-            "{name} has the number {kept}, and --number says {given}; nothing is done; take another deal, or leave \
-             --number out; if {given} is right: vizhuthamen number {name} {given} --instead-of {kept}"
-        ))),
-        (Some(number), _) | (None, Some(number)) => Ok((content, number)),
-        (None, None) => {
-            let keep = match deal {
-                Stream::File(_) => format!(", or keep it beside the deal: vizhuthamen number {name} N"),
-                Stream::Standard => String::new(),
-            };
-            Err(failure::data(format!("the number of {name} is not known: give --number N{keep}")))
-        }
+    match agreed(given, kept, &content.name)? {
+        Some(number) => Ok((content, number)),
+        None => Err(unknown(&content.name, matches!(deal, Stream::File(_)))),
     }
+}
+
+/// The kept number of a deal, or the given one where none is kept, if there is either. The two must not differ.
+pub fn agreed(given: Option<u64>, kept: Option<u64>, name: &str) -> Result<Option<u64>, Failure> {
+    match (given, kept) {
+        (Some(given), Some(kept)) if given != kept => {
+            Err(failure::data(format!("{name} has the number {kept}, and --number says {given}; nothing is done"))
+                .hint("take another deal, or leave --number out")
+                .hint(format!("if {given} is right: vizhuthamen number {name} {given} --instead-of {kept}")))
+        }
+        _ => Ok(given.or(kept)),
+    }
+}
+
+/// No number of a deal, which is a file or not, is known.
+pub fn unknown(name: &str, file: bool) -> Failure {
+    let keep = match file {
+        true => format!(", or keep it beside the deal: vizhuthamen number {name} N"),
+        false => String::new(),
+    };
+    failure::data(format!("the number of {name} is not known")).hint(format!("give --number N{keep}"))
 }
 
 /// Adds the number against which records were checked or built, for JSON.
@@ -85,7 +96,7 @@ pub fn refused_records(refusal: Refusal, number: u64, records: &[&Content]) -> A
                  {number} is not this deal's number"
             );
             let members = vec![("record_number", Json::Number(named)), ("hint", text(&hint))];
-            answer.with_text(format!("{hint}\n"), members)
+            answer.with_text(String::new(), members).with_hint(hint)
         }
         _ => answer,
     }
@@ -116,7 +127,7 @@ mod tests {
                     or 7 is not this deal's number";
         for records in [&[&other, &mine][..], &[&mine, &other], &[&other]] {
             let answer = refused_records(Refusal::DEAL_NUMBER, 7, records);
-            let members = format!(",\"number\":7,\"record_number\":18446744073709551615,\"hint\":\"{hint}\"");
+            let members = format!(",\"number\":7,\"record_number\":\"18446744073709551615\",\"hint\":\"{hint}\"");
             assert_refused(&answer, Refusal::DEAL_NUMBER, &format!("{hint}\n"), &members);
         }
     }

@@ -8,8 +8,8 @@ use super::super::owners::{Held, Owner, Owners};
 use super::super::store::{Access, DealFile, NewTable};
 use super::super::survey::{self, Slot, State};
 use super::super::table::{table, Column};
-use super::house::wrong;
-use super::{path_of, refused, text};
+use super::house::{wrong_house, wrong_table};
+use super::{path_of, place_in, refused, text};
 use vizhuthamen::Refusal;
 
 /// Shows the owner of every entry that stands.
@@ -21,11 +21,11 @@ pub fn show(deal: &Stream) -> Result<Answer, Failure> {
         Err(refusal) => return Ok(refused(refusal, &viewed.content)),
     };
     let owners = viewed.owners(slots.len());
-    match (&owners, owners.unknown(&slots, &viewed.content.name)) {
+    let name = &viewed.content.name;
+    match (&owners, owners.unknown(&slots, name)) {
         (Owners::Whole { bytes }, _) => Ok(told(Answer::done("done"), &slots, bytes)),
-        (Owners::WrongLength { .. }, Some(hint)) => Ok(wrong(Answer::refused(Refusal::HOUSE), "table", &hint)),
-        (Owners::Unreadable { why }, _) => Err(failure::io(why)),
-        (_, Some(why)) => Err(failure::data(why)),
+        (Owners::WrongLength { .. }, _) => Ok(wrong_table(Answer::refused(Refusal::HOUSE), &owners, &slots, name)),
+        (_, Some(failure)) => Err(failure),
         (_, None) => Ok(told(Answer::done("done"), &slots, &vec![0; slots.len()])),
     }
 }
@@ -38,7 +38,7 @@ pub fn give(deal: &Stream, give: &Give, wait: bool) -> Result<Answer, Failure> {
         Ok(house @ 0..=2) => house,
         _ => {
             let hint = format!("{} is no house: give 1 or 2, or 0 for nobody", give.house);
-            return Ok(wrong(Answer::refused(Refusal::HOUSE), "house", &hint));
+            return Ok(wrong_house(Answer::refused(Refusal::HOUSE), hint));
         }
     };
     let slots = match survey::slots(&deal.content.bytes) {
@@ -47,20 +47,20 @@ pub fn give(deal: &Stream, give: &Give, wait: bool) -> Result<Answer, Failure> {
     };
     let bytes = match (Owners::of(deal.home(), old.as_ref(), slots.len()), &old) {
         (owners @ Owners::WrongLength { .. }, _) => {
-            let hint = owners.unknown(&slots, name).unwrap_or_default();
-            return Ok(wrong(Answer::refused(Refusal::HOUSE), "table", &hint));
+            return Ok(wrong_table(Answer::refused(Refusal::HOUSE), &owners, &slots, name));
         }
         (_, Some(old)) => old.bytes.clone(),
         (_, None) => vec![0; slots.len()],
     };
-    let given = match given(&slots, &bytes, give, name)? {
+    let places: Vec<u64> = give.at.iter().map(|at| place_in(&deal.content.bytes, *at)).collect();
+    let given = match given(&slots, &bytes, give, &places, name)? {
         Ok(given) => given,
         Err((refusal, slot)) => {
             let note = slot.map(|slot| format!("{}; see: vizhuthamen list {name}", slot.described()));
             return Ok(note.into_iter().fold(refused(refusal, &deal.content), Answer::with_note));
         }
     };
-    let new = with_owners(&slots, &bytes, &given, house, give.places.is_empty());
+    let new = with_owners(&slots, &bytes, &given, house, places.is_empty());
     let answer = match old.as_ref().is_some_and(|old| old.bytes == new) {
         true => Answer::done("done"),
         false => {
@@ -75,15 +75,15 @@ pub fn give(deal: &Stream, give: &Give, wait: bool) -> Result<Answer, Failure> {
 /// house's, or not that of the house that is meant, is a failure.
 type Given = Result<Vec<usize>, (Refusal, Option<Slot>)>;
 
-fn given(slots: &[Slot], bytes: &[u8], give: &Give, name: &str) -> Result<Given, Failure> {
+fn given(slots: &[Slot], bytes: &[u8], give: &Give, places: &[u64], name: &str) -> Result<Given, Failure> {
     let meant = give.instead_of.unwrap_or(0);
     let owner = |slot: &Slot| u64::from(Owner(bytes[slot.number as usize]).house());
-    if give.places.is_empty() {
+    if places.is_empty() {
         let all = slots.iter().filter(|slot| slot.standing().is_some() && owner(slot) == meant);
         return Ok(Ok(all.map(|slot| slot.number as usize).collect()));
     }
     let mut given = vec![];
-    for place in &give.places {
+    for place in places {
         let slot = match slots.iter().find(|slot| slot.place == *place) {
             None => return Ok(Err((Refusal::PLACE, None))),
             Some(slot) if slot.standing().is_none() => return Ok(Err((Refusal::NOT_KEPT, Some(*slot)))),
@@ -108,10 +108,8 @@ fn another_house(slot: &Slot, owner: Owner, give: &Give, name: &str) -> Failure 
         0 => format!("vizhuthamen owner {name} {house} {place}"),
         is => format!("vizhuthamen owner {name} {house} {place} --instead-of {is}"),
     };
-    failure::data(format!(
-        "the entry at place {place} is {}{meant}; nothing is changed; if that is right: {right}",
-        owner.whose()
-    ))
+    failure::data(format!("the entry at place {place} is {}{meant}; nothing is changed", owner.whose()))
+        .hint(format!("if that is right: {right}"))
 }
 
 /// The table with another owner for these slots. Where nobody gets all that is nobody's, bytes that count for nothing
@@ -149,7 +147,7 @@ const OWNER_COLUMNS: [Column; 5] = [
 
 /// Adds the owner of every entry that stands, and how many slots each house holds.
 fn told(answer: Answer, slots: &[Slot], bytes: &[u8]) -> Answer {
-    let (mut rows, mut entries) = (vec![], vec![]);
+    let (mut rows, mut owners) = (vec![], vec![]);
     for (slot, entry) in slots.iter().filter_map(|slot| Some((slot, slot.standing()?))) {
         let owner = Owner(bytes[slot.number as usize]);
         let (number, place, size) = (slot.number, slot.place, entry.size);
@@ -158,7 +156,7 @@ fn told(answer: Answer, slots: &[Slot], bytes: &[u8]) -> Answer {
         let mut members = vec![("slot", Json::Number(number)), ("place", Json::Number(place))];
         members.extend(owner.members());
         members.extend([("size", Json::Number(size)), ("commitment", text(commitment))]);
-        entries.push(Json::Object(members));
+        owners.push(Json::Object(members));
     }
     let Held { houses: [first, second], nobody } = Held::of(slots, bytes);
     let slots = slots.len();
@@ -166,11 +164,11 @@ fn told(answer: Answer, slots: &[Slot], bytes: &[u8]) -> Answer {
         format!("of {slots} slots house 1 holds {first} and house 2 holds {second}; {nobody} entries are nobody's\n");
     let number = |count: usize| Json::Number(count as u64);
     let members = vec![
-        ("slots", number(slots)),
+        ("entries", number(slots)),
         ("house_1", number(first)),
         ("house_2", number(second)),
         ("nobody", number(nobody)),
-        ("entries", Json::List(entries)),
+        ("owners", Json::List(owners)),
     ];
     answer.with_text(table(&OWNER_COLUMNS, &rows) + &counts, members)
 }

@@ -47,7 +47,7 @@ pub fn salvage(deal: &Stream, folder: &Path, wait: bool) -> Result<Answer, Failu
         false => Answer::damaged("some segments are not written").writing(),
     };
     let members = vec![("folder", text(shown(folder))), ("written", Json::List(files)), ("left", Json::List(left))];
-    let unknown = read.owners.unknown(&mended.survey.slots, &read.deal.name);
+    let unknown = read.owners.unknown(&mended.survey.slots, &read.deal.name).map(|failure| failure.line());
     Ok(unknown.into_iter().fold(disagreeing(answer, read.disagrees).with_text(lines, members), Answer::with_note))
 }
 
@@ -67,7 +67,8 @@ fn write(folder: &Path, slot: &Slot, entry: &Entry, deal: &[u8]) -> Result<PathB
     }
     match fs::read(&path) {
         Ok(there) if there == bytes => Ok(path),
-        Ok(_) => Err(failure::io(format!("{} is there and has other bytes; it stays as it is", shown(&path)))),
+        Ok(_) => Err(failure::io(format!("{} is there and has other bytes; it stays as it is", shown(&path)))
+            .hint("give another folder")),
         Err(error) => Err(files::cannot("read", &shown(&path), error)),
     }
 }

@@ -113,6 +113,16 @@ fn refused(refusal: Refusal, raw: bool, pieces: &Pieces) -> Answer {
     Answer::refused(refusal).with_note(note)
 }
 
+/// The refusal of a node with stray bits, which stand in a piece that starts at this byte.
+fn stray(name: &str, start: u64, piece: &[u8]) -> Answer {
+    let last = (start..).zip(piece).filter(|(at, _)| at % 32 == 31);
+    let byte = last.into_iter().find(|(_, byte)| **byte >= 0x40).map_or(start, |(at, _)| at);
+    Answer::refused(Refusal::STRAY_BITS).with_note(format!(
+        "{name} has stray bits, first in byte {byte}; the commitment of a plain file is printed by: \
+         vizhuthamen stream --raw"
+    ))
+}
+
 /// Prints the commitment of a file, or of the segment of a raw archive, and keeps its state where that is asked for.
 pub fn stream(file: &Stream, raw: bool, place: Option<&Place>, progress: bool) -> Result<Answer, Failure> {
     let mut pieces = Pieces::open(file, if raw { BLOCK } else { PIECE })?;
@@ -138,11 +148,10 @@ pub fn stream(file: &Stream, raw: bool, place: Option<&Place>, progress: bool) -
         (Ok(answer), Some(keeper)) => Ok(answer.spending(keeper.path())),
         (Err(failure), Some(keeper)) => {
             let state = shown(keeper.path());
-            let message = match failure.status {
-                failure::IO => format!("{}; the state is in {state}: go on with --resume", failure.message),
-                _ => format!("{}, without {state}", failure.message),
-            };
-            Err(Failure { message, ..failure })
+            Err(match failure.status {
+                failure::IO => failure.hint(format!("the state is in {state}: go on with --resume")),
+                _ => failure.hint(format!("remove {state} first")),
+            })
         }
         (answer, None) => answer,
     }
@@ -160,7 +169,7 @@ fn begin(raw: bool, place: Option<&Place>, pieces: &Pieces) -> Result<(Work, Opt
 fn resume(place: &Place, raw: bool, pieces: &mut Pieces) -> Result<(Work, Keeper), Failure> {
     let state = state::read(&place.path, raw, regular(pieces)?, &pieces.name)?;
     let work = Work::resumed(&state).ok_or_else(|| {
-        failure::data(format!("{} is the state of no stream; remove it and begin again", shown(&place.path)))
+        failure::data(format!("{} is the state of no stream", shown(&place.path))).hint("remove it and begin again")
     })?;
     pieces.go_to(state.taken)?;
     Ok((work, Keeper::resume(&place.path)))
@@ -187,11 +196,15 @@ fn run(
     let mut taken = Ok(());
     // A refusal sticks, so nothing after it is read.
     while taken.is_ok() {
+        let (start, name) = (pieces.count, pieces.name.clone());
         let piece = work.read(pieces)?;
         if piece.is_empty() {
             break;
         }
         taken = work.take(piece);
+        if taken == Err(Refusal::STRAY_BITS) {
+            return Ok(stray(&name, start, piece));
+        }
         progress.arrived(pieces.count);
         if let (Some(keeper), Some(known), Ok(())) = (keeper.as_deref_mut(), pieces.known, taken) {
             keeper.keep(|| work.state(known, pieces.count));
@@ -211,6 +224,18 @@ mod tests {
     #[test]
     fn a_block_is_whole_parts_and_as_long_as_one_call_could_pad() {
         assert_eq!((BLOCK, BLOCK % RAW_PART), (MAX_RAW as usize, 0));
+    }
+
+    #[test]
+    fn stray_bits_are_found_in_their_piece() {
+        let mut piece = vec![0xff; 100];
+        for (start, byte) in [(0, 31), (31, 31), (32, 63), (1000, 1023)] {
+            assert!(
+                stray("it", start, &piece).notes[0].starts_with(&format!("it has stray bits, first in byte {byte};"))
+            );
+        }
+        piece[31] = 0x3f;
+        assert!(stray("it", 0, &piece).notes[0].starts_with("it has stray bits, first in byte 63;"));
     }
 
     #[test]

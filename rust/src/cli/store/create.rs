@@ -1,8 +1,8 @@
-//! A new deal: its file, the table of its owners, and what is known of it.
+//! A new deal: its file, the table of its owners, its manifest where it has one, and what is known of it.
 //!
-//! The table gets its name first and the deal after it, so that no deal is there without its table. A table that a
-//! dead process has left without a deal goes to the next deal of that name where it is the same, and is refused where
-//! it is another.
+//! The table gets its name first, then the manifest, and the deal after them, so that no deal is there without them. A
+//! table or a manifest that a dead process has left without a deal goes to the next deal of that name where it is the
+//! same, and is refused where it is another.
 use super::aside::{is_there, leads_to, Aside, Fill};
 use super::attributes::Attributes;
 use super::change::{self, Trouble};
@@ -14,6 +14,7 @@ use super::sidecar::{self, Known};
 use super::signals::Held;
 use super::system;
 use crate::cli::failure::{self, Failure};
+use crate::cli::files;
 use std::fs::{self, File};
 use std::io::ErrorKind;
 use std::path::Path;
@@ -23,15 +24,16 @@ use std::time::{Duration, Instant};
 /// How long another process that makes a deal of the same name is waited for.
 const PATIENCE: Duration = Duration::from_secs(10);
 
-/// A deal that is to be made: its bytes, the table of its owners unless they are not known, and its number where it
-/// is known.
+/// A deal that is to be made: its bytes, the table of its owners unless they are not known, its manifest if it has one,
+/// and its number where it is known.
 pub struct NewDeal<'a> {
     pub fill: Fill<'a>,
     pub table: Option<&'a [u8]>,
+    pub manifest: Option<&'a str>,
     pub number: Option<u64>,
 }
 
-/// Makes a deal file with its table, both or neither, and keeps its number beside it where it is known. A file that
+/// Makes a deal file with its table and its manifest, all or none, and keeps its number beside it where it is known. A file that
 /// is there stays. Says what could not be done beside it, and can be done without.
 pub fn create(given: &Path, new: &NewDeal, attributes: Attributes) -> Result<Option<String>, Failure> {
     let (name, home) = (shown(given), Home::of(given));
@@ -41,8 +43,8 @@ pub fn create(given: &Path, new: &NewDeal, attributes: Attributes) -> Result<Opt
     // Whoever opens the new deal next would end the change that the journal names, over the new deal.
     if is_there(&home.journal()).map_err(|why| cannot(given, &why))? {
         let journal = shown(home.journal());
-        let why = format!("{journal} was left by a change of an older deal of that name; remove it first");
-        return Err(cannot(given, &why));
+        let why = format!("{journal} was left by a change of an older deal of that name");
+        return Err(cannot(given, &why).hint("remove it first"));
     }
     let held = Held::start();
     let deal = put(given, &home, new, attributes, &held)?;
@@ -54,10 +56,8 @@ pub fn create(given: &Path, new: &NewDeal, attributes: Attributes) -> Result<Opt
     match (beside.map_err(failed), new.number) {
         (Ok(()), _) => Ok(None),
         (Err(why), None) => Ok(Some(format!("{why}; a cut of {name} will not be noticed"))),
-        (Err(why), Some(number)) => {
-            let why = format!("{why}; its number is kept by: vizhuthamen number {name} {number}");
-            Err(troubled(Trouble::Made(why), &name))
-        }
+        (Err(why), Some(number)) => Err(troubled(Trouble::Made(why), &name)
+            .hint(format!("its number is kept by: vizhuthamen number {name} {number}"))),
     }
 }
 
@@ -66,7 +66,7 @@ fn cannot(given: &Path, why: &str) -> Failure {
 }
 
 fn exists(given: &Path) -> Failure {
-    cannot(given, "the file exists, and is never overwritten; give another name")
+    cannot(given, "the file exists, and is never overwritten").hint("give another name")
 }
 
 /// Refuses to make what is there.
@@ -77,7 +77,7 @@ fn is_new(given: &Path) -> Result<(), Failure> {
     }
 }
 
-/// Writes the deal aside, puts its table in place, and then the deal.
+/// Writes the deal aside, puts its table and its manifest in place, and then the deal.
 fn put<'a>(
     given: &Path,
     home: &Home,
@@ -87,19 +87,23 @@ fn put<'a>(
 ) -> Result<Aside<'a>, Failure> {
     let mut deal = Aside::write(home, 0, new.fill, attributes, held).map_err(|why| cannot(given, &why))?;
     let table = place_table(given, home, new.table, attributes, held)?;
+    let manifest = place_manifest(home, new.manifest, attributes, held);
+    let manifest = manifest.inspect_err(|_| table.take_back(&home.table()))?;
     let flushed = change::flush(&home.folder).map_err(|error| error.to_string());
     match flushed.and_then(|()| deal.make(given, held)) {
         Ok(true) => Ok(deal),
         made => {
+            manifest.take_back(&home.manifest());
             table.take_back(&home.table());
             Err(made.map_or_else(|why| cannot(given, &why), |_| exists(given)))
         }
     }
 }
 
-/// The table of a deal that is being made, locked where there is one, so that others who make a deal of that name wait.
+/// A file beside a deal that is being made. The table is locked where there is one, so that others who make a deal of
+/// that name wait.
 enum Placed<'a> {
-    /// The owners are not known.
+    /// There is none: the owners are not known, or there are no names.
     Nothing,
     /// It was put in its place.
     Made(Aside<'a>),
@@ -108,7 +112,7 @@ enum Placed<'a> {
 }
 
 impl Placed<'_> {
-    /// Takes a table away that was put in its place. Where that fails it is found by whoever makes the deal next.
+    /// Takes a file away that was put in its place. Where that fails it is found by whoever makes the deal next.
     fn take_back(&self, path: &Path) {
         if let Placed::Made(aside) = self {
             if leads_to(path, aside.file()).unwrap_or(false) {
@@ -145,6 +149,36 @@ fn place_table<'a>(
     }
 }
 
+/// Puts the manifest in its place, where it is not there. Another one that lies there is an older deal's, and refused.
+fn place_manifest<'a>(
+    home: &Home,
+    text: Option<&'a str>,
+    attributes: Attributes<'a>,
+    held: &Held,
+) -> Result<Placed<'a>, Failure> {
+    let path = home.manifest();
+    let failed = |why: String| failure::io(format!("cannot write {}: {why}; nothing is done", shown(&path)));
+    let there = match File::open(&path) {
+        Err(error) if matches!(error.kind(), ErrorKind::NotFound | ErrorKind::InvalidFilename) => None,
+        file => Some(file.map_err(|error| files::cannot("read", &shown(&path), error))?),
+    };
+    match (there, text) {
+        (None, None) => Ok(Placed::Nothing),
+        (None, Some(text)) => {
+            let mut aside = Aside::write(home, 2, Fill::Bytes(text.as_bytes()), attributes, held).map_err(failed)?;
+            match aside.make(&path, held).map_err(failed)? {
+                true => Ok(Placed::Made(aside)),
+                false => Err(failed("another program has made it in the meantime".to_string())),
+            }
+        }
+        (Some(file), Some(text)) if fs::read(&path).is_ok_and(|bytes| bytes == text.as_bytes()) => {
+            Ok(Placed::Found { _locked: file })
+        }
+        (Some(_), _) => Err(failure::data(format!("{} is there, of an older deal; nothing is done", shown(&path)))
+            .hint(format!("remove {} if nobody needs its names any more", shown(&path)))),
+    }
+}
+
 /// What has the name of the table: nothing, a file that is locked now, or one that another process holds locked.
 enum Lying {
     Nothing,
@@ -176,9 +210,8 @@ fn is_table(home: &Home, bytes: &[u8]) -> Result<bool, Failure> {
 
 fn of_another(home: &Home) -> Failure {
     let table = shown(home.table());
-    failure::data(format!(
-        "{table} is there, and is not the table of the new deal; nothing is done. Remove {table} if it is of another deal"
-    ))
+    failure::data(format!("{table} is there, and is not the table of the new deal; nothing is done"))
+        .hint(format!("remove {table} if it is of another deal"))
 }
 
 fn wait(home: &Home, began: Instant, held: &Held) -> Result<(), String> {

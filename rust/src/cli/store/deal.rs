@@ -1,5 +1,5 @@
 //! The file of a deal: read and changed under its lock.
-use super::aside::leads_to;
+use super::aside::{is_there, leads_to};
 use super::attributes::Keep;
 use super::change::{self, Part, Trouble};
 use super::lock::{self, Share};
@@ -12,6 +12,7 @@ use std::fs::{self, File, OpenOptions};
 use std::io::ErrorKind;
 use std::os::unix::fs::MetadataExt;
 use std::path::{Path, PathBuf};
+use vizhuthamen::Node;
 
 /// How a deal is opened for a change.
 #[derive(Clone, Copy, Debug, PartialEq, Eq)]
@@ -30,7 +31,9 @@ pub struct DealFile {
     path: PathBuf,
     home: Home,
     access: Access,
+    /// What is known of it, and what will be known once it is replaced.
     known: Option<Known>,
+    next: Known,
 }
 
 impl DealFile {
@@ -42,13 +45,14 @@ impl DealFile {
         change::clear(&deal.home, &deal.file).map_err(cannot)?;
         if deal.file.metadata().is_ok_and(|metadata| metadata.nlink() > 1) {
             return Err(failure::io(format!(
-                "cannot replace {}: it has several names (hard links), which would no longer be one file; \
-                 remove the others, or make them symbolic links",
+                "cannot replace {}: it has several names (hard links), which would no longer be one file",
                 shown(given)
-            )));
+            ))
+            .hint("remove the others, or make them symbolic links"));
         }
         let known = sidecar::known(&deal.path, deal.content.length())?;
-        Ok(DealFile { known, ..deal })
+        let next = known.clone().unwrap_or(deal.next);
+        Ok(DealFile { known, next, ..deal })
     }
 
     /// Opens a deal for reading it together with what lies beside it: nobody changes it as long as this is there.
@@ -92,7 +96,8 @@ impl DealFile {
             return Ok(None);
         }
         let content = files::read_open(&file, name)?;
-        Ok(Some(DealFile { content, file, path, home, access, known: None }))
+        let next = Known::new(content.length(), None);
+        Ok(Some(DealFile { content, file, path, home, access, known: None, next }))
     }
 
     /// An error where the deal is not the file that was read any more, or not as it was read: other hands were at it.
@@ -112,12 +117,12 @@ impl DealFile {
     /// nothing is.
     pub fn replace(&self, bytes: &[u8], table: Option<&NewTable>, others: Vec<Part>) -> Result<(), Failure> {
         let keep = Keep { old: &self.file, new_owner: self.access.new_owner };
-        let known = Known::new(bytes.len() as u64, None);
         let mut parts = vec![Part { target: self.path.clone(), bytes, keep: Some(keep) }];
         let replaced = table.map(NewTable::replaced).transpose()?.flatten();
         parts.extend(table.map(|table| self.table_part(table, replaced.as_ref())));
-        if self.known.is_none() {
-            parts.push(self.beside(&known, &self.file));
+        let old = self.old_sidecar(&self.next)?;
+        if self.changes() {
+            parts.push(self.beside(&self.next, old.as_ref().unwrap_or(&self.file)));
         }
         parts.extend(others);
         let still = || self.unchanged().and_then(|()| table.map_or(Ok(()), |table| table.unchanged(&self.home)));
@@ -143,13 +148,71 @@ impl DealFile {
         Part { target: self.home.table(), bytes: &table.bytes, keep: Some(keep) }
     }
 
+    /// The file that says what is known, where it is there and is to be replaced.
+    fn old_sidecar(&self, next: &Known) -> Result<Option<File>, Failure> {
+        match self.known.as_ref() {
+            Some(known) if known != next => replaced(&self.home.sidecar()).map(Some),
+            _ => Ok(None),
+        }
+    }
+
     /// Keeps a number beside the deal, in the place of the one that is there.
     pub fn keep_number(&self, number: u64) -> Result<(), Failure> {
-        let known = self.known.clone().unwrap_or_else(|| Known::new(self.content.length(), None)).with_number(number);
-        let old = self.known.as_ref().map(|_| replaced(&self.home.sidecar())).transpose()?;
-        let part = self.beside(&known, old.as_ref().unwrap_or(&self.file));
+        self.keep_known(&self.next.with_number(number))
+    }
+
+    /// Keeps beside the deal that it is closed with a commitment.
+    pub fn keep_closed(&self, commitment: Node) -> Result<(), Failure> {
+        self.keep_known(&self.next.with_closed(Some(commitment)))
+    }
+
+    /// Replaces the file that says what is known of the deal, and nothing else.
+    fn keep_known(&self, next: &Known) -> Result<(), Failure> {
+        let old = self.old_sidecar(next)?;
+        let part = self.beside(next, old.as_ref().unwrap_or(&self.file));
         let name = shown(self.home.sidecar());
         change::put(&self.home, &[part], || self.unchanged()).map_err(|trouble| troubled(trouble, &name))
+    }
+
+    /// The number will be kept once the deal is replaced.
+    pub fn number_will_be(&mut self, number: u64) {
+        self.next = self.next.with_number(number);
+    }
+
+    /// Whether something else will be known once the deal is replaced.
+    pub fn changes(&self) -> bool {
+        self.known.as_ref() != Some(&self.next)
+    }
+
+    /// Refuses a change of a deal that is closed, unless it is to be open again once it is replaced.
+    pub fn open_or(&mut self, reopen: bool) -> Result<(), Failure> {
+        match self.closed() {
+            Some(node) if !reopen => Err(failure::data(format!(
+                "{} is closed: records are built for its commitment {node}, and any change of the deal makes all of \
+                 them belong to an older one; nothing is changed",
+                self.content.name
+            ))
+            .hint("put it into another deal, or give --reopen and build all records anew afterwards")),
+            Some(_) => {
+                self.next = self.next.with_closed(None);
+                Ok(())
+            }
+            None => Ok(()),
+        }
+    }
+
+    /// The commitment with which the deal, which was opened for a change, was closed.
+    pub fn closed(&self) -> Option<Node> {
+        self.known.as_ref()?.closed
+    }
+
+    /// The part that puts a manifest beside the deal. Whoever may read the deal may read it.
+    pub fn manifest<'a>(&'a self, text: &'a str) -> Result<Part<'a>, Failure> {
+        let target = self.home.manifest();
+        if is_there(&target).map_err(failure::io)? {
+            with_one_name(&target)?;
+        }
+        Ok(Part { target, bytes: text.as_bytes(), keep: Some(Keep { old: &self.file, new_owner: true }) })
     }
 
     /// The number that is kept of the deal, which was opened for a change.

@@ -47,6 +47,21 @@ impl Home {
         self.added("", "owners")
     }
 
+    /// The name of the manifest of a deal.
+    pub fn manifest(&self) -> PathBuf {
+        self.added("", "manifest.json")
+    }
+
+    /// Whether a path is that of the file itself, or of one that this program makes beside it.
+    pub fn owns(&self, path: &Path) -> bool {
+        let own = [self.folder.join(&self.name), self.sidecar(), self.table(), self.manifest(), self.journal()];
+        let parts = (0..=MOST_PARTS).map(|number| self.part(number));
+        let copy = self.copy(0);
+        let name = |path: &Path| path.file_name().unwrap_or_default().as_bytes().to_vec();
+        let copied = path.parent() == copy.parent() && name(path).starts_with(&name(&copy));
+        copied || own.into_iter().chain(parts).any(|own| own == path)
+    }
+
     /// The name of a copy that is made before a repair.
     pub fn copy(&self, number: u64) -> PathBuf {
         match number {
@@ -114,9 +129,30 @@ mod tests {
         assert_eq!(home.journal(), Path::new("a/.deal.vz-journal"));
         assert_eq!(home.sidecar(), Path::new("a/deal.vz"));
         assert_eq!(home.table(), Path::new("a/deal.owners"));
+        assert_eq!(home.manifest(), Path::new("a/deal.manifest.json"));
         assert_eq!(home.copy(0), Path::new("a/deal.before-repair"));
         assert_eq!(home.copy(3), Path::new("a/deal.before-repair.3"));
         assert_eq!(Home::of(Path::new("deal")).part(1), Path::new("./.deal.vz-new.1"));
+    }
+
+    #[test]
+    fn files_that_are_a_deals_own() {
+        let home = Home::of(Path::new("/a/deal"));
+        for name in [
+            "deal",
+            "deal.vz",
+            "deal.owners",
+            "deal.manifest.json",
+            ".deal.vz-journal",
+            ".deal.vz-new.8",
+            "deal.before-repair.2",
+        ] {
+            assert!(home.owns(&Path::new("/a").join(name)), "{name}");
+            assert!(!home.owns(&Path::new("/a/b").join(name)), "{name}");
+        }
+        for name in ["deals", "deal.vz2", ".deal", "deal.manifest", ".deal.vz-new.9"] {
+            assert!(!home.owns(&Path::new("/a").join(name)), "{name}");
+        }
     }
 
     #[test]

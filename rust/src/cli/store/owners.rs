@@ -72,10 +72,8 @@ pub fn with_one_name(path: &Path) -> Result<(), Failure> {
     let metadata = fs::symlink_metadata(path).map_err(|error| files::cannot("replace", &shown(path), error))?;
     match metadata.is_file() && metadata.nlink() == 1 {
         true => Ok(()),
-        false => Err(failure::io(format!(
-            "cannot replace {}: it is a link, or has several names; make it a file of its own first",
-            shown(path)
-        ))),
+        false => Err(failure::io(format!("cannot replace {}: it is a link, or has several names", shown(path)))
+            .hint("make it a file of its own first")),
     }
 }
 

@@ -1,14 +1,15 @@
 //! What is known of a deal beside its bytes, in a small text file `DEAL.vz` that can be done without.
 //!
-//! The first line names the form and its version; every other line is a word and its value. Version 1 knows `size`, the deal's length
-//! in bytes, and `number`, the deal's number, once it is told. Words that are not known are left to later versions, and
-//! stay.
+//! The first line names the form and its version; every other line is a word and its value. Version 1 knows `size`, the
+//! deal's length in bytes, `number`, the deal's number, once it is told, and `closed`, the commitment with which the
+//! deal was closed, as long as it is. Words that are not known are left to later versions, and stay.
 use super::names::{shown, Home};
 use crate::cli::args::decimal;
 use crate::cli::failure::{self, Failure};
 use std::fs;
 use std::io::ErrorKind;
 use std::path::Path;
+use vizhuthamen::Node;
 
 const FORM: &str = "vizhuthamen deal ";
 const VERSION: &str = "1";
@@ -20,13 +21,15 @@ pub struct Known {
     pub size: u64,
     /// The deal's number, once it is known.
     pub number: Option<u64>,
+    /// The commitment with which the deal was closed, where it is.
+    pub closed: Option<Node>,
     text: String,
 }
 
 impl Known {
     /// What is known of a new deal.
     pub fn new(size: u64, number: Option<u64>) -> Known {
-        let known = Known { size, number: None, text: format!("{FORM}{VERSION}\nsize {size}\n") };
+        let known = Known { size, number: None, closed: None, text: format!("{FORM}{VERSION}\nsize {size}\n") };
         number.map_or(known.clone(), |number| known.with_number(number))
     }
 
@@ -37,9 +40,18 @@ impl Known {
 
     /// The same with this number. All other lines stay.
     pub fn with_number(&self, number: u64) -> Known {
-        let others = self.text.lines().filter(|line| value(line, "number").is_none());
-        let text = others.map(|line| format!("{line}\n")).chain([format!("number {number}\n")]).collect();
-        Known { size: self.size, number: Some(number), text }
+        Known { number: Some(number), text: self.with_line("number", Some(number.to_string())), ..self.clone() }
+    }
+
+    /// The same closed with this commitment, or open. All other lines stay.
+    pub fn with_closed(&self, closed: Option<Node>) -> Known {
+        Known { closed, text: self.with_line("closed", closed.map(|node| node.to_string())), ..self.clone() }
+    }
+
+    /// The text with this line for a word as its last one, or without any.
+    fn with_line(&self, word: &str, new: Option<String>) -> String {
+        let others = self.text.lines().filter(|line| value(line, word).is_none()).map(|line| format!("{line}\n"));
+        others.chain(new.map(|new| format!("{word} {new}\n"))).collect()
     }
 
     /// What a text says, or why it cannot be read.
@@ -61,7 +73,12 @@ impl Known {
             [number] => Some(decimal(number).ok_or("its number is no number below 2^64")?),
             _ => return Err("it has several lines for the number"),
         };
-        Ok(Known { size, number, text: text.to_string() })
+        let closed = match values("closed").as_slice() {
+            [] => None,
+            [node] => Some(node.parse().map_err(|_| "it is closed with no commitment")?),
+            _ => return Err("it has several lines that say that it is closed"),
+        };
+        Ok(Known { size, number, closed, text: text.to_string() })
     }
 }
 
@@ -79,8 +96,9 @@ fn read(home: &Home) -> Result<Option<Known>, Failure> {
         Err(error) => return Err(failure::io(format!("cannot read {}: {error}", shown(&path)))),
         Ok(text) => text,
     };
-    let failed =
-        |why| failure::data(format!("{} cannot be understood: {why}; without it nothing is compared", shown(&path)));
+    let failed = |why| {
+        failure::data(format!("{} cannot be understood: {why}", shown(&path))).hint("without it nothing is compared")
+    };
     Known::parse(&text).map(Some).map_err(failed)
 }
 
@@ -89,20 +107,22 @@ pub fn known(deal: &Path, length: u64) -> Result<Option<Known>, Failure> {
     let home = Home::of(deal);
     match read(&home)? {
         Some(known) if known.size != length => Err(failure::data(format!(
-            "{} has {length} bytes, and {} says that it has {}; nothing is done. Bring back the whole deal, \
-             or remove {} if the deal is another one now",
+            "{} has {length} bytes, and {} says that it has {}; nothing is done",
             shown(deal),
             shown(home.sidecar()),
-            known.size,
+            known.size
+        ))
+        .hint(format!(
+            "bring back the whole deal, or remove {} if the deal is another one now",
             shown(home.sidecar())
         ))),
         known => Ok(known),
     }
 }
 
-/// The number that is said beside a deal, if any can be read.
-pub fn number(deal: &Path) -> Option<u64> {
-    read(&Home::of(deal)).ok()??.number
+/// What is said beside a deal, true or not, if it can be read.
+pub fn said(deal: &Path) -> Option<Known> {
+    read(&Home::of(deal)).ok()?
 }
 
 /// Whether that which will be known of a new deal lies beside it already. Whatever else lies there is another deal's,
@@ -110,18 +130,22 @@ pub fn number(deal: &Path) -> Option<u64> {
 pub fn lies_beside(deal: &Path, new: &Known) -> Result<bool, Failure> {
     let there = match known(deal, new.size)? {
         None => return Ok(false),
-        Some(known) if known.number == new.number => return Ok(true),
+        Some(known) if known.number == new.number && known.closed.is_none() => return Ok(true),
         Some(known) => known,
     };
-    let said = |number: Option<u64>| number.map_or("no number".to_string(), |number| format!("the number {number}"));
+    let said = |known: &Known| match (known.number, known.closed) {
+        (_, Some(_)) => "that the deal is closed".to_string(),
+        (Some(number), None) => format!("the number {number}"),
+        (None, None) => "no number".to_string(),
+    };
     Err(failure::data(format!(
-        "{} is there and says {}, and {} is to have {}; nothing is done. Remove {} if it is of another deal",
+        "{} is there and says {}, and {} is to have {}; nothing is done",
         shown(Home::of(deal).sidecar()),
-        said(there.number),
+        said(&there),
         shown(deal),
-        said(new.number),
-        shown(Home::of(deal).sidecar())
-    )))
+        said(new)
+    ))
+    .hint(format!("remove {} if it is of another deal", shown(Home::of(deal).sidecar()))))
 }
 
 #[cfg(test)]
@@ -152,6 +176,17 @@ mod tests {
     }
 
     #[test]
+    fn closed_and_open_again() {
+        let known = Known::parse(b"vizhuthamen deal 1\nsize 512\nnumber 7\nlater word\n").unwrap();
+        let closed = known.with_closed(Some(Node([0xab; 32])));
+        let line = format!("closed {}\n", "ab".repeat(32));
+        assert_eq!(closed.text(), format!("vizhuthamen deal 1\nsize 512\nnumber 7\nlater word\n{line}"));
+        assert_eq!(Known::parse(closed.text().as_bytes()), Ok(closed.clone()));
+        assert_eq!(closed.with_closed(None), known);
+        assert_eq!(closed.with_number(8).closed, Some(Node([0xab; 32])));
+    }
+
+    #[test]
     fn other_texts_are_refused() {
         for text in
             ["", "size 512\n", "vizhuthamen deal 2\nsize 512\n", "vizhuthamen deal 1\n", "vizhuthamen deal 1\nsize x\n"]
@@ -168,6 +203,9 @@ mod tests {
             "number 7 8",
             "number 0x7",
             "number 7\nnumber 7",
+            "closed",
+            "closed 7",
+            "closed 00 00",
         ] {
             assert!(Known::parse(format!("vizhuthamen deal 1\nsize 512\n{lines}\n").as_bytes()).is_err(), "{lines}");
         }

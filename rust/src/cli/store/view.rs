@@ -2,17 +2,17 @@
 use super::deal::DealFile;
 use super::names::{shown, Home};
 use super::owners::{identity, OwnerTable};
-use super::sidecar;
+use super::sidecar::{self, Known};
 use crate::cli::failure::{self, Failure};
 use crate::cli::files::{self, Content};
 use std::fs::{self, File};
 use std::path::Path;
 
-/// A deal, its number, and the table of its owners, as all of them were at one moment.
+/// A deal, what is known of it, and the table of its owners, as all of them were at one moment.
 pub struct View {
     pub content: Content,
-    /// The number that is kept, where it may be read.
-    pub number: Option<u64>,
+    /// What is known of it, where that may be read.
+    pub known: Option<Known>,
     /// The table, or why it cannot be read.
     pub table: Result<Option<OwnerTable>, Failure>,
     /// The names beside the deal.
@@ -45,13 +45,13 @@ fn try_view(given: &Path) -> Result<Option<View>, Failure> {
     let known = sidecar::known(&path, content.length());
     let table = OwnerTable::read(&home);
     // First the journal, then the files: a change of which some files were read has ended where its journal is gone,
-    // and then its last file is another one than before.
+    // and then its last one of these files is another one than before.
     if home.journal().exists() || seen() != before {
         return Ok(None);
     }
-    let number = match known {
+    let known = match known {
         Err(failure) if failure.status == failure::DATA => return Err(failure),
-        known => known.ok().flatten().and_then(|known| known.number),
+        known => known.ok().flatten(),
     };
-    Ok(Some(View { content, number, table, home }))
+    Ok(Some(View { content, known, table, home }))
 }
