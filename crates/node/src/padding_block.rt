@@ -1,5 +1,5 @@
 // The second block of a padded message of 64 bytes: nothing but padding, so that it is always the same.
-use sha256::round;
+use sha256::chained_round;
 use sha256::sums;
 ghost use mathlib.Core.Path.{_≡_};
 ghost use mathlib.Core.List.{[]};
@@ -102,22 +102,22 @@ pub fn padding_sums(turn: usize) -> [u32; 16]
 fn sixteen_rounds(s: [u32; 8], k: [u32; 16]) -> [u32; 8]
     ensures { λ r. ⌜ r ≡ F.rounds k [] s 16 ⌝ }
 {
-    let s1 = round(s, k[0], 0);
-    let s2 = round(s1, k[1], 0);
-    let s3 = round(s2, k[2], 0);
-    let s4 = round(s3, k[3], 0);
-    let s5 = round(s4, k[4], 0);
-    let s6 = round(s5, k[5], 0);
-    let s7 = round(s6, k[6], 0);
-    let s8 = round(s7, k[7], 0);
-    let s9 = round(s8, k[8], 0);
-    let s10 = round(s9, k[9], 0);
-    let s11 = round(s10, k[10], 0);
-    let s12 = round(s11, k[11], 0);
-    let s13 = round(s12, k[12], 0);
-    let s14 = round(s13, k[13], 0);
-    let s15 = round(s14, k[14], 0);
-    round(s15, k[15], 0)
+    let s1 = chained_round(s, k[0], 0);
+    let s2 = chained_round(s1, k[1], 0);
+    let s3 = chained_round(s2, k[2], 0);
+    let s4 = chained_round(s3, k[3], 0);
+    let s5 = chained_round(s4, k[4], 0);
+    let s6 = chained_round(s5, k[5], 0);
+    let s7 = chained_round(s6, k[6], 0);
+    let s8 = chained_round(s7, k[7], 0);
+    let s9 = chained_round(s8, k[8], 0);
+    let s10 = chained_round(s9, k[9], 0);
+    let s11 = chained_round(s10, k[10], 0);
+    let s12 = chained_round(s11, k[11], 0);
+    let s13 = chained_round(s12, k[12], 0);
+    let s14 = chained_round(s13, k[13], 0);
+    let s15 = chained_round(s14, k[14], 0);
+    chained_round(s15, k[15], 0)
 }
 
 // The hash value after this block.

@@ -11,22 +11,22 @@ returns c =
     let c1 = c9 .before .before .before .before .before .before .before .before in
     let a = c1 .before .args in
     sixteen-rounds (a .t2) [] _ _ _ _ _ _ _ _ _ _ _ _ _ _ _ _ _
-    (c1 .round .ensures)
-    (c9 .before .before .before .before .before .before .before .round2 .ensures)
-    (c9 .before .before .before .before .before .before .round3 .ensures)
-    (c9 .before .before .before .before .before .round4 .ensures)
-    (c9 .before .before .before .before .round5 .ensures)
-    (c9 .before .before .before .round6 .ensures)
-    (c9 .before .before .round7 .ensures)
-    (c9 .before .round8 .ensures)
-    (c9 .round9 .ensures)
-    (c .before .before .before .before .before .before .round10 .ensures)
-    (c .before .before .before .before .before .round11 .ensures)
-    (c .before .before .before .before .round12 .ensures)
-    (c .before .before .before .round13 .ensures)
-    (c .before .before .round14 .ensures)
-    (c .before .round15 .ensures)
-    (c .round16 .ensures)
+    (c1 .chained-round .ensures)
+    (c9 .before .before .before .before .before .before .before .chained-round2 .ensures)
+    (c9 .before .before .before .before .before .before .chained-round3 .ensures)
+    (c9 .before .before .before .before .before .chained-round4 .ensures)
+    (c9 .before .before .before .before .chained-round5 .ensures)
+    (c9 .before .before .before .chained-round6 .ensures)
+    (c9 .before .before .chained-round7 .ensures)
+    (c9 .before .chained-round8 .ensures)
+    (c9 .chained-round9 .ensures)
+    (c .before .before .before .before .before .before .chained-round10 .ensures)
+    (c .before .before .before .before .before .chained-round11 .ensures)
+    (c .before .before .before .before .chained-round12 .ensures)
+    (c .before .before .before .chained-round13 .ensures)
+    (c .before .before .chained-round14 .ensures)
+    (c .before .chained-round15 .ensures)
+    (c .chained-round16 .ensures)
 
 pub sixteen-rounds-spec : {M : Type 1} → statement M
 sixteen-rounds-spec =
