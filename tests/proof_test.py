@@ -224,11 +224,13 @@ class Lies(Houses):
             status, told = self.judged(twice)
             self.assertEqual(status, DATA)
             self.assertIn(f'the member "{name}" stands here a second time', told)
-            for value in ("1", "null", "true", "[]", "{}", '["x"]', ""):
+            for value in ("1", "null", "true", "[]", "{}", '["x"]', "-1", ""):
                 status, told = self.judged(proofs.text(members).replace(f'"{name}": {json.dumps(members[name], ensure_ascii=False)}',
                                                                         f'"{name}": {value}'))
                 self.assertEqual(status, DATA)
-                self.assertRegex(told, rf'line \d+, column \d+: .* stands where a text, the value of "{name}", is needed')
+                self.assertRegex(told, {"": rf'line \d+, column \d+: .* stands where the value of "{name}" is needed',
+                                        "-1": r"line \d+, column \d+: the number here is no whole one"}.get(
+                                            value, rf'the value of its member "{name}" is no text in quotation marks'))
         status, told = self.judged(proofs.text({**members, "note": "x"}, [*proofs.MEMBERS, "note"]))
         self.assertEqual(status, DATA)
         self.assertIn('it has the member "note", which no proof of version 1 has', told)
@@ -282,11 +284,11 @@ class Lies(Houses):
     def test_files_that_are_no_proof(self):
         deal, kept = self.house()
         members = self.proved(deal, kept)
-        for text, why in ((b"", "line 1, column 1: the text ends where '{' is needed"),
-                          (b"%PDF-1.7\n", "line 1, column 1: '%' stands where '{' is needed"), (self.get("deal")[:300], "line 1"),
+        for text, why in ((b"", "line 1, column 1: the text ends where a JSON value is needed"),
+                          (b"%PDF-1.7\n", "line 1, column 1: '%' stands where a JSON value is needed"), (self.get("deal")[:300], "line 1"),
                           (b"\xff\xfe{", "line 1, column 1: a byte that is no text"),
-                          (b"{}", "'}' stands where the name of a member is needed"), (b'{"a": "b"}', "a file of another kind"),
-                          (b"[]", "'[' stands where '{' is needed"), (bytes(100000), "more than 65536 bytes"),
+                          (b"{}", "the member form, \"vizhuthamen proof\" in a proof, is missing"), (b'{"a": "b"}', "a file of another kind"),
+                          (b"[]", "it is no object"), (bytes(100000), "more than 65536 bytes"),
                           (proofs.text({**members, "form": "receipt"}).encode(), 'in a proof, says "receipt"'),
                           (proofs.text({**members, "version": "2"}).encode(), 'its version is "2", and this program reads version "1"')):
             status, told = self.judged(text)

@@ -14,7 +14,6 @@ mod json;
 mod judge;
 mod man;
 mod manifest;
-mod members;
 mod mend;
 mod output;
 mod owners;

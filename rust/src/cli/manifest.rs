@@ -128,7 +128,9 @@ impl Manifest {
 
     /// The manifest that a text is, or why it is none.
     pub fn parse(text: &[u8]) -> Result<Manifest, String> {
-        let Value::Object(members) = values::read(text)? else { return Err("it is no object".to_string()) };
+        let Value::Object(members) = values::read(text).map_err(|fault| fault.to_string())? else {
+            return Err("it is no object".to_string());
+        };
         let value = |name: &str| members.iter().find(|member| member.0 == name).map(|member| &member.1);
         match (value("form"), value("version")) {
             (Some(Value::Text(form)), Some(Value::Number(VERSION))) if form == FORM => {}

@@ -4,7 +4,7 @@
 //! file follow from the record, the file and the deal's commitment, so that a member that is wrong can be told.
 use super::args::decimal;
 use super::json::Json;
-use super::members;
+use super::values::{self, Value};
 use vizhuthamen::{cid, hex, Node};
 
 const FORM: &str = "vizhuthamen proof";
@@ -148,7 +148,7 @@ impl Proof {
         if text.len() > LONGEST {
             return Err(format!("it has more than {LONGEST} bytes, and no proof has so many"));
         }
-        let members = members::read(text).map_err(|fault| fault.to_string())?;
+        let members = texts(text)?;
         let value = |name: &str| members.iter().find(|member| member.0 == name).map(|member| member.1.as_str());
         match (value("form"), value("version")) {
             (Some(FORM), Some(VERSION)) => {}
@@ -168,6 +168,18 @@ impl Proof {
         let values = values.into_iter().collect::<Result<Vec<String>, String>>()?;
         Ok(Proof { facts: facts(&values)?, values })
     }
+}
+
+/// The members of an object whose values are all texts.
+fn texts(text: &[u8]) -> Result<Vec<(String, String)>, String> {
+    let Value::Object(members) = values::read(text).map_err(|fault| fault.to_string())? else {
+        return Err("it is no object: it does not begin with '{'".to_string());
+    };
+    let of_text = |(name, value): (String, Value)| match value {
+        Value::Text(text) => Ok((name, text)),
+        _ => Err(format!("the value of its member {} is no text in quotation marks", quoted(&name))),
+    };
+    members.into_iter().map(of_text).collect()
 }
 
 /// What the values of the members say.
@@ -265,9 +277,13 @@ mod tests {
     fn texts_that_are_no_proof() {
         let text = facts().text();
         let why = |text: &str| Proof::parse(text.as_bytes()).unwrap_err();
-        assert_eq!(why("%PDF"), "line 1, column 1: '%' stands where '{' is needed");
+        assert_eq!(why("%PDF"), "line 1, column 1: '%' stands where a JSON value is needed");
+        assert_eq!(why("[]"), "it is no object: it does not begin with '{'");
+        let number = text.replace("\"1000\"", "1000");
+        assert_eq!(why(&number), "the value of its member \"length\" is no text in quotation marks");
         assert_eq!(why(&"x".repeat(LONGEST + 1)), "it has more than 65536 bytes, and no proof has so many");
         let other = "it is a file of another kind: the member form, \"vizhuthamen proof\" in a proof, ";
+        assert_eq!(why("{}"), format!("{other}is missing"));
         assert_eq!(why("{\"a\":\"b\"}"), format!("{other}is missing"));
         assert_eq!(why(&text.replace("vizhuthamen proof", "receipt")), format!("{other}says \"receipt\""));
         let newer = text.replace("\"version\": \"1\"", "\"version\": \"2\"");
