@@ -408,7 +408,7 @@ class Collecting(Calls):
             out = self.object("collect", "deal", f"new{i}")
             new, owners = self.collected(bytes(deal), bytes(table))
             self.assertEqual((self.both(), self.both(f"new{i}")), ((deal, table), (new, owners)))
-            self.assertEqual(out, {**DONE, "size": 4096, "moved": self.moved(deal, table, new), "left": []})
+            self.assertEqual(out, {**DONE, "size": 4096, "moved": self.moved(deal, table, new), "left_out": []})
 
     def test_an_empty_deal_and_the_largest(self):
         self.put("deal", bytes(512))
@@ -450,7 +450,7 @@ class Collecting(Calls):
             out = self.refused(23, "collect", "deal", "new")
             self.assertIn(f"deal.owners has {length} bytes, and deal has 4 slots, with a byte each; bring back the right table", out)
             value = self.object("collect", "deal", "new", status=23)
-            self.assertEqual((value["wrong"], "vizhuthamen owner deal HOUSE" in value["hint"]), ("table", True))
+            self.assertEqual((value["refused"], "vizhuthamen owner deal HOUSE" in value["hint"]), (["table"], True))
         self.assertEqual((self.get("deal"), self.files()), (deal, ["deal", "deal.owners"]))
 
     def test_no_file_is_overwritten(self):
@@ -526,7 +526,7 @@ class Collecting(Calls):
             self.assertIn(part, error)
         self.assertEqual(self.files(), ["deal", "deal.owners"])
         out, err = self.call("collect", "deal", "new", "--force", "--json")
-        self.assertEqual([(w["slot"], w["state"]) for w in json.loads(out)["left"]], [(0, "damaged"), (3, "valid")])
+        self.assertEqual([(w["slot"], w["state"]) for w in json.loads(out)["left_out"]], [(0, "damaged"), (3, "valid")])
         self.assertIn(f"slot 0 (place {places[0]}) is damaged, and is left out\n", err)
         self.assertEqual(self.both("new"), self.collected(bytes(spoilt), self.get("deal.owners")))
 
@@ -695,7 +695,7 @@ class Houses(Calls):
                 out = self.refused(23, *words, "--house", house)
                 self.assertEqual(out.splitlines()[1:], [f"--house says {house}, which is no house: give 1 or 2"])
             value = self.object("book", "deal", "segment", "--house", house, status=23)
-            self.assertEqual((value["house"], value["wrong"]), (told(house), "house"))
+            self.assertEqual((value["house"], value["refused"]), (told(house), ["house"]))
         self.assertEqual({name: self.get(name) for name in self.files()}, before)
 
     def test_a_table_of_another_length_gets_23_right_after_2(self):
@@ -711,7 +711,7 @@ class Houses(Calls):
                     self.assertIn(f"/deal.owners has {length} bytes, and deal has 4 slots, with a byte each; bring back the right "
                                   "table, or remove it and say whose the entries are: vizhuthamen owner deal HOUSE [PLACE...]", hint)
             value = self.object("cancel", "deal", 768, status=23)
-            self.assertEqual((value["house"], value["wrong"], value["hint"]), (1, "table", hint))
+            self.assertEqual((value["house"], value["refused"], value["hint"]), (1, ["table"], hint))
             self.refused(2, "book", "short", "segment")
             self.refused(2, "cancel", "short", 768)
             self.assertEqual(self.both(), (deal, b"\1" * length))
@@ -808,7 +808,7 @@ class Owners(Calls):
         self.put("deal", bytes(1024))
         self.assertEqual(self.shown(), {**DONE, "entries": 4, "house_1": 0, "house_2": 0, "nobody": 0, "owners": []})
         self.put("deal.owners", bytes(5))
-        self.assertEqual(self.shown(status=23)["wrong"], "table")
+        self.assertEqual(self.shown(status=23)["refused"], ["table"])
 
     def test_entries_that_are_nobodys(self):
         self.booked(1024, (256, 128, 128), (1, 2, 1))
@@ -858,13 +858,13 @@ class Owners(Calls):
         deal, _ = self.booked(1024, (256, 128), (1, 2))
         for house in (3, 255, 256, 257, 1 << 40):
             value = self.shown(house, status=23)
-            self.assertEqual((value["wrong"], value["hint"]), ("house", f"{house} is no house: give 1 or 2, or 0 for nobody"))
+            self.assertEqual((value["refused"], value["hint"]), (["house"], f"{house} is no house: give 1 or 2, or 0 for nobody"))
         for place in (0, 769, 1024, 767):
             self.assertIn("an entry place here is a multiple of 64 from 768 to 960", self.call("owner", "deal", 1, 768, place, status=6)[1])
         self.assertIn("slot 2 (place 896) is blank; see: vizhuthamen list deal", self.call("owner", "deal", 1, 896, status=16)[1])
         self.assertEqual(self.both(), (deal, b"\1\2\0\0"))
         self.put("deal.owners", bytes(3))
-        self.assertEqual(self.shown(1, status=23)["wrong"], "table")
+        self.assertEqual(self.shown(1, status=23)["refused"], ["table"])
         self.assertEqual(self.both(), (deal, bytes(3)))
 
     def test_a_house_that_holds_half_or_more_is_told(self):

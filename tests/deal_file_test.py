@@ -799,7 +799,7 @@ class Salvage(Deals):
                               (MIB + 31, 0xff))
         value = self.object("salvage", "deal", "out", status=DATA)
         self.assertEqual([w["slot"] for w in value["written"]], [0, 1, 3, 4])
-        self.assertEqual([w["slot"] for w in value["left"]], [2])
+        self.assertEqual([w["slot"] for w in value["left_out"]], [2])
         for w in value["written"]:
             self.assertEqual(self.get(w["file"]), segments[w["slot"]])
         self.assertEqual([w["owner"] for w in value["written"]], [1] * 4)

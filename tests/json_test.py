@@ -19,6 +19,7 @@ TEXT = (ROOT / "docs" / "JSON.md").read_text()
 NUMBER = 5801
 ZEROS = "00" * 32
 MET = {}  # members that objects of a command, or of a list, were seen to have
+KINDS = {}  # the kind of each member that has been met, and where that was first
 
 
 def table(head):
@@ -106,6 +107,7 @@ class Outcomes(Calls):
         self.assertEqual(lines, [hint for hint in value["hints"] if hint != value.get("hint")])
         if own == {"text"}:  # --help and --version, of whatever command
             return
+        self.kinds(words[0], value)
         self.seen(words[0], own, ANSWERS)
         for name, items in value.items():
             for item in items if isinstance(items, list) else ():
@@ -119,6 +121,17 @@ class Outcomes(Calls):
         self.assertEqual({value[cid] for cid in named.values()}, {proofs.cid(bytes.fromhex(value[name])) for name in named})
         self.assertEqual({name for name in value if name.endswith("cid")}, set(named.values()))
         return set(named.values())
+
+    def kinds(self, where, value):
+        """A member of one name has one kind, wherever it stands. A name that is no UTF-8 is an object, and a large number a text."""
+        for name, item in value.items():
+            digits = isinstance(item, str) and item.isdecimal() and int(item) >= 1 << 53
+            kind = "number" if digits else {int: "number", str: "text", dict: "text", list: "list", type(None): "text"}[type(item)]
+            first, at = KINDS.setdefault(name, (kind, where))
+            self.assertEqual(kind, first, f"{name} in {where} is a {kind}, and in {at} a {first}")
+            for each in item if isinstance(item, list) else ():
+                if isinstance(each, dict):
+                    self.kinds(name, each)
 
     def seen(self, name, members, documented):
         self.assertLessEqual(members, documented[name], f"{name}: docs/JSON.md does not have all of these")
@@ -234,7 +247,7 @@ class Answers(Outcomes):
             value = self.outcome(0 if command == "list" else DATA, command, "deal")
             self.assertEqual((value["table"], value["table_bytes"]), ("wrong length", 3))
         for words in (("owner", "deal"), ("owner", "deal", 1), ("book", "deal", "segment"), ("cancel", "deal", 768), ("collect", "deal", "new"), ("pack", "raw", "--deal", "deal")):
-            self.assertEqual(self.outcome(23, *words)["wrong"], "table")
+            self.assertEqual(self.outcome(23, *words)["refused"], ["table"])
         self.path("deal.owners").unlink()
         self.assertEqual(self.outcome(0, "list", "deal")["table"], "missing")
         for words in (("owner", "deal"), ("book", "deal", "segment"), ("cancel", "deal", 768), ("pack", "raw", "--deal", "deal")):

@@ -639,8 +639,8 @@ class Settling(Calls):
                     self.assertIn(self.REASONS.get(name, (0, ""))[1], line)
                 value = json.loads(self.answer(*words, "--json", status=code))
                 self.assertEqual(value["refused"], [which for which, _ in refused])
-                self.assertEqual([r["sentence"] for r in value["records"]], lines)
-                self.assertEqual([r["code"] for r in value["records"]], [self.REASONS.get(name, (0,))[0] for name in (first, second)])
+                self.assertEqual([r["sentence"] for r in value["verdicts"]], lines)
+                self.assertEqual([r["code"] for r in value["verdicts"]], [self.REASONS.get(name, (0,))[0] for name in (first, second)])
                 self.assertIn(why, value["hint"])
                 self.assertEqual(value.get("record_number"), str(OTHER) if "number" in (first, second) else None)
 

@@ -211,7 +211,7 @@ fn told(answer: Answer, moves: &[Move], left: &[Slot], size: usize, number: Opti
     let mut members = vec![("size", Json::Number(size as u64))];
     members.extend(number.map(|number| ("number", Json::Number(number))));
     members.push(("moved", Json::List(moves.iter().map(move_members).collect())));
-    members.push(("left", Json::List(left)));
+    members.push(("left_out", Json::List(left)));
     answer.with_text(table(&MOVE_COLUMNS, &rows), members)
 }
 

@@ -38,7 +38,8 @@ pub fn fsck(deal: &Stream, wait: bool) -> Result<Answer, Failure> {
         true => answer,
         false => {
             let lines = read.unlisted.iter().map(|line| format!("the manifest: {line}\n")).collect();
-            answer.with_text(lines, vec![("manifest", text(read.unlisted.join("; ")))])
+            let faults = read.unlisted.iter().map(text).collect();
+            answer.with_text(lines, vec![("manifest_faults", Json::List(faults))])
         }
     };
     let answer = wrong.told(answer, &survey);
@@ -181,7 +182,7 @@ impl Wrong {
         }
         lines.push_str(&format!("{kept} of {} slots kept, {blank} blank\n", survey.slots.len()));
         let members = vec![
-            ("slots", Json::Number(survey.slots.len() as u64)),
+            ("entries", Json::Number(survey.slots.len() as u64)),
             ("kept", Json::Number(kept)),
             ("blank", Json::Number(blank)),
             ("stray", Json::List(self.stray)),

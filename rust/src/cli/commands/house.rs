@@ -137,7 +137,9 @@ pub fn wrong_table(answer: Answer, owners: &Owners, slots: &[Slot], deal: &str) 
 }
 
 fn wrong(answer: Answer, what: &str, hint: String) -> Answer {
-    answer.with_text(String::new(), vec![("wrong", text(what)), ("hint", text(&hint))]).with_hint(hint)
+    answer
+        .with_text(String::new(), vec![("refused", Json::List(vec![text(what)])), ("hint", text(&hint))])
+        .with_hint(hint)
 }
 
 /// The number of the house, and what says so.

@@ -46,7 +46,7 @@ pub fn salvage(deal: &Stream, folder: &Path, wait: bool) -> Result<Answer, Failu
         true => Answer::done("every segment is written").writing(),
         false => Answer::damaged("some segments are not written").writing(),
     };
-    let members = vec![("folder", text(shown(folder))), ("written", Json::List(files)), ("left", Json::List(left))];
+    let members = vec![("folder", text(shown(folder))), ("written", Json::List(files)), ("left_out", Json::List(left))];
     let unknown = read.owners.unknown(&mended.survey.slots, &read.deal.name).map(|failure| failure.line());
     Ok(unknown.into_iter().fold(disagreeing(answer, read.disagrees).with_text(lines, members), Answer::with_note))
 }

@@ -87,7 +87,7 @@ fn with_each(answer: Answer, records: &[Checked; 2]) -> Answer {
     let number = records.iter().find_map(Checked::other_number);
     let mut members: Vec<_> = number.into_iter().map(|number| ("record_number", Json::Number(number))).collect();
     members.push(("refused", Json::List(refused().map(|(which, _)| text(which)).collect())));
-    members.push(("records", Json::List(both().map(|(which, record)| record.members(which)).collect())));
+    members.push(("verdicts", Json::List(both().map(|(which, record)| record.members(which)).collect())));
     members.push(("hint", text(&hint)));
     let mut lines: Vec<String> = both().map(|(which, record)| record.sentence(which)).collect();
     if refused().next().is_none() {
