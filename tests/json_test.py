@@ -331,6 +331,9 @@ class Packed(Outcomes):
             for i in range(5):
                 self.put(f"folder/{i}", bytes([i + 1]) * (length if i < 3 or code == 22 else 1))
             self.outcome(code, "pack", *(f"folder/{i}" for i in range(5 if code == 22 else 2)), "--deal", "full", "--size", 1024)
+        for i in range(257):
+            self.put(f"folder/many-{i}", bytes(i + 1))
+        self.outcome(22, "pack", *(f"folder/many-{i}" for i in range(257)), "--deal", "full")
         self.outcome(0, "close", "deal", "--records", "records")
         for command in ("list", "fsck"):
             self.outcome(0, command, "deal")

@@ -17,7 +17,7 @@ import time
 import unittest
 from pathlib import Path
 
-from cli_test import BINARY, BUSY, DATA, IO, MODEL, USAGE, Calls, all_of
+from cli_test import BINARY, BUSY, DATA, IO, MODEL, USAGE, Calls, all_of, nobody
 from faults_test import compile_shim
 from model import MAX_RAW, area, segment_length
 
@@ -158,6 +158,8 @@ class Story(Packs):
         print(f"pack: 40 files with records in {packing[0]:.2f} s; one by one {single:.2f} s (padding {padding:.2f}, booking {booking:.2f}, "
               f"building {building:.2f}): {packing[0] / single:.3f} of it; of the processors {packing[1]:.2f} s and {worked:.2f} s: "
               f"{packing[1] / worked:.3f}")
+        # The aim, by the time of processors, which other work on the machine hardly changes: some 0.05.
+        self.assertLess(packing[1], 0.1 * worked)
 
     def test_what_is_printed(self):
         self.tree({"b": b"b" * 100, "sub/c": b"b" * 100, "long": b"x" * 1000, "none": b""})
@@ -260,16 +262,23 @@ class Batches(Packs):
 
     def test_what_does_not_fit(self):
         self.tree({f"f{i}": bytes([i + 1]) * 100 for i in range(4)})
-        out, err = self.call("pack", "in", "--deal", "deal", "--size", 1024, status=22)
-        full = "the house holds half the slots or more\n"
-        hint = "house 1 holds 0 of the 4 slots of deal, and books while it holds fewer than half of them: 2 more entries, and 2 of the files are beyond that\n"
-        self.assertEqual(out, f"code 22: {full}f2: {full}f3: {full}{hint}")
-        self.assertIn("2 of 4 files do not fit; nothing is written", err)
-        self.assertIn("an empty deal of 1048576 bytes holds all 4", err)
+        self.tree({"copy of f3": bytes([4]) * 100})
+        self.assertEqual(self.call("pack", "in", "--deal", "deal", "--size", 1024, status=22), ("""\
+code 22: the house holds half the slots or more
+f1: the house has no slot left for it
+f2: the house has no slot left for it
+house 1 may hold 2 of the 4 slots of deal, half of them, and holds 0: it books 2 more
+""", """\
+vizhuthamen: 2 of 5 files do not fit; nothing is written
+vizhuthamen: a deal of 1024 bytes has 4 slots, and 768 bytes before its index
+vizhuthamen: a deal of 1048576 bytes holds all 5: give --size 1048576, or no --size
+vizhuthamen: or let the other house book them here, as far as it may: --house 2
+"""))
         self.assertEqual(self.files(), ["in"])
         self.tree({"a": b"a" * 400, "b": b"b" * 300, "c": b"c"}, "other")
         answer = self.object("pack", "other", "--deal", "deal", "--size", 1024, status=14)
         self.assertEqual(([f["names"] for f in answer["unfit"]], answer["largest_segment"]), ([["b"]], 512))
+        self.assertEqual((answer["given"], answer["fitting"]), (3, 2))
         self.refused(4, "pack", "other", "--deal", "deal", "--size", 512)
         self.answer("pack", "other/a", "other/c", "--deal", "deal", "--size", 1024)
         before = self.found(".")
@@ -280,11 +289,50 @@ class Batches(Packs):
         self.assertEqual([f["names"] for f in answer["unfit"]], [["huge"]])
         self.tree({"x": self.rng.randbytes(MAX_RAW), "y": self.rng.randbytes(MAX_RAW), "z": b"1"}, "larger")
         answer = self.object("pack", "larger", "--deal", "new", status=14)
-        self.assertEqual([f["names"] for f in answer["unfit"]], [["z"], ["y"]])
+        self.assertEqual([f["names"] for f in answer["unfit"]], [["y"]])
         for size in (0, 511, 1000, 1 << 25):
             self.refused(2, "pack", "other", "--deal", "new", "--size", size)
         self.failed(DATA, "pack", "other/c", "--deal", "deal", "--size", 512)
         self.assertEqual({n: d for n, d in self.found(".").items() if not n.startswith("larg")}, before)
+
+    def test_more_than_a_house_packs_into_any_deal(self):
+        """65 files of a house: the one that does not fit goes into a second deal, or to the other house."""
+        files = self.tree({f"f{i}": b"%d" % i for i in range(65)})
+        out, err = self.call("pack", "in", "--deal", "deal", "--number", 1, status=22)
+        self.assertEqual(out.splitlines()[1:], ["f9: the house has no slot left for it",
+                                                "house 1 may hold 64 of the 128 slots of deal, half of them, and holds 0: it books 64 more"])
+        self.assertIn("no deal holds all 65 for one house: pack those that are named into further ones", err)
+        self.assertIn("or let the other house book them here, as far as it may: --house 2", err)
+        self.assertEqual(self.files(), ["in"])
+        self.path("in/f9").rename(self.path("f9"))
+        self.answer("pack", "in", "--deal", "deal", "--number", 1)
+        err = self.call("pack", "f9", "--deal", "deal", status=22)[1]
+        self.assertIn("a new deal of 512 bytes holds all 1: give another --deal, with a --number of its own", err)
+        self.assertIn("deal: 64 of 128 slots and", err)
+        self.answer("pack", "f9", "--deal", "second", "--number", 2)
+        self.answer("pack", "f9", "--deal", "deal", "--house", 2)
+        self.agree(files)
+
+    def test_far_too_many_files_are_not_read(self):
+        """By their lengths alone where these tell, and else no more of them than two deals would have."""
+        self.tree({f"f{i}": b"x" * (i + 1) for i in range(300)})
+        self.path("in/f7").chmod(0)  # nobody can read it
+        out, err = self.call("pack", "in", "--deal", "deal", status=22, **nobody())
+        self.assertIn("300 files are given, at least 300 of them different, which take up", out)
+        self.assertTrue(out.endswith("bytes; a deal has at most 64 files of a house, and 16769024 bytes for them: they need 5 deals or more\n"))
+        self.assertEqual(err, "vizhuthamen: no file was read; nothing is written\n"
+                              "vizhuthamen: pack them in parts, each into a deal of its own (--deal, with its --number)\n")
+        self.tree({f"s{i}": b"%03d" % i for i in range(300)}, "same")
+        answer = self.object("pack", "same", "--deal", "deal", status=22)
+        self.assertEqual((answer["given"], answer["different"]), (300, 257))
+        self.tree({f"l{i}": bytes([i]) * 4000000 for i in range(12)}, "large")
+        answer = self.object("pack", "large", "--deal", "deal", status=14)
+        self.assertEqual((answer["given"], answer["different"]), (12, 9))
+        self.assertIn("they need 3 deals or more", answer["hint"])
+        # Many names of few files are few files.
+        self.tree({f"n{i}": b"%d" % (i % 3) for i in range(300)}, "names")
+        answer = self.object("pack", "names", "--deal", "deal")
+        self.assertEqual((answer["booked"], sum(len(f["names"]) for f in answer["files"])), (3, 300))
 
     def test_the_smallest_deal_and_a_deal_that_is_full(self):
         for lengths, size in (((1,), 512), ((127, 127), 512), ((127, 127, 1), 1 << 20), ((128,), 512), ((300,), 1024), ((1,) * 4, 1 << 20), ((1,) * 5, 1 << 21)):

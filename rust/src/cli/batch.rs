@@ -11,10 +11,15 @@ use std::collections::{BTreeSet, HashMap};
 use std::fs::{File, OpenOptions};
 use std::os::unix::fs::OpenOptionsExt;
 use std::path::Path;
-use vizhuthamen::{Refusal, MAX_DEAL, MAX_RAW};
+use vizhuthamen::{Refusal, MAX_DEAL, MAX_RAW, MAX_TABLE};
 
 /// Opening waits for nobody, and follows no link (O_NONBLOCK, O_NOFOLLOW).
 const PLAIN: i32 = 0o4000 | 0o400_000;
+
+/// No more different files are held, and no more bytes of areas, than two of the largest deals have: so many, and it can
+/// be told which of them do not fit.
+const MOST_FILES: usize = 2 * MAX_TABLE;
+const MOST_BYTES: u64 = 2 * MAX_DEAL as u64;
 
 /// Bytes that are packed: the names of the files that have them, their length and SHA-256, and their segment.
 #[derive(Debug)]
@@ -25,31 +30,63 @@ pub struct Item {
     pub segment: Vec<u8>,
 }
 
+/// Files that are too many for a deal by far: how many they are, how many of these were read, and what is known of them.
+#[derive(Debug, PartialEq, Eq)]
+pub struct TooMany {
+    pub given: usize,
+    pub read: usize,
+    /// At least so many different files, with so many bytes of areas.
+    pub different: usize,
+    pub areas: u64,
+}
+
+impl TooMany {
+    /// Files of different lengths are different files, so that many are told without reading any.
+    fn by_lengths(files: &[Found]) -> Option<TooMany> {
+        let lengths: BTreeSet<u64> = files.iter().map(|file| file.length).collect();
+        let areas = lengths.iter().filter_map(|length| vizhuthamen::segment_length(*length)).map(area);
+        let (different, areas) = areas.fold((0, 0), |(count, sum), area| (count + 1, sum + area));
+        TooMany { given: files.len(), read: 0, different, areas }.if_so()
+    }
+
+    fn if_so(self) -> Option<TooMany> {
+        (self.different > MOST_FILES || self.areas > MOST_BYTES).then_some(self)
+    }
+}
+
 /// All that is packed, in the order in which it is booked: by falling area, and then by name. Areas are powers of two
 /// at multiples of themselves, so that in this order whatever fits in any order fits.
 #[derive(Debug, Default)]
 pub struct Batch {
     pub items: Vec<Item>,
-    /// Files that are in no deal together with the others, or in none at all.
+    /// Files that are in no deal.
     pub beyond: Vec<(Name, Refusal)>,
     known: HashMap<([u8; 32], u64), usize>,
     names: HashMap<Name, Option<usize>>,
-    held: usize,
+    areas: u64,
 }
 
 impl Batch {
-    /// Reads files. Each is read once, so that one that is changed meanwhile has the digest of the bytes that are
-    /// packed.
-    pub fn read(mut files: Vec<Found>) -> Result<Batch, Failure> {
+    /// Reads files, unless or until they are too many. Each is read once, so that one that is changed meanwhile has the
+    /// digest of the bytes that are packed.
+    pub fn read(mut files: Vec<Found>) -> Result<Result<Batch, TooMany>, Failure> {
+        if let Some(too_many) = TooMany::by_lengths(&files) {
+            return Ok(Err(too_many));
+        }
         files.sort_by(|a, b| (Reverse(a.length), &a.name).cmp(&(Reverse(b.length), &b.name)));
         let mut batch = Batch::default();
-        let mut steps = Steps::start("reading", files.len());
-        for file in files {
+        let given = files.len();
+        let mut steps = Steps::start("reading", given);
+        for (before, file) in files.into_iter().enumerate() {
             batch.take(file)?;
             steps.step();
+            let (different, areas) = (batch.items.len(), batch.areas);
+            if let Some(too_many) = (TooMany { given, read: before + 1, different, areas }).if_so() {
+                return Ok(Err(too_many));
+            }
         }
         batch.put_in_order();
-        Ok(batch)
+        Ok(Ok(batch))
     }
 
     fn put_in_order(&mut self) {
@@ -76,8 +113,7 @@ impl Batch {
         Ok(())
     }
 
-    /// The number of the item with the bytes of a file. Refusals: 2 for a length that no deal holds, 14 where no deal
-    /// holds it together with the others.
+    /// The number of the item with the bytes of a file. Refusals: 2 for a length that no deal holds.
     fn hold(&mut self, path: &Path) -> Result<Result<usize, Refusal>, Failure> {
         let failed = |error| files::cannot("read", &shown(path), error);
         let file: File = OpenOptions::new().read(true).custom_flags(PLAIN).open(path).map_err(failed)?;
@@ -97,22 +133,19 @@ impl Batch {
             return Ok(*number);
         }
         let segment = vizhuthamen::pad(raw)?;
-        self.held += segment.len();
-        if self.held > MAX_DEAL {
-            return Err(Refusal::NO_PLACE);
-        }
+        self.areas += area(segment.len() as u64);
         self.known.insert(key, self.items.len());
         self.items.push(Item { names: vec![], length: key.1, sha256: key.0, segment });
         Ok(self.items.len() - 1)
     }
 
-    /// The number of files.
+    /// The number of files: of all names.
     pub fn len(&self) -> usize {
-        self.items.len() + self.beyond.len()
+        self.names.len()
     }
 
     pub fn is_empty(&self) -> bool {
-        self.len() == 0
+        self.names.is_empty()
     }
 
     /// The size of the smallest deal that holds all, if any does: all are a house's, which has half of the slots at
@@ -195,12 +228,28 @@ mod tests {
     }
 
     #[test]
-    fn bytes_are_held_once_and_no_more_of_them_than_a_deal_has() {
+    fn bytes_are_held_once() {
         let mut batch = batch(&[100, 200]);
         assert_eq!((batch.padded(&[1; 100]), batch.padded(&[2; 200]), batch.padded(&[1; 99])), (Ok(0), Ok(1), Ok(2)));
         assert_eq!(batch.padded(&vec![0; MAX_RAW as usize + 1]), Err(Refusal::SIZE));
-        assert_eq!(batch.padded(&vec![0; MAX_RAW as usize]), Ok(3));
-        assert_eq!(batch.padded(&vec![1; MAX_RAW as usize]), Err(Refusal::NO_PLACE));
-        assert_eq!(batch.padded(&[1; 100]), Ok(0));
+        assert_eq!((batch.padded(&vec![0; MAX_RAW as usize]), batch.padded(&[1; 100])), (Ok(3), Ok(0)));
+        assert_eq!((batch.items.len(), batch.areas), (4, 128 + 256 + 128 + (1 << 23)));
+    }
+
+    #[test]
+    fn far_too_many_by_their_lengths_alone() {
+        let found = |length| Found { name: Name(vec![b'x']), path: "/nowhere".into(), length };
+        let told =
+            |lengths: &mut dyn Iterator<Item = u64>| TooMany::by_lengths(&lengths.map(found).collect::<Vec<_>>());
+        let (given, read) = (512, 0);
+        // Two files of each length may be the same one.
+        assert_eq!(told(&mut (0..512).map(|i| 1 + i / 2)), None);
+        let many = TooMany { given, read, different: 512, areas: 127 * 128 + 127 * 256 + 254 * 512 + 4 * 1024 };
+        assert_eq!(told(&mut (0..512).map(|i| 1 + i)), Some(many));
+        assert_eq!(told(&mut (0..4).map(|i| MAX_RAW - i)), None);
+        let large = TooMany { given: 5, read, different: 5, areas: 5 << 23 };
+        assert_eq!(told(&mut (0..5).map(|i| MAX_RAW - i)), Some(large));
+        // Those that no deal holds are named each.
+        assert_eq!(told(&mut (0..512).map(|i| MAX_RAW + 1 + i)), None);
     }
 }

@@ -17,6 +17,7 @@ mod repair;
 mod salvage;
 mod settle;
 mod stream;
+mod unfit;
 mod verify;
 
 use super::answer::Answer;

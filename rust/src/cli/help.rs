@@ -213,10 +213,12 @@ links, empty files, what is no regular file, and the files of DEAL itself are sk
 are refused (64), but links, which are followed. Folders without files, permissions and times are not kept.
 
 Where DEAL is not there it is made first, as by `new`, of the size that --size gives or else of the smallest that
-holds all, with the number that --number gives. A house books in half of the slots at most: in up to 64 of them. Files
-are booked by falling area, equal ones by name: no other order takes more. Where some do not fit, nothing is written,
-and they are named, with the code of the first: 2 (no deal holds it), 4, 13, 14 or 22. With 22 it is said how many
-more files the house may book. Code 23, for all of them: the house is none, or DEAL.owners has another length.
+holds all, with the number that --number gives. A house books in half of the slots at most: in 64 of those of the
+largest deal. Files are booked by falling area, equal ones by name: no other order takes more. Where some do not fit,
+nothing is written. They are named, with the code of the first: 2 (no deal holds it), 4, 13, 14 or 22, and it is said
+how many fit and what can be done: a second deal, or the other house. Far too many are counted and not named, and
+their lengths may tell so before any is read: more than 256 different files, or than 33554432 bytes of their areas.
+Code 23, for all of them: the house is none, or DEAL.owners has another length.
 
 With --records FOLDER the inclusion record of every file of the manifest is written to NAME.record in FOLDER; the
 deal's number must be known. Records that are there and differ are refused before anything is changed (74); --force

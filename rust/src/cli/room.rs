@@ -85,18 +85,31 @@ pub fn told_to_house(answer: Answer, deal: &Content, house: u64) -> Answer {
     filled(answer, deal, &room, 0, &format!("no segment of house {house} would be booked now, of whatever size"))
 }
 
+/// The same of a deal that is not there yet, in words only what it has.
+pub fn of_empty(answer: Answer, deal: &Content) -> Answer {
+    let Ok(room) = Room::of(&deal.bytes) else { return answer };
+    let Room { entries, bytes, .. } = room;
+    let size = deal.length();
+    let note = format!("a deal of {size} bytes has {entries} slots, and {bytes} bytes before its index");
+    answer.with_text(String::new(), members(&room, room.largest_segment())).with_note(note)
+}
+
 /// Adds what is free, and the size of the largest segment that would be booked, also in words.
 fn filled(answer: Answer, deal: &Content, room: &Room, largest: u64, fitting: &str) -> Answer {
-    let members = vec![
+    let Room { entries, free_slots, bytes, free_bytes, .. } = room;
+    let full = format!("{free_slots} of {entries} slots and {free_bytes} of {bytes} bytes before the index are free");
+    answer.with_text(String::new(), members(room, largest)).with_note(format!("{}: {full}; {fitting}", deal.name))
+}
+
+/// What is free, for JSON.
+fn members(room: &Room, largest: u64) -> Vec<(&'static str, Json)> {
+    vec![
         ("entries", Json::Number(room.entries)),
         ("free_slots", Json::Number(room.free_slots)),
         ("free_bytes", Json::Number(room.free_bytes)),
         ("largest_segment", Json::Number(largest)),
         ("largest_raw", Json::Number(raw(largest))),
-    ];
-    let Room { entries, free_slots, bytes, free_bytes, .. } = room;
-    let full = format!("{free_slots} of {entries} slots and {free_bytes} of {bytes} bytes before the index are free");
-    answer.with_text(String::new(), members).with_note(format!("{}: {full}; {fitting}", deal.name))
+    ]
 }
 
 /// What would be booked now, in words.

@@ -94,22 +94,32 @@ impl Housed {
         }
         let answer = answer.with_text(String::new(), vec![("house", Json::Number(self.number))]);
         let (held, slots) = (self.owners.held(&self.slots).by(self.house()), self.slots.len());
-        let more = slots.div_ceil(2).saturating_sub(held);
-        let answer = match refusals.iter().filter(|refusal| **refusal == Refusal::QUOTA).count() {
-            0 => answer,
-            beyond => {
-                let (house, name) = (self.number, &deal.name);
+        let (half, house, name) = (slots / 2, self.number, &deal.name);
+        let answer = match refusals.contains(&Refusal::QUOTA) {
+            false => answer,
+            true => {
                 let hint = format!(
-                    "house {house} holds {held} of the {slots} slots of {name}, and books while it holds fewer than \
-                     half of them: {more} more entries, and {beyond} of the files are beyond that"
+                    "house {house} may hold {half} of the {slots} slots of {name}, half of them, and holds {held}: it books \
+                     {} more",
+                    half.saturating_sub(held)
                 );
                 let members = vec![("held", Json::Number(held as u64)), ("hint", text(&hint))];
                 answer.with_text(String::new(), members).with_hint(hint)
             }
         };
-        match more {
-            0 => room::told_to_house(answer, deal, self.number),
-            _ => room::told(answer, deal),
+        match (&deal.metadata, held < half) {
+            (None, _) => room::of_empty(answer, deal),
+            (Some(_), true) => room::told(answer, deal),
+            (Some(_), false) => room::told_to_house(answer, deal, self.number),
+        }
+    }
+
+    /// The house that is not at work.
+    pub fn other(&self) -> u64 {
+        if self.number == 1 {
+            2
+        } else {
+            1
         }
     }
 

@@ -7,7 +7,7 @@ use super::super::failure::{self, Failure};
 use super::super::files::Content;
 use super::super::gather::{self, LeftOut, Skipped};
 use super::super::json::Json;
-use super::super::manifest::{self, Listed, Manifest, Name};
+use super::super::manifest::{self, Listed, Manifest};
 use super::super::progress::Steps;
 use super::super::store::aside::Fill;
 use super::super::store::names::{shown, Home};
@@ -15,6 +15,7 @@ use super::super::store::{self, Attributes, DealFile, NewDeal};
 use super::super::survey;
 use super::super::table::{table, Column};
 use super::house::Housed;
+use super::unfit::{self, listed, Unfit};
 use super::{book, fsck, number, path_of, records, refused, text};
 use std::fs;
 use std::path::{Path, PathBuf};
@@ -25,7 +26,10 @@ pub fn pack(packing: &Packing) -> Result<Answer, Failure> {
     let path = path_of(&packing.deal)?;
     let gathered = gather::gather(&packing.files, &LeftOut::of(path, packing.records.as_deref()))?;
     // The files first: nobody is kept waiting for them.
-    let batch = Batch::read(gathered.files)?;
+    let batch = match Batch::read(gathered.files)? {
+        Ok(batch) => batch,
+        Err(too_many) => return Ok(unfit::too_many(&too_many)),
+    };
     if batch.is_empty() {
         return Err(failure::usage("there is no file to pack; nothing is done"));
     }
@@ -159,28 +163,10 @@ impl Plan {
         empty && table.len() == self.table.len() && table.iter().all(|byte| *byte == 0) && self.house == housed.house()
     }
 
-    /// The refusal of files that do not fit, with the code of the first; none where all fit.
+    /// The refusal of files that do not fit; none where all fit.
     fn does_not_fit(&self, batch: &Batch, housed: &Housed, deal: &Content) -> Option<Answer> {
-        let beyond = batch.beyond.iter().map(|(name, refusal)| (vec![name.clone()], *refusal));
-        let items = batch.items.iter().zip(&self.outcomes);
-        let unfit = items.filter_map(|(item, outcome)| Some((item.names.clone(), outcome.as_ref().err().copied()?)));
-        let left: Vec<(Vec<Name>, Refusal)> = beyond.chain(unfit).collect();
-        let (_, first) = left.first()?;
-        let lines = left.iter().map(|(names, refusal)| format!("{}: {}\n", listed(names), refusal.meaning())).collect();
-        let list = left.iter().map(|(names, refusal)| {
-            let names = Json::List(names.iter().map(Name::json).collect());
-            Json::Object(vec![("names", names), ("code", Json::Number(u64::from(refusal.code())))])
-        });
-        let answer = Answer::refused(*first).with_text(lines, vec![("unfit", Json::List(list.collect()))]);
-        let (count, all) = (left.len(), batch.len());
-        let answer = answer.with_note(format!("{count} of {all} files do not fit; nothing is written"));
-        let answer = housed.refused_files(&left.iter().map(|(_, refusal)| *refusal).collect::<Vec<_>>(), answer, deal);
-        Some(match batch.smallest_deal() {
-            _ if left.iter().any(|(_, refusal)| *refusal == Refusal::HOUSE) => answer,
-            Some(size) => answer.with_note(format!("an empty deal of {size} bytes holds all {all}")),
-            None => answer
-                .with_note(format!("no deal of up to {MAX_DEAL} bytes holds all {all} for a house: pack some of them")),
-        })
+        let refusals = self.outcomes.iter().map(|outcome| outcome.as_ref().err().copied());
+        Unfit::of(batch, refusals).map(|unfit| unfit.told(batch, housed, deal))
     }
 }
 
@@ -308,11 +294,6 @@ fn row((new, file): &(bool, Listed)) -> Vec<String> {
     let numbers = [file.place, file.entry.offset, file.entry.size, file.length];
     let first = [state(*new).to_string()].into_iter();
     first.chain(numbers.iter().map(u64::to_string)).chain([listed(&file.names)]).collect()
-}
-
-/// Names on one line.
-fn listed(names: &[Name]) -> String {
-    names.iter().map(Name::shown).collect::<Vec<_>>().join(", ")
 }
 
 /// The manifest of a deal after a change of its entries, where it has one that this changes. One that cannot be
