@@ -83,10 +83,10 @@ class Terminals(Calls):
         self.put("padded", pad(b"raw" * 50, bytes(segment_length(150)))[2])
         commitment = deal[places[0] : places[0] + 32].hex()
         told = ("vizhuthamen: standard output is a terminal, and bytes are not printed on one; give --output FILE; into a pipe they are "
-                "printed in hex, and with --output - as they are; see: vizhuthamen --help\n")
+                "printed in hex, and with --output - as they are; see: vizhuthamen {} --help\n")
         hexed = ("build", "deal", places[0], *GIVEN), ("pad", "padded"), ("unpad", 150, "padded")
         for words in (*hexed, *((*call, "-o", "-") for call in (*hexed, ("find", "deal", commitment)))):
-            self.assertEqual(self.on_terminal(*words), (USAGE, "", told), words)
+            self.assertEqual(self.on_terminal(*words), (USAGE, "", told.format(words[0])), words)
         # Before anything is read.
         self.assertEqual(self.on_terminal("pad", "missing")[0], USAGE)
         for call in hexed:

@@ -334,7 +334,7 @@ class Packed(Outcomes):
         for i in range(257):
             self.put(f"folder/many-{i}", bytes(i + 1))
         self.outcome(22, "pack", *(f"folder/many-{i}" for i in range(257)), "--deal", "full")
-        self.outcome(0, "close", "deal", "--records", "records")
+        self.outcome(0, "close", "deal", "--records", "records", "--proofs", "proofs")
         for command in ("list", "fsck"):
             self.outcome(0, command, "deal")
             self.outcome(0, command, "deal", "--cid")
@@ -343,6 +343,7 @@ class Packed(Outcomes):
         self.outcome(0, "cancel", "deal", self.places[0], "--reopen", "--house", 1)
         self.put("deal.manifest.json", self.get("deal.manifest.json").replace(b'"length":150', b'"length":149'))
         self.outcome(DATA, "extract", "deal", "--to", "out")
+        self.outcome(DATA, "close", "deal", "--proofs", "again")
         self.put("deal", self.deal)
         self.outcome(DATA, "fsck", "deal")
         self.outcome(DATA, "extract", "deal", "nothing")
@@ -352,7 +353,7 @@ class Failures(Outcomes):
     def test_unknown_options(self):
         for command, words in self.calls().items():
             value = self.outcome(USAGE, command, *words, "--nothing")
-            self.assertEqual((value["error"], value["hints"][-1]), ("no such option: --nothing", "see: vizhuthamen --help"))
+            self.assertEqual((value["error"], value["hints"][-1]), ("no such option: --nothing", f"see: vizhuthamen {command} --help"))
             self.assertEqual(self.outcome(USAGE, command, *words, "--jso")["hints"][0], "did you mean: --json")
 
     def test_wrong_words(self):

@@ -9,6 +9,7 @@ import hashlib
 import json
 import os
 import pty
+import re
 import resource
 import shutil
 import subprocess
@@ -512,6 +513,8 @@ class Extracts(Packs):
             shutil.rmtree(self.path("out"))
         for name in ("b", "sub/", "su", "", "/", "../a", "sub/d"):
             self.assertIn("nothing is written", self.failed(DATA, "extract", "deal", "a", name, "--to", "out"))
+        for name, near in (("b", "sub/b"), ("sbu/b", "sub/b"), ("SUBS", None), ("sub/d", "sub/b, sub/c"), ("sus", "subs")):
+            self.assertEqual(re.findall("did you mean: ([^;]*);", self.failed(DATA, "extract", "deal", name)), [near] if near else [])
         self.assertNotIn("out", self.files())
         self.path("here").mkdir()
         subprocess.run([self.program, "extract", "../deal", "a"], cwd=self.path("here"), check=True, capture_output=True)
@@ -630,6 +633,49 @@ class Houses(Packs):
 
 
 class Closing(Packs):
+    def test_proofs_of_all_files(self):
+        """NAME.proof for each name, as `prove` writes it, and `verify` says yes with what closing has printed."""
+        files = self.tree({"a": b"1" * 300, "sub/b": b"2", "sub/same": b"1" * 300, os.fsdecode(b"odd-\xff"): b"3" * 99, "x" * 252: b"4"})
+        self.answer("pack", "in", "--deal", "deal", "--number", 7)
+        out, err = self.call("close", "deal", "--proofs", "p", "--records", "r")
+        self.assertEqual(err, "vizhuthamen: deal is closed: records and proofs are built from now on, for this commitment; book, cancel and "
+                              "pack refuse it without --reopen\n")
+        closed, written = self.told(out), self.found("p")
+        self.assertEqual((closed["proofs"], closed["records"], len(self.found("r"))), ("p", "r", 5))
+        place = self.names()["x" * 252]["place"]
+        self.assertEqual(sorted(written), sorted([f"place-{place}.proof", *(f"{name}.proof" for name in files if len(name) < 200)]))
+        known = "--commitment", closed["commitment"], "--size", closed["size"], "--number", closed["number"]
+        for name in files:
+            proof = f"p/{name}.proof" if len(name) < 200 else f"p/place-{place}.proof"
+            self.answer("prove", "deal", f"in/{name}", "-o", "one", "--force")
+            self.assertEqual(self.get("one"), self.get(proof))
+            self.assertTrue(self.answer("verify", proof, f"in/{name}", *known).startswith("yes: "))
+        self.assertEqual(self.object("close", "deal", "--proofs", "p")["proofs"], "p")
+        self.put("p/a.proof", b"other")
+        self.assertIn("p/a.proof: the file exists, with other bytes", self.failed(IO, "close", "deal", "--proofs", "p"))
+        self.answer("close", "deal", "--proofs", "p", "--force")
+        self.assertEqual(self.found("p"), written)
+
+    def test_proofs_of_files_that_are_not_as_they_were(self):
+        self.tree({"a": b"1" * 300, "b": b"2" * 100, "c": b"3" * 100})
+        self.answer("pack", "in", "--deal", "deal", "--size", 1 << 20, "--number", 7)
+        self.put("segment", self.segment(128))
+        self.answer("book", "deal", "segment")
+        spoilt = bytearray(self.get("deal"))
+        spoilt[self.names()["b"]["offset"]] ^= 1
+        self.put("deal", bytes(spoilt))
+        listed = self.get("deal.manifest.json")
+        self.put("deal.manifest.json", listed.replace(self.names()["c"]["sha256"].encode(), b"0" * 64))
+        out, err = self.call("close", "deal", "--proofs", "p", "--records", "r", status=DATA)
+        self.assertEqual(out.splitlines()[0], "code 65: the deal is closed, and some files have no record or no proof")
+        self.assertEqual([line.split(":")[:2] for line in out.splitlines()[-3:]], [["b", " no record"], ["b", " no proof"], ["c", " no proof"]])
+        self.assertIn("the manifest of deal has no names for 1 of its entries, and nothing is written for these", err)
+        self.assertEqual((sorted(self.found("p")), sorted(self.found("r"))), (["a.proof"], ["a.record", "c.record"]))
+        answer = self.object("close", "deal", "--proofs", "p", status=DATA)
+        self.assertEqual([left["name"] for left in answer["not_written"]], ["b", "c"])
+        self.answer("new", "second", 512)
+        self.assertIn("no number of second is kept", self.failed(DATA, "close", "second", "--proofs", "q"))
+
     def test_a_closed_deal_is_changed_by_those_who_mean_it(self):
         files = self.tree({"a": b"1" * 300, "b": b"2"})
         self.answer("pack", "in", "--deal", "deal", "--size", 1 << 20, "--number", 7)

@@ -395,6 +395,46 @@ class Proving(Houses):
         self.assertEqual((value["deal_commitment"], value["deal_cid"], value["deal_number"]), (root.hex(), proofs.cid(root), str(NUMBER)))
         self.assertEqual(self.files(), sorted(["deal", "deal.owners", "deal.vz", "new", "old", *FILES]))
 
+    def test_of_a_deal_that_is_closed_and_of_one_that_is_not(self):
+        deal, kept = self.house()
+        prove = "prove", "deal", "certificate.pdf", "-o", "proof"
+        self.assertEqual(self.call(*prove)[1], "vizhuthamen: deal is not closed: the next booking or cancellation gives it another commitment, "
+                                               "and this proof is then one of an older deal; it is closed by: vizhuthamen close deal\n")
+        self.answer("close", "deal")
+        self.assertEqual(self.call(*prove)[1], "")
+        self.put("deal", deal[:-64] + MODEL.entry(bytes(32), 0, 128))
+        self.put("proof", b"")
+        error = self.failed(DATA, *prove, "--force")
+        self.assertIn(f"deal was closed with the commitment {MODEL.commitment(deal)[1].hex()}, and has ", error)
+        self.assertIn("; no proof is written; see: vizhuthamen fsck deal", error)
+        self.assertEqual(self.get("proof"), b"")
+        # Of a pipe nothing is known.
+        piped = ("prove", "/dev/stdin", "certificate.pdf", "-o", "piped", *GIVEN)
+        with subprocess.Popen(["cat", self.path("deal")], stdout=subprocess.PIPE) as cat:
+            ran = subprocess.run([self.program, *map(str, piped)], cwd=self.folder, stdin=cat.stdout, capture_output=True)
+        self.assertEqual((ran.returncode, ran.stderr), (0, b""))
+
+    def test_a_file_that_is_in_the_manifest_alone(self):
+        self.put("letter", b"letter")
+        self.answer("pack", "letter", "--deal", "deal", "--number", 7)
+        self.path("letter").unlink()
+        error = self.failed(IO, "prove", "deal", "letter", "-o", "proof")
+        self.assertTrue(error.endswith("; the manifest has it: vizhuthamen extract deal letter\n"), error)
+        self.assertNotIn("manifest", self.failed(IO, "prove", "deal", "other", "-o", "proof"))
+        self.answer("extract", "deal", "letter")
+        self.answer("prove", "deal", "letter", "-o", "proof")
+
+    def test_a_record_for_a_proof_and_a_proof_for_a_record(self):
+        deal, kept = self.house()
+        members = self.proved(deal, kept)
+        self.put("record", bytes.fromhex(members["record"]))
+        error = self.failed(DATA, "verify", "record", "certificate.pdf")
+        self.assertIn("it is an inclusion record, which is checked by: vizhuthamen check COMMITMENT SIZE record --number N", error)
+        said = "it is a proof file and no record: whether it holds is said by: vizhuthamen verify PROOF FILE"
+        self.assertIn(said, self.refused(3, "check", members["deal_commitment"], 1 << 20, "proof", *GIVEN))
+        self.assertIn(said, self.refused(3, "settle-deal", "deal", "proof"))
+        self.assertIn(said, self.refused(3, "settle", members["deal_commitment"], 1 << 20, "record", "proof", *GIVEN))
+
     def test_a_proof_is_written_whole_or_not_at_all(self):
         self.house(files={"128": 128})
         before = self.files()

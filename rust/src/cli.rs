@@ -43,7 +43,7 @@ pub fn run(words: Vec<OsString>) -> ExitCode {
     let form = Form { json, command };
     ExitCode::from(match request.and_then(|request| outcome(request, json)) {
         Ok(Outcome { answer, raw }) => report(&answer, form, raw),
-        Err(failure) => fail(&failure, form),
+        Err(failure) => fail(&failure.in_call(command), form),
     })
 }
 

@@ -101,6 +101,16 @@ pub struct Packing {
     pub access: Access,
 }
 
+/// What is closed, and where its records and proofs go.
+#[derive(Debug, PartialEq, Eq)]
+pub struct Closing {
+    pub deal: Stream,
+    pub records: Option<PathBuf>,
+    pub proofs: Option<PathBuf>,
+    pub force: bool,
+    pub wait: bool,
+}
+
 /// What is extracted, and where to.
 #[derive(Debug, PartialEq, Eq)]
 pub struct Extracting {
@@ -123,7 +133,7 @@ pub enum Command {
     Owner { deal: Stream, give: Option<Give>, wait: bool },
     Pack(Packing),
     Extract(Extracting),
-    Close { deal: Stream, records: Option<PathBuf>, force: bool, wait: bool },
+    Close(Closing),
     Book(ToBook),
     Cancel { deal: Stream, at: At, house: Option<u64>, commitment: Option<Vec<u8>>, reopen: bool, access: Access },
     Collect { deal: Stream, new: Stream, number: Option<u64>, force: bool, wait: bool },
@@ -513,12 +523,13 @@ fn operands_of(name: &str, words: &[OsString], options: &Options) -> Result<Comm
             force: options.has("force"),
             wait: options.wait(),
         }),
-        ("close", [deal]) => Command::Close {
+        ("close", [deal]) => Command::Close(Closing {
             deal: stream(deal)?,
             records: options.folder("records")?,
+            proofs: options.folder("proofs")?,
             force: options.has("force"),
             wait: options.wait(),
-        },
+        }),
         ("cancel", [deal, place @ ..]) => Command::Cancel {
             deal: stream(deal)?,
             at: options.needed_at(place.first())?,
@@ -610,7 +621,7 @@ fn standard_inputs(command: &Command) -> usize {
         Command::Book(book) => &[&book.deal, &book.segment],
         Command::Pack(packing) => &[&packing.deal],
         Command::Extract(extracting) => &[&extracting.deal],
-        Command::Close { deal, .. } => &[deal],
+        Command::Close(Closing { deal, .. }) => &[deal],
         Command::Cancel { deal, .. } | Command::Collect { deal, .. } => &[deal],
         Command::List { deal } | Command::Tally { deal } => &[deal],
         Command::Find { deal, .. } | Command::Build { deal, .. } => &[deal],
@@ -870,8 +881,9 @@ mod tests {
         };
         assert_eq!(parsed("extract d"), run(extract(&[], ".")));
         assert_eq!(parsed("extract d x --to f y"), run(extract(&["x", "y"], "f")));
-        let close = Command::Close { deal: file("d"), records: Some(path("r")), force: false, wait: false };
-        assert_eq!(parsed("close d --records r --no-wait"), run(close));
+        let (records, proofs) = (Some(path("r")), Some(path("p")));
+        let close = Command::Close(Closing { deal: file("d"), records, proofs, force: false, wait: false });
+        assert_eq!(parsed("close d --records r --proofs p --no-wait"), run(close));
     }
 
     #[test]
@@ -911,20 +923,20 @@ mod tests {
     #[test]
     fn what_may_have_been_meant() {
         let cases = [
-            ("bok d s", "no such command: bok; did you mean: book; see"),
-            ("help comit", "no such command: comit; did you mean: commit; see"),
-            ("sh r", "no such command: sh; did you mean: show; see"),
-            ("build d 256 --ouput f", "no such option: --ouput; did you mean: --output; see"),
-            ("build d 256 --out=f", "no such option: --out=f; did you mean: --output; see"),
-            ("build d 256 -output f", "no such option: -output; did you mean: --output; see"),
-            ("list d --ouput f", "no such option: --ouput; see"),
-            ("--ouput f", "no such option: --ouput; did you mean: --output; see"),
-            ("list d --jsn", "no such option: --jsn; did you mean: --json; see"),
-            ("completions bahs", "no completions for: bahs; did you mean: bash; the shells are bash, zsh, fish; see"),
-            ("quite-another", "no such command: quite-another; see"),
+            ("bok d s", "no such command: bok; did you mean: book"),
+            ("help comit", "no such command: comit; did you mean: commit"),
+            ("sh r", "no such command: sh; did you mean: show"),
+            ("build d 256 --ouput f", "no such option: --ouput; did you mean: --output"),
+            ("build d 256 --out=f", "no such option: --out=f; did you mean: --output"),
+            ("build d 256 -output f", "no such option: -output; did you mean: --output"),
+            ("list d --ouput f", "no such option: --ouput"),
+            ("--ouput f", "no such option: --ouput; did you mean: --output"),
+            ("list d --jsn", "no such option: --jsn; did you mean: --json"),
+            ("completions bahs", "no completions for: bahs; did you mean: bash; the shells are bash, zsh, fish"),
+            ("quite-another", "no such command: quite-another"),
         ];
         for (line, text) in cases {
-            assert_eq!(parsed(line).unwrap_err().line(), format!("{text}: vizhuthamen --help"), "{line}");
+            assert_eq!(parsed(line).unwrap_err().line(), text, "{line}");
         }
     }
 
@@ -1116,7 +1128,7 @@ mod tests {
         assert!(parse(vec!["find".into(), "d".into(), odd.clone()]).is_err());
         assert!(parse(vec!["completions".into(), odd.clone()]).is_err());
         let option = OsStr::from_bytes(b"--ou\xffput").to_os_string();
-        let message = "no such option: --ou\\xffput; see: vizhuthamen --help";
+        let message = "no such option: --ou\\xffput";
         assert_eq!(parse(vec!["find".into(), option]).unwrap_err().line(), message);
     }
 }

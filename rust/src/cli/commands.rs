@@ -48,7 +48,7 @@ pub fn run(command: Command) -> Result<Answer, Failure> {
         Command::Owner { deal, give: Some(give), wait } => owner::give(&deal, &give, wait),
         Command::Pack(packing) => pack::pack(&packing),
         Command::Extract(extracting) => extract::extract(&extracting),
-        Command::Close { deal, records, force, wait } => close::close(&deal, records.as_deref(), force, wait),
+        Command::Close(closing) => close::close(&closing),
         Command::Book(booking) => book::book(&booking),
         Command::Cancel { deal, at, house, commitment, reopen, access } => {
             cancel::cancel(&deal, at, house, commitment.as_deref(), reopen, access)

@@ -49,21 +49,24 @@ impl Failure {
         }
     }
 
-    /// All that can be done: with a wrong call, reading the help last of all.
-    fn all_hints(&self) -> Vec<String> {
-        let help = (self.status == USAGE).then(|| "see: vizhuthamen --help".to_string());
-        self.hints.iter().cloned().chain(help).collect()
+    /// Adds to a wrong call of a command, if it names one, that reading the help can be done, last of all.
+    pub fn in_call(self, command: Option<&str>) -> Failure {
+        match self.status {
+            USAGE => self
+                .hint(format!("see: vizhuthamen {}--help", command.map(|c| c.to_string() + " ").unwrap_or_default())),
+            _ => self,
+        }
     }
 
     /// All of it on one line.
     pub fn line(&self) -> String {
-        [vec![self.message.clone()], self.all_hints()].concat().join("; ")
+        [vec![self.message.clone()], self.hints.clone()].concat().join("; ")
     }
 
     /// One JSON object and a newline.
     pub fn to_json(&self, command: Option<&str>) -> String {
         let error = vec![("error", Json::Text(self.message.clone()))];
-        json::outcome(u32::from(self.status), meaning(self.status), command, error, &self.all_hints())
+        json::outcome(u32::from(self.status), meaning(self.status), command, error, &self.hints)
     }
 }
 
@@ -103,14 +106,15 @@ mod tests {
 
     #[test]
     fn hints_stand_after_the_message_and_in_a_list() {
-        let failure = usage("no such command: bok").meant(&["book".to_string()]);
+        let failure = usage("no such command: bok").meant(&["book".to_string()]).in_call(None);
         assert_eq!(failure.line(), "no such command: bok; did you mean: book; see: vizhuthamen --help");
         assert_eq!(
             failure.to_json(None),
             "{\"code\":64,\"meaning\":\"wrong usage\",\"command\":null,\"error\":\"no such command: bok\",\
              \"hints\":[\"did you mean: book\",\"see: vizhuthamen --help\"]}\n"
         );
-        assert_eq!(io("cannot").line(), "cannot");
+        assert_eq!(usage("x").in_call(Some("book")).line(), "x; see: vizhuthamen book --help");
+        assert_eq!(io("cannot").in_call(Some("book")).line(), "cannot");
         assert_eq!(
             busy("busy").to_json(Some("book")),
             "{\"code\":75,\"meaning\":\"another process works on the deal\",\"command\":\"book\",\"error\":\"busy\",\

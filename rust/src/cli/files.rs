@@ -526,12 +526,17 @@ mod tests {
         assert_eq!(fs::read(folder.join("deal.owners")).unwrap(), [0; 4]);
         assert_eq!(names(&folder), ["deal", "deal.owners", "deal.vz"]);
         fs::write(&path, b"kept").unwrap();
-        assert_eq!(create(512, Some(7)).unwrap_err().status, 74);
-        // What lies beside it is another deal's.
-        for (size, number) in [(1024, Some(7)), (512, Some(8)), (512, None)] {
-            assert_eq!(create(size, number).unwrap_err().status, 65);
+        let others = [(1024, Some(7)), (512, Some(8)), (512, None)];
+        for (size, number) in [(512, Some(7))].into_iter().chain(others) {
+            assert_eq!(create(size, number).unwrap_err().status, 74);
         }
         assert_eq!(fs::read(&path).unwrap(), b"kept");
+        // What lies there without it is another deal's.
+        fs::remove_file(&path).unwrap();
+        for (size, number) in others {
+            assert_eq!(create(size, number).unwrap_err().status, 65);
+        }
+        assert_eq!(names(&folder), ["deal.owners", "deal.vz"]);
     }
 
     #[test]

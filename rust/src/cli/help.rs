@@ -30,7 +30,11 @@ pub struct Choice {
 pub const OPTIONS: &[Choice] = &[
     Choice { name: "output", value: "FILE", summary: "write to FILE, which must not be there yet (also -o)" },
     Choice { name: "house", value: "HOUSE", summary: "the house that books, packs or cancels, 1 or 2" },
-    Choice { name: "force", value: "", summary: "replace FILE; go on where a slot is damaged or does not stand" },
+    Choice {
+        name: "force",
+        value: "",
+        summary: "replace files that are there; of book and collect: go on where a slot is damaged",
+    },
     Choice { name: "no-wait", value: "", summary: "do not wait where another process works on the deal" },
     Choice { name: "new-owner", value: "", summary: "let the deal be the caller's where its owner cannot be kept" },
     Choice { name: "segment", value: "FILE", summary: "a segment: the one in hand, or the one that is proved" },
@@ -39,6 +43,7 @@ pub const OPTIONS: &[Choice] = &[
     Choice { name: "place", value: "PLACE", summary: "the entry place that is meant" },
     Choice { name: "deal", value: "DEAL", summary: "the deal file that files are packed into" },
     Choice { name: "records", value: "FOLDER", summary: "write the records of all files with names into FOLDER" },
+    Choice { name: "proofs", value: "FOLDER", summary: "write the proofs of all files with names into FOLDER" },
     Choice { name: "to", value: "FOLDER", summary: "write files below FOLDER and not below the current folder" },
     Choice { name: "reopen", value: "", summary: "change a deal that is closed, and open it again" },
     Choice { name: "slot", value: "N", summary: "the slot by its number from 0 on, in place of its entry place" },
@@ -243,16 +248,18 @@ and it is said.",
     Topic {
         name: "close",
         operands: &["DEAL"],
-        options: &["records", "force", "no-wait"],
-        summary: "close a deal: its records are built from now on",
+        options: &["records", "proofs", "force", "no-wait"],
+        summary: "close a deal: its records and proofs are built from now on",
         text: "Keeps in DEAL.vz that DEAL is closed, with its commitment, and prints commitment, size, number and the
 number of its entries. Every booking and every cancellation gives the deal another commitment, and all records that
 were built belong to the one before: from now on `book`, `cancel` and `pack` refuse DEAL (exit status 65) without
 --reopen, which opens it again with that change. DEAL itself is not written. `list` and `fsck` say that it is closed,
 and `fsck` whether it still has that commitment. A deal that `collect` makes of it is another one, and open.
 
-With --records FOLDER the records of all files of the manifest are written as by `pack`. Closing a closed deal again
-writes them anew, and changes nothing else.",
+With --records FOLDER the records of all files of the manifest are written as by `pack`; with --proofs FOLDER their
+proofs, to NAME.proof in FOLDER, as by `prove`. A file whose bytes in DEAL are not those of the manifest gets none and
+is named (exit status 65; DEAL is closed). The deal's number must be known. Closing a closed deal again writes them
+anew, and changes nothing else.",
     },
     Topic {
         name: "cancel",
@@ -481,6 +488,21 @@ source <(vizhuthamen completions bash)",
     },
 ];
 
+/// The commands by what they are for, in the order in which they are shown.
+pub const GROUPS: &[(&str, &[&str])] = &[
+    ("Files and their proofs", &["pack", "extract", "close", "prove", "verify"]),
+    ("Records", &["build", "check", "settle", "settle-deal", "show"]),
+    ("Deals and segments", &["new", "number", "owner", "book", "cancel", "collect", "list", "tally", "find"]),
+    ("Deals that are damaged", &["fsck", "repair", "salvage"]),
+    ("Bytes", &["commit", "stream", "pad", "unpad"]),
+    ("This program", &["help", "completions"]),
+];
+
+/// The commands of a group.
+pub fn of_group(names: &'static [&'static str]) -> impl Iterator<Item = &'static Topic> {
+    names.iter().filter_map(|name| topic(name))
+}
+
 /// What the program is, in a line.
 pub const ABOUT: &str = "deals, segments and inclusion records (FRC-0058), by a proved library";
 
@@ -526,11 +548,13 @@ pub fn version() -> String {
 
 /// The help of the whole program.
 pub fn overall() -> String {
-    let mut text = format!("vizhuthamen: {ABOUT}\n\nUsage: vizhuthamen COMMAND [OPTIONS] ...\n\nCommands:\n");
-    for topic in TOPICS {
-        text.push_str(&format!("  {:<48} {}\n", operands(topic), topic.summary));
+    let mut text = format!("vizhuthamen: {ABOUT}\n\nUsage: vizhuthamen COMMAND [OPTIONS] ...\n\n");
+    for (heading, names) in GROUPS {
+        text.push_str(&format!("{heading}:\n"));
+        of_group(names).for_each(|topic| text.push_str(&format!("  {:<48} {}\n", operands(topic), topic.summary)));
+        text.push('\n');
     }
-    text + "\n" + &conventions() + &part(&JSON) + &options(|_| true)
+    text + &conventions() + &part(&JSON) + &options(|_| true)
 }
 
 /// The help of one command.
@@ -601,4 +625,18 @@ pub fn call(topic: &Topic) -> String {
         _ => " [OPTIONS]".to_string(),
     };
     operands(topic) + &options
+}
+
+#[cfg(test)]
+mod tests {
+    use super::*;
+
+    #[test]
+    fn every_command_stands_in_one_group() {
+        let mut grouped: Vec<&str> = GROUPS.iter().flat_map(|(_, names)| names.iter().copied()).collect();
+        let mut names: Vec<&str> = TOPICS.iter().map(|topic| topic.name).collect();
+        grouped.sort();
+        names.sort();
+        assert_eq!(grouped, names);
+    }
 }

@@ -1,5 +1,5 @@
 //! The man page of the program (section 1, roff), made of the table of commands.
-use super::help::{self, Choice, Topic, ABOUT, CONVENTIONS, GENERAL, JSON, OPTIONS, TOPICS};
+use super::help::{self, Choice, Topic, ABOUT, CONVENTIONS, GENERAL, GROUPS, JSON, OPTIONS, TOPICS};
 
 /// When the texts were changed last.
 const DATE: &str = "2026-11-16";
@@ -10,14 +10,16 @@ const FILES: &str =
   DEAL.manifest.json  the names of the files that were packed into DEAL, with their lengths, digests and places.
   DEAL.before-repair  the deal as it was before `repair` changed it.";
 
-const EXAMPLES: &str = "A raw archive is padded and booked, and its inclusion record is built and checked:";
+const EXAMPLES: &str =
+    "A house packs a folder into a deal with the number 5801 and closes it, which prints the deal's \
+commitment and size;
+it proves that one of the files is in the deal. Whoever has the file, the proof and what was printed verifies it:";
 
-const CALLS: [&str; 5] = [
-    "vizhuthamen new deal 1048576 --number 5801",
-    "vizhuthamen pad archive --output segment",
-    "vizhuthamen book deal segment",
-    "vizhuthamen build deal --slot 0 --output record",
-    "vizhuthamen check $(vizhuthamen commit deal) 1048576 record --number 5801",
+const CALLS: [&str; 4] = [
+    "vizhuthamen pack certificates --deal deal --number 5801",
+    "vizhuthamen close deal",
+    "vizhuthamen prove deal certificates/58.txt --output 58.proof",
+    "vizhuthamen verify 58.proof 58.txt --commitment COMMITMENT --size SIZE --number 5801",
 ];
 
 /// The whole page.
@@ -26,8 +28,10 @@ pub fn page() -> String {
     let mut page = format!(".TH VIZHUTHAMEN 1 \"{DATE}\" \"vizhuthamen {version}\" \"User Commands\"\n");
     page.push_str(&format!(".SH NAME\nvizhuthamen \\- {}\n", escaped(ABOUT)));
     page.push_str(".SH SYNOPSIS\n.B vizhuthamen\n.I COMMAND\n[\\fIOPTIONS\\fR] ...\n");
-    page.push_str(".SH COMMANDS\n");
-    TOPICS.iter().for_each(|topic| page.push_str(&command(topic)));
+    for (heading, names) in GROUPS {
+        page.push_str(&format!(".SH COMMANDS: {}\n", heading.to_uppercase()));
+        help::of_group(names).for_each(|topic| page.push_str(&command(topic)));
+    }
     page.push_str(".SH OPTIONS\n");
     OPTIONS.iter().chain(GENERAL).for_each(|choice| page.push_str(&option(choice)));
     CONVENTIONS.iter().for_each(|(heading, text)| page.push_str(&section(heading, text)));

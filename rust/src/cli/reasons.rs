@@ -1,4 +1,5 @@
 //! Why the check refuses a record, in words for whoever has to judge it.
+use super::proof::Proof;
 use vizhuthamen::{Field, Node, Refusal};
 
 /// The size and the number of the deal that a record is checked for.
@@ -55,6 +56,9 @@ pub fn reason(refusal: Refusal, terms: &Terms, record: &[u8]) -> String {
     match (of_any(refusal, terms), Named::read(record)) {
         (Some(reason), _) => reason,
         (None, Some(named)) => of_this(refusal, terms, &named),
+        (None, None) if Proof::parse(record).is_ok() => {
+            "it is a proof file and no record: whether it holds is said by: vizhuthamen verify PROOF FILE".to_string()
+        }
         (None, None) => {
             "its bytes are not the fields of a record: it was cut, or is damaged, or is another kind of file"
                 .to_string()

@@ -2,8 +2,8 @@
 
 /// The names that a word may have meant: those that it begins, or else those that the fewest slips turn it into, where
 /// these are few for its length. None where no name is near.
-pub fn near(word: &str, names: impl IntoIterator<Item = &'static str>) -> Vec<&'static str> {
-    let names: Vec<&'static str> = names.into_iter().collect();
+pub fn near<'n>(word: &str, names: impl IntoIterator<Item = &'n str>) -> Vec<&'n str> {
+    let names: Vec<&str> = names.into_iter().collect();
     let begun: Vec<_> = names.iter().copied().filter(|name| word.len() > 1 && name.starts_with(word)).collect();
     if !begun.is_empty() {
         return begun;

@@ -8,6 +8,7 @@ use super::super::json::Json;
 use super::super::manifest::{Listed, Manifest, Name};
 use super::super::progress::Progress;
 use super::super::store::names::shown;
+use super::super::suggest;
 use super::super::survey::{self, Slot};
 use super::{fsck, path_of, refused, text};
 use std::ffi::OsString;
@@ -48,6 +49,7 @@ fn chosen<'m>(manifest: &'m Manifest, words: &[OsString]) -> Result<Vec<(&'m Nam
     for word in words.iter().map(|word| Name(word.as_bytes().to_vec())) {
         if !all().any(|(name, _)| is_of(name, &word)) {
             return Err(failure::data(format!("the manifest has no file {}; nothing is written", word.shown()))
+                .meant(&near(manifest, &word))
                 .hint("without names all files are written"));
         }
     }
@@ -56,6 +58,16 @@ fn chosen<'m>(manifest: &'m Manifest, words: &[OsString]) -> Result<Vec<(&'m Nam
     let mut chosen: Vec<(&Name, &Listed)> = all().filter(|(name, _)| wanted(name)).collect();
     chosen.sort_by_key(|(name, _)| *name);
     Ok(chosen)
+}
+
+/// The names of files that a word may have meant, as far as they are texts: those in some folder, or else near ones.
+fn near(manifest: &Manifest, word: &Name) -> Vec<String> {
+    let text = |name: &Name| String::from_utf8(name.0.clone()).ok();
+    let names: Vec<String> = manifest.files.iter().flat_map(|file| file.names.iter().filter_map(text)).collect();
+    let (names, word) = (names.iter().map(String::as_str), text(word).unwrap_or_default());
+    let below: Vec<&str> = names.clone().filter(|name| name.ends_with(&format!("/{word}"))).collect();
+    let near = if below.is_empty() { suggest::near(&word, names) } else { below };
+    near.into_iter().take(3).map(shown).collect()
 }
 
 /// Whether a name is a word, or lies below it.
@@ -85,7 +97,7 @@ fn outputs<'m>(
 }
 
 /// The plain bytes of a file, which are those that its entry and the manifest say, or why they are not.
-fn raw(deal: &[u8], slots: &[Slot], file: &Listed) -> Result<Vec<u8>, &'static str> {
+pub fn raw(deal: &[u8], slots: &[Slot], file: &Listed) -> Result<Vec<u8>, &'static str> {
     let slot = slots.iter().find(|slot| slot.place == file.place);
     let entry = match slot.and_then(Slot::kept) {
         Some(entry) if entry == file.entry => entry,

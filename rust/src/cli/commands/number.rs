@@ -4,7 +4,7 @@ use super::super::args::{SetNumber, Stream};
 use super::super::failure::{self, Failure};
 use super::super::files::{self, Content};
 use super::super::json::Json;
-use super::super::store::{Access, DealFile};
+use super::super::store::{Access, DealFile, Known};
 use super::super::survey;
 use super::{path_of, refused, text};
 use vizhuthamen::Refusal;
@@ -52,9 +52,15 @@ pub fn keep(deal: &Stream, set: SetNumber, wait: bool) -> Result<Answer, Failure
 /// Reads a deal, and chooses its number for a record: the kept one, or the given one where none is kept. The two must
 /// not differ.
 pub fn read_with_number(deal: &Stream, given: Option<u64>) -> Result<(Content, u64), Failure> {
-    let (content, kept) = files::read_numbered(deal)?;
+    read_with_known(deal, given).map(|(content, number, _)| (content, number))
+}
+
+/// The same, with all that is known of the deal.
+pub fn read_with_known(deal: &Stream, given: Option<u64>) -> Result<(Content, u64, Option<Known>), Failure> {
+    let (content, known) = files::read_known(deal)?;
+    let kept = known.as_ref().and_then(|known| known.number);
     match agreed(given, kept, &content.name)? {
-        Some(number) => Ok((content, number)),
+        Some(number) => Ok((content, number, known)),
         None => Err(unknown(&content.name, matches!(deal, Stream::File(_)))),
     }
 }

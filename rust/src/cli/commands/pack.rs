@@ -15,6 +15,7 @@ use super::super::store::{self, Attributes, DealFile, NewDeal};
 use super::super::survey;
 use super::super::table::{table, Column};
 use super::house::Housed;
+use super::records::Filled;
 use super::unfit::{self, listed, Unfit};
 use super::{book, fsck, number, path_of, records, refused, text};
 use std::fs;
@@ -211,7 +212,10 @@ impl Done {
         }
         files.sort_by_key(|(_, file)| file.place);
         let built = match (&packing.records, number) {
-            (Some(folder), Some(number)) => records::build(folder, &plan.bytes, &plan.tree, number, &manifest)?,
+            (Some(folder), Some(number)) => {
+                let (deal, tree, manifest) = (&plan.bytes[..], &plan.tree[..], &manifest);
+                records::build(folder, &Filled { deal, tree, number, manifest })?
+            }
             _ => records::Built::default(),
         };
         below::judge(&built.outputs, packing.force)?;
@@ -220,7 +224,8 @@ impl Done {
             deal.replace(&plan.bytes, Some(&housed.table), vec![deal.manifest(&manifest.text())?])?;
         }
         below::write(&built.outputs, packing.force).map_err(|failure| written_but(failure, deal))?;
-        let notes = [renewed.told.iter().map(|told| format!("the manifest: {told}")).collect(), built.notes].concat();
+        let told = renewed.told.iter().map(|told| format!("the manifest: {told}"));
+        let notes = told.chain(built.lines()).collect();
         Ok(Done { files, commitment: root(&plan.tree), number, notes, changed })
     }
 

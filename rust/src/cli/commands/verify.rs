@@ -6,6 +6,7 @@ use super::super::files::{self, Content};
 use super::super::json::Json;
 use super::super::judge::{self, Given, No};
 use super::super::proof::{Facts, Padding, Proof};
+use super::super::reasons::Named;
 use super::text;
 
 /// Says whether a proof proves that a file is in a deal. Nothing of the house is needed.
@@ -24,9 +25,13 @@ pub fn verify(proof: &Stream, file: &Stream, given: &Given) -> Result<Answer, Fa
 /// A file that cannot be read as a proof. The two operands may stand the wrong way round.
 fn not_a_proof(why: &str, read: &Content, file: &Content) -> Failure {
     let failure = failure::data(format!("{} is not a proof file, or is damaged: {why}", read.name));
-    match Proof::parse(&file.bytes) {
-        Ok(_) => failure.hint(format!("{} is one: the proof comes first, and then the file", file.name)),
-        Err(_) => failure,
+    match (Proof::parse(&file.bytes), Named::read(&read.bytes)) {
+        (Ok(_), _) => failure.hint(format!("{} is one: the proof comes first, and then the file", file.name)),
+        (_, Some(_)) => failure.hint(format!(
+            "it is an inclusion record, which is checked by: vizhuthamen check COMMITMENT SIZE {} --number N",
+            read.operand()
+        )),
+        _ => failure,
     }
 }
 

@@ -38,8 +38,8 @@ pub struct NewDeal<'a> {
 pub fn create(given: &Path, new: &NewDeal, attributes: Attributes) -> Result<Option<String>, Failure> {
     let (name, home) = (shown(given), Home::of(given));
     let known = Known::new(new.fill.length(), new.number);
-    let lies_there = sidecar::lies_beside(given, &known)?;
     is_new(given)?;
+    let lies_there = sidecar::lies_beside(given, &known)?;
     // Whoever opens the new deal next would end the change that the journal names, over the new deal.
     if is_there(&home.journal()).map_err(|why| cannot(given, &why))? {
         let journal = shown(home.journal());
