@@ -708,7 +708,7 @@ class Houses(Calls):
             for words in (("book", "deal", "segment"), ("book", "deal", "short"), ("cancel", "deal", 768), ("cancel", "deal", 1)):
                 for house in ((), ("--house", 1), ("--house", 2)):
                     hint = self.refused(23, *words, *house).splitlines()[1]
-                    self.assertIn(f"/deal.owners has {length} bytes, and deal has 4 slots, with a byte each; bring back the right "
+                    self.assertIn(f"deal.owners has {length} bytes, and deal has 4 slots, with a byte each; bring back the right "
                                   "table, or remove it and say whose the entries are: vizhuthamen owner deal HOUSE [PLACE...]", hint)
             value = self.object("cancel", "deal", 768, status=23)
             self.assertEqual((value["house"], value["refused"], value["hint"]), (1, ["table"], hint))
@@ -723,13 +723,17 @@ class Houses(Calls):
         self.path("deal.owners").unlink()
         for words in (("book", "deal", "segment"), ("book", "deal", "segment", "--house", 2), ("cancel", "deal", 768)):
             error = self.failed(DATA, *words)
-            for part in ("/deal.owners is not there, and 2 entries stand in deal: whose is not known", "copy that table too",
+            for part in ("vizhuthamen: deal.owners is not there, and 2 entries stand in deal: whose is not known", "copy that table too",
                          "vizhuthamen owner deal HOUSE [PLACE...] (0 for nobody)", "nothing is changed"):
                 self.assertIn(part, error)
         self.assertEqual((self.get("deal"), self.files()), (deal, ["deal", "segment"]))
         out, err = self.call("list", "deal")
         self.assertEqual([line.split()[3] for line in out.splitlines()[1:]], ["?", "?", "-", "-"])
-        self.assertIn("/deal.owners is not there", err)
+        self.assertIn("vizhuthamen: deal.owners is not there", err)
+        # From another folder the whole name is told.
+        for folder in ("/", "/usr"):
+            elsewhere = subprocess.run([self.program, "list", self.path("deal")], cwd=folder, capture_output=True)
+            self.assertIn(f"vizhuthamen: {self.path('deal.owners').resolve()} is not there", elsewhere.stderr.decode())
         self.assertEqual(self.object("list", "deal")["table"], "missing")
         # Where nothing stands, the first booking makes it.
         bare = bytearray(deal)
@@ -1525,7 +1529,7 @@ class Usage(Calls):
                       "verify PROOF FILE [--commitment COMMITMENT] [--number N] [--size SIZE]",
                       "pack FILE... --deal DEAL [OPTIONS]",
                       "extract DEAL [NAME...] [--force] [--no-wait] [--to FOLDER]",
-                      "close DEAL [--force] [--no-wait] [--records FOLDER]",
+                      "close DEAL [OPTIONS]",
                       "stream [--raw] FILE [--state FILE] [--resume] [--progress]"):
             first = self.answer(usage.split()[0], "--help").splitlines()[0]
             self.assertEqual(first, f"Usage: vizhuthamen {usage} [--json]")

@@ -5,7 +5,7 @@
 //! of each plain file. `Manifest::renewed` brings it up to date with a deal that was changed without it.
 use super::failure::{self, Failure};
 use super::json::Json;
-use super::store::names::{shown, Home};
+use super::store::names::{near, shown, Home};
 use super::survey::{self, Slot};
 use super::values::{self, Value};
 use std::ffi::OsStr;
@@ -225,11 +225,11 @@ pub fn read(deal: &Path) -> Result<Option<Manifest>, Failure> {
     let path = Home::of(deal).manifest();
     let text = match fs::read(&path) {
         Err(error) if matches!(error.kind(), ErrorKind::NotFound | ErrorKind::InvalidFilename) => return Ok(None),
-        Err(error) => return Err(failure::io(format!("cannot read {}: {error}", shown(&path)))),
+        Err(error) => return Err(failure::io(format!("cannot read {}: {error}", near(&path)))),
         Ok(text) => text,
     };
     Manifest::parse(&text).map(Some).map_err(|why| {
-        failure::data(format!("{} cannot be understood: {why}", shown(&path)))
+        failure::data(format!("{} cannot be understood: {why}", near(&path)))
             .hint("bring it back, or move it away and pack the files again, which books nothing twice and lists them")
     })
 }

@@ -1,7 +1,7 @@
 //! Whose the entries of a deal are, by the table that lies beside it.
 use super::failure::{self, Failure};
 use super::json::Json;
-use super::store::names::{shown, Home};
+use super::store::names::{near, Home};
 use super::store::OwnerTable;
 use super::survey::{Slot, State};
 
@@ -75,11 +75,11 @@ pub enum Owners {
 impl Owners {
     /// The owners of a deal that has so many slots, by what lies beside it.
     pub fn of(home: &Home, table: Option<&OwnerTable>, slots: usize) -> Owners {
-        let file = shown(home.table());
+        let file = || near(home.table());
         match table {
-            None => Owners::Missing { file },
+            None => Owners::Missing { file: file() },
             Some(table) if table.bytes.len() == slots => Owners::Whole { bytes: table.bytes.clone() },
-            Some(table) => Owners::WrongLength { file, length: table.length() },
+            Some(table) => Owners::WrongLength { file: file(), length: table.length() },
         }
     }
 

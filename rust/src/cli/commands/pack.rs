@@ -10,7 +10,7 @@ use super::super::json::Json;
 use super::super::manifest::{self, Listed, Manifest};
 use super::super::progress::Steps;
 use super::super::store::aside::Fill;
-use super::super::store::names::{shown, Home};
+use super::super::store::names::{near, shown};
 use super::super::store::{self, Attributes, DealFile, NewDeal};
 use super::super::survey;
 use super::super::table::{table, Column};
@@ -18,8 +18,7 @@ use super::house::Housed;
 use super::records::Filled;
 use super::unfit::{self, listed, Unfit};
 use super::{book, fsck, number, path_of, records, refused, text};
-use std::fs;
-use std::path::{Path, PathBuf};
+use std::path::Path;
 use vizhuthamen::{Booking, Entry, Node, Position, ReadEntry, Refusal, MAX_DEAL};
 
 /// Packs files and folders.
@@ -254,20 +253,9 @@ impl Done {
         answer = self.number.into_iter().fold(answer, |a, number| a.with_value("number", Json::Number(number)));
         answer = answer
             .with_value("commitment", text(self.commitment))
-            .with_value("manifest", fsck::file_name(&near(deal, packing)));
+            .with_value("manifest", text(near(deal.home().manifest())));
         answer = packing.records.iter().fold(answer, |a, folder| a.with_value("records", fsck::file_name(folder)));
         self.notes.iter().cloned().fold(answer, Answer::with_note)
-    }
-}
-
-/// The manifest by a name like the one that was given for the deal, unless that is a link to a deal elsewhere.
-fn near(deal: &DealFile, packing: &Packing) -> PathBuf {
-    let real = Home::of(deal.path()).manifest();
-    let near = path_of(&packing.deal).map(|given| Home::of(given).manifest());
-    let same = |near: &PathBuf| fs::canonicalize(near).is_ok_and(|path| path == real);
-    match near {
-        Ok(near) if same(&near) => near.strip_prefix("./").map(Path::to_path_buf).unwrap_or(near),
-        _ => real,
     }
 }
 

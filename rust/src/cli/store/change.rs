@@ -1,7 +1,7 @@
 //! Files put in their places: one by a rename, several together or not at all.
 use super::aside::{self, Aside, Fill};
 use super::attributes::{Attributes, Keep};
-use super::names::{shown, Home, MOST_PARTS};
+use super::names::{near, shown, Home, MOST_PARTS};
 use super::signals::Held;
 use super::system;
 use std::ffi::OsStr;
@@ -70,7 +70,7 @@ fn put_together(
     still().map_err(Trouble::Nothing)?;
     // With the journal in place the change is made, whoever ends it; before the first rename it can still be taken back.
     if !journal.make(&home.journal(), held).map_err(Trouble::Nothing)? {
-        return Err(Trouble::Nothing(format!("{} is in the way", shown(home.journal()))));
+        return Err(Trouble::Nothing(format!("{} is in the way", near(home.journal()))));
     }
     let flushed = flush(&home.folder).map_err(|error| not_flushed(&home.folder, &error));
     flushed.and_then(|()| asides[0].rename(&parts[0].target)).map_err(|why| {
@@ -118,12 +118,12 @@ fn parse(text: &[u8]) -> Option<Vec<(usize, Vec<u8>)>> {
 /// Ends a change whose journal is in place. Says whether there was one. The caller holds the lock of the deal.
 pub fn end(home: &Home) -> Result<bool, String> {
     let path = home.journal();
-    let failed = |error: io::Error| format!("an unfinished change of it cannot be ended ({}): {error}", shown(&path));
+    let failed = |error: io::Error| format!("an unfinished change of it cannot be ended ({}): {error}", near(&path));
     let text = match fs::read(&path) {
         Err(error) if error.kind() == ErrorKind::NotFound => return Ok(false),
         text => text.map_err(failed)?,
     };
-    let parts = parse(&text).ok_or_else(|| format!("{} is no journal of this program", shown(&path)))?;
+    let parts = parse(&text).ok_or_else(|| format!("{} is no journal of this program", near(&path)))?;
     for (number, name) in parts {
         let target = home.folder.join(OsStr::from_bytes(&name));
         match system::repeat(|| fs::rename(home.part(number), &target)) {

@@ -8,7 +8,7 @@ use super::attributes::Attributes;
 use super::change::{self, Trouble};
 use super::deal::troubled;
 use super::lock::{self, Share};
-use super::names::{shown, Home};
+use super::names::{near, shown, Home};
 use super::owners::{self, OwnerTable};
 use super::sidecar::{self, Known};
 use super::signals::Held;
@@ -42,7 +42,7 @@ pub fn create(given: &Path, new: &NewDeal, attributes: Attributes) -> Result<Opt
     let lies_there = sidecar::lies_beside(given, &known)?;
     // Whoever opens the new deal next would end the change that the journal names, over the new deal.
     if is_there(&home.journal()).map_err(|why| cannot(given, &why))? {
-        let journal = shown(home.journal());
+        let journal = near(home.journal());
         let why = format!("{journal} was left by a change of an older deal of that name");
         return Err(cannot(given, &why).hint("remove it first"));
     }
@@ -52,7 +52,7 @@ pub fn create(given: &Path, new: &NewDeal, attributes: Attributes) -> Result<Opt
     change::flush(&home.folder)
         .map_err(|error| troubled(Trouble::Made(format!("its folder could not be flushed: {error}")), &name))?;
     let beside = beside_new(&home, (!lies_there).then_some(&known), attributes, deal.file(), &held);
-    let failed = |why| format!("{} could not be written: {why}", shown(home.sidecar()));
+    let failed = |why| format!("{} could not be written: {why}", near(home.sidecar()));
     match (beside.map_err(failed), new.number) {
         (Ok(()), _) => Ok(None),
         (Err(why), None) => Ok(Some(format!("{why}; a cut of {name} will not be noticed"))),
@@ -157,10 +157,10 @@ fn place_manifest<'a>(
     held: &Held,
 ) -> Result<Placed<'a>, Failure> {
     let path = home.manifest();
-    let failed = |why: String| failure::io(format!("cannot write {}: {why}; nothing is done", shown(&path)));
+    let failed = |why: String| failure::io(format!("cannot write {}: {why}; nothing is done", near(&path)));
     let there = match File::open(&path) {
         Err(error) if matches!(error.kind(), ErrorKind::NotFound | ErrorKind::InvalidFilename) => None,
-        file => Some(file.map_err(|error| files::cannot("read", &shown(&path), error))?),
+        file => Some(file.map_err(|error| files::cannot("read", &near(&path), error))?),
     };
     match (there, text) {
         (None, None) => Ok(Placed::Nothing),
@@ -174,8 +174,8 @@ fn place_manifest<'a>(
         (Some(file), Some(text)) if fs::read(&path).is_ok_and(|bytes| bytes == text.as_bytes()) => {
             Ok(Placed::Found { _locked: file })
         }
-        (Some(_), _) => Err(failure::data(format!("{} is there, of an older deal; nothing is done", shown(&path)))
-            .hint(format!("remove {} if nobody needs its names any more", shown(&path)))),
+        (Some(_), _) => Err(failure::data(format!("{} is there, of an older deal; nothing is done", near(&path)))
+            .hint(format!("remove {} if nobody needs its names any more", near(&path)))),
     }
 }
 
@@ -191,7 +191,7 @@ fn lying(home: &Home) -> Result<Lying, String> {
     loop {
         let file = match File::open(&path) {
             Err(error) if error.kind() == ErrorKind::NotFound && !is_there(&path)? => return Ok(Lying::Nothing),
-            file => file.map_err(|error| format!("{} is there and cannot be read: {error}", shown(&path)))?,
+            file => file.map_err(|error| format!("{} is there and cannot be read: {error}", near(&path)))?,
         };
         if !lock::try_take(&file, Share::Nobody).map_err(|error| error.to_string())? {
             return Ok(Lying::InUse);
@@ -209,7 +209,7 @@ fn is_table(home: &Home, bytes: &[u8]) -> Result<bool, Failure> {
 }
 
 fn of_another(home: &Home) -> Failure {
-    let table = shown(home.table());
+    let table = near(home.table());
     failure::data(format!("{table} is there, and is not the table of the new deal; nothing is done"))
         .hint(format!("remove {table} if it is of another deal"))
 }
@@ -217,7 +217,7 @@ fn of_another(home: &Home) -> Failure {
 fn wait(home: &Home, began: Instant, held: &Held) -> Result<(), String> {
     held.go_on().map_err(|error| error.to_string())?;
     if began.elapsed() > PATIENCE {
-        return Err(format!("{} is in use by another process", shown(home.table())));
+        return Err(format!("{} is in use by another process", near(home.table())));
     }
     thread::sleep(Duration::from_millis(5));
     Ok(())

@@ -3,7 +3,7 @@ use super::aside::{is_there, leads_to};
 use super::attributes::Keep;
 use super::change::{self, Part, Trouble};
 use super::lock::{self, Share};
-use super::names::{shown, Home};
+use super::names::{near, shown, Home};
 use super::owners::{with_one_name, NewTable, OwnerTable};
 use super::sidecar::{self, Known};
 use crate::cli::failure::{self, Failure};
@@ -134,7 +134,7 @@ impl DealFile {
         let replaced = table.replaced()?;
         let part = self.table_part(table, replaced.as_ref());
         let still = || self.unchanged().and_then(|()| table.unchanged(&self.home));
-        change::put(&self.home, &[part], still).map_err(|trouble| troubled(trouble, &shown(self.home.table())))
+        change::put(&self.home, &[part], still).map_err(|trouble| troubled(trouble, &near(self.home.table())))
     }
 
     /// The table of the deal's owners, if there is one.
@@ -170,7 +170,7 @@ impl DealFile {
     fn keep_known(&self, next: &Known) -> Result<(), Failure> {
         let old = self.old_sidecar(next)?;
         let part = self.beside(next, old.as_ref().unwrap_or(&self.file));
-        let name = shown(self.home.sidecar());
+        let name = near(self.home.sidecar());
         change::put(&self.home, &[part], || self.unchanged()).map_err(|trouble| troubled(trouble, &name))
     }
 

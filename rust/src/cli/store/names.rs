@@ -1,6 +1,7 @@
 //! Names of files: those beside a file, and those shown in messages.
 use std::ffi::{OsStr, OsString};
 use std::fmt::Write;
+use std::fs;
 use std::os::unix::ffi::OsStrExt;
 use std::path::{Path, PathBuf};
 
@@ -89,6 +90,14 @@ impl Home {
 /// A number of a name, not the same for two names but by rare chance (FNV-1a).
 fn number_of(name: &OsStr) -> u64 {
     name.as_bytes().iter().fold(0xcbf2_9ce4_8422_2325, |n, byte| (n ^ u64::from(*byte)).wrapping_mul(0x100_0000_01b3))
+}
+
+/// The name of a file beside a deal, for messages: from the current folder on where it lies below that.
+pub fn near(path: impl AsRef<Path>) -> String {
+    let path = path.as_ref();
+    let here = fs::canonicalize(".").ok().filter(|here| here != Path::new("/"));
+    let below = here.and_then(|here| path.strip_prefix(here).ok());
+    shown(below.or_else(|| path.strip_prefix(".").ok()).unwrap_or(path))
 }
 
 /// A word or a file name for messages: on one line, and nothing in it that a terminal obeys.

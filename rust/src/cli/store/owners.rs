@@ -1,6 +1,6 @@
 //! The table of a deal's owners: the file `DEAL.owners` beside it, of one byte a slot, exactly the table that the
 //! library is lent. It is changed under the deal's lock, together with the deal or alone, and never in place.
-use super::names::{shown, Home};
+use super::names::{near, Home};
 use crate::cli::failure::{self, Failure};
 use crate::cli::files;
 use std::fs::{self, File, Metadata, OpenOptions};
@@ -39,11 +39,11 @@ impl OwnerTable {
     /// The table beside a deal; none where there is no such file.
     pub fn read(home: &Home) -> Result<Option<OwnerTable>, Failure> {
         let path = home.table();
-        let failed = |error| files::cannot("read", &shown(&path), error);
+        let failed = |error| files::cannot("read", &near(&path), error);
         match fs::metadata(&path) {
             Err(error) if matches!(error.kind(), ErrorKind::NotFound | ErrorKind::InvalidFilename) => return Ok(None),
             Ok(metadata) if !metadata.is_file() => {
-                return Err(failure::io(format!("cannot read {}: it is not a regular file", shown(&path))));
+                return Err(failure::io(format!("cannot read {}: it is not a regular file", near(&path))));
             }
             metadata => metadata.map_err(failed)?,
         };
@@ -61,7 +61,7 @@ impl OwnerTable {
 
     /// Opens the file for being replaced: a regular one with one name that the caller may write.
     fn open(&self) -> Result<File, Failure> {
-        let failed = |error| files::cannot("replace", &shown(&self.path), error);
+        let failed = |error| files::cannot("replace", &near(&self.path), error);
         with_one_name(&self.path)?;
         OpenOptions::new().read(true).write(true).open(&self.path).map_err(failed)
     }
@@ -69,10 +69,10 @@ impl OwnerTable {
 
 /// Refuses to replace a link, or a file that has several names.
 pub fn with_one_name(path: &Path) -> Result<(), Failure> {
-    let metadata = fs::symlink_metadata(path).map_err(|error| files::cannot("replace", &shown(path), error))?;
+    let metadata = fs::symlink_metadata(path).map_err(|error| files::cannot("replace", &near(path), error))?;
     match metadata.is_file() && metadata.nlink() == 1 {
         true => Ok(()),
-        false => Err(failure::io(format!("cannot replace {}: it is a link, or has several names", shown(path)))
+        false => Err(failure::io(format!("cannot replace {}: it is a link, or has several names", near(path)))
             .hint("make it a file of its own first")),
     }
 }
@@ -94,7 +94,7 @@ impl NewTable {
     pub fn unchanged(&self, home: &Home) -> Result<(), String> {
         match identity(&home.table()) == self.old.as_ref().map(|old| identity_of(&old.metadata)) {
             true => Ok(()),
-            false => Err(format!("another program has changed {} in the meantime", shown(home.table()))),
+            false => Err(format!("another program has changed {} in the meantime", near(home.table()))),
         }
     }
 }

@@ -3,7 +3,7 @@
 //! The first line names the form and its version; every other line is a word and its value. Version 1 knows `size`, the
 //! deal's length in bytes, `number`, the deal's number, once it is told, and `closed`, the commitment with which the
 //! deal was closed, as long as it is. Words that are not known are left to later versions, and stay.
-use super::names::{shown, Home};
+use super::names::{near, Home};
 use crate::cli::args::decimal;
 use crate::cli::failure::{self, Failure};
 use std::fs;
@@ -93,11 +93,11 @@ fn read(home: &Home) -> Result<Option<Known>, Failure> {
     let path = home.sidecar();
     let text = match fs::read(&path) {
         Err(error) if matches!(error.kind(), ErrorKind::NotFound | ErrorKind::InvalidFilename) => return Ok(None),
-        Err(error) => return Err(failure::io(format!("cannot read {}: {error}", shown(&path)))),
+        Err(error) => return Err(failure::io(format!("cannot read {}: {error}", near(&path)))),
         Ok(text) => text,
     };
     let failed = |why| {
-        failure::data(format!("{} cannot be understood: {why}", shown(&path))).hint("without it nothing is compared")
+        failure::data(format!("{} cannot be understood: {why}", near(&path))).hint("without it nothing is compared")
     };
     Known::parse(&text).map(Some).map_err(failed)
 }
@@ -108,14 +108,11 @@ pub fn known(deal: &Path, length: u64) -> Result<Option<Known>, Failure> {
     match read(&home)? {
         Some(known) if known.size != length => Err(failure::data(format!(
             "{} has {length} bytes, and {} says that it has {}; nothing is done",
-            shown(deal),
-            shown(home.sidecar()),
+            near(deal),
+            near(home.sidecar()),
             known.size
         ))
-        .hint(format!(
-            "bring back the whole deal, or remove {} if the deal is another one now",
-            shown(home.sidecar())
-        ))),
+        .hint(format!("bring back the whole deal, or remove {} if the deal is another one now", near(home.sidecar())))),
         known => Ok(known),
     }
 }
@@ -140,12 +137,12 @@ pub fn lies_beside(deal: &Path, new: &Known) -> Result<bool, Failure> {
     };
     Err(failure::data(format!(
         "{} is there and says {}, and {} is to have {}; nothing is done",
-        shown(Home::of(deal).sidecar()),
+        near(Home::of(deal).sidecar()),
         said(&there),
-        shown(deal),
+        near(deal),
         said(new)
     ))
-    .hint(format!("remove {} if it is of another deal", shown(Home::of(deal).sidecar()))))
+    .hint(format!("remove {} if it is of another deal", near(Home::of(deal).sidecar()))))
 }
 
 #[cfg(test)]
