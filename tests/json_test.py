@@ -167,7 +167,7 @@ class Answers(Outcomes):
     def test_the_examples_of_the_document(self):
         self.put("deal", bytes(1024))
         self.put("deal.owners", bytes(4))
-        self.put("segment", b"".join(b"%-31.31s\n" % f"archive-a, line {i}".encode() for i in range(1, 9)))  # as in tools/demo
+        self.put("segment", b"".join(b"%-31.31s\n" % f"archive-a, line {i}".encode() for i in range(1, 9)))  # as in docs/EXAMPLES.md
         examples = re.findall(r"^    \$ vizhuthamen (.*)\n    (\{.*\})$", TEXT, re.MULTILINE)
         self.assertEqual(len(examples), 3)
         for words, expected in examples:
