@@ -697,13 +697,13 @@ class Repair(Deals):
             out = self.answer("repair", "deal")
             self.assertIn("made the entry of slot 1 (place 832) anew: offset 256, size 130, commitment", out)
             name = f"deal.before-repair.{i}" if i else "deal.before-repair"
-            self.assertIn(f"/{name}\n", out)
+            self.assertIn(f"\ncopy {name}\n", out)
             self.assertEqual((self.get("deal"), self.get(name)), (deal, spoilt))
             names.append(name)
             self.assertEqual(self.files(), sorted(names))
         # What was copied before is not copied again.
         self.put("deal", spoilt)
-        self.assertIn("/deal.before-repair.2\n", self.answer("repair", "deal"))
+        self.assertIn("copy deal.before-repair.2\n", self.answer("repair", "deal"))
         self.assertEqual(self.files(), sorted(names))
 
     def test_a_sound_deal_stays(self):

@@ -362,7 +362,7 @@ class Faults:
                 status, out, err = self.place.run(scene.words, fault=fault(at, what), plain=plain)
                 here = (scene.name, at, name, what, status, out, err)
                 # A repair that cannot read the table mends the deal, and says what is left.
-                unread = scene.name == "repair" and status == DATA and b"/deal.owners: " in out
+                unread = scene.name == "repair" and status == DATA and b"deal.owners: " in out
                 check(status in (0, IO) or unread, *here)
                 check(status == 0 or unread or err.startswith(b"vizhuthamen: ") and err.count(b"\n") == 1, *here)
                 state = self.place.state()

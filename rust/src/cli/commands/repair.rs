@@ -9,9 +9,10 @@ use super::super::mend::{self, Hand, Mended, Step};
 use super::super::owners::{Owner, Owners};
 use super::super::progress::Progress;
 use super::super::segments;
+use super::super::store::names::near;
 use super::super::store::{Access, DealFile};
 use super::super::survey::{Stray, Survey};
-use super::fsck::{file_name, Wrong};
+use super::fsck::Wrong;
 use super::{pack, path_of, place_in, refused, text};
 use std::path::PathBuf;
 use vizhuthamen::{Entry, Node, Refusal};
@@ -45,7 +46,7 @@ pub fn repair(deal: &Stream, in_hand: Option<&InHand>, at: Option<At>, access: A
     let answer = answer.with_text(lines, vec![("mended", Json::List(steps))]);
     let closed = closed.map(|node| format!("it was closed with the commitment {node}, and has another one now"));
     let answer = notes.into_iter().chain(closed).fold(answer, Answer::with_note);
-    let answer = copy.into_iter().fold(answer, |answer, name| answer.with_value("copy", file_name(&name)).writing());
+    let answer = copy.into_iter().fold(answer, |answer, name| answer.with_value("copy", text(near(name))).writing());
     Ok(wrong.told(answer, &mended.survey))
 }
 
