@@ -43,6 +43,7 @@ def played(block, folder, env, show):
         part += "\n" if part.count("\n") > 1 else ""
         show(part)
         text += part
+    show("" if text.endswith("\n\n") else "\n")
     return text.rstrip("\n") + "\n"
 
 

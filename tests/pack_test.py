@@ -693,7 +693,7 @@ class Closing(Packs):
         calls = ("book", "deal", "segment"), ("cancel", "deal", PLACE), ("pack", "in", "--deal", "deal")
         for words in calls:
             err = self.failed(DATA, *words)
-            self.assertIn(f"deal is closed: records are built for its commitment {commitment}", err)
+            self.assertIn(f"deal is closed: records and proofs are built for its commitment {commitment}", err)
             self.assertIn("--reopen", err)
             self.failed(DATA, *words, "--json")
         self.assertEqual(self.found("."), before)

@@ -2,7 +2,7 @@
 use super::help::{self, Choice, Topic, ABOUT, CONVENTIONS, GENERAL, GROUPS, JSON, OPTIONS, TOPICS};
 
 /// When the texts were changed last.
-const DATE: &str = "2026-11-16";
+const DATE: &str = "2026-11-17";
 
 const FILES: &str =
     "  DEAL.vz  what is known of the deal file DEAL: its size, its number, whether it is closed. It can be done without.

@@ -188,11 +188,11 @@ impl DealFile {
     pub fn open_or(&mut self, reopen: bool) -> Result<(), Failure> {
         match self.closed() {
             Some(node) if !reopen => Err(failure::data(format!(
-                "{} is closed: records are built for its commitment {node}, and any change of the deal makes all of \
-                 them belong to an older one; nothing is changed",
+                "{} is closed: records and proofs are built for its commitment {node}, and any change of the deal would \
+                 make all of them belong to an older one; nothing is changed",
                 self.content.name
             ))
-            .hint("put it into another deal, or give --reopen and build all records anew afterwards")),
+            .hint("put what is new into another deal, or give --reopen, and build all records and proofs anew afterwards")),
             Some(_) => {
                 self.next = self.next.with_closed(None);
                 Ok(())
