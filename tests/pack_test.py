@@ -179,7 +179,8 @@ house 1
 size 2048
 commitment {commitment}
 manifest deal.manifest.json
-""", ""))
+""", "vizhuthamen: no number of deal is kept, and records and proofs need one: vizhuthamen number deal N\n"))
+        self.assertEqual(self.call("pack", "in/long", "--deal", "deal", "--number", 7)[1], "")
         self.assertEqual(self.answer("extract", "deal", "--to", "out"),
                          "out/b (100 bytes)\nout/long (1000 bytes)\nout/sub/c (100 bytes)\n")
 
@@ -519,6 +520,8 @@ class Extracts(Packs):
         self.path("here").mkdir()
         subprocess.run([self.program, "extract", "../deal", "a"], cwd=self.path("here"), check=True, capture_output=True)
         self.assertEqual(self.found("here"), {"a": files["a"]})
+        self.assertEqual(self.answer("extract", "deal", "a"), "a (300 bytes)\n")
+        self.assertEqual(self.object("extract", "deal", "a")["folder"], ".")
 
     def test_files_that_are_there(self):
         files = self.packed()

@@ -111,7 +111,7 @@ pub struct Closing {
     pub wait: bool,
 }
 
-/// What is extracted, and where to.
+/// What is extracted, and where to: no folder is the current one.
 #[derive(Debug, PartialEq, Eq)]
 pub struct Extracting {
     pub deal: Stream,
@@ -519,7 +519,7 @@ fn operands_of(name: &str, words: &[OsString], options: &Options) -> Result<Comm
         ("extract", [deal, names @ ..]) => Command::Extract(Extracting {
             deal: stream(deal)?,
             names: names.to_vec(),
-            folder: options.folder("to")?.unwrap_or_else(|| PathBuf::from(".")),
+            folder: options.folder("to")?.unwrap_or_default(),
             force: options.has("force"),
             wait: options.wait(),
         }),
@@ -879,7 +879,7 @@ mod tests {
             let names = names.iter().map(OsString::from).collect();
             Command::Extract(Extracting { deal: file("d"), names, folder: path(folder), force: false, wait: true })
         };
-        assert_eq!(parsed("extract d"), run(extract(&[], ".")));
+        assert_eq!(parsed("extract d"), run(extract(&[], "")));
         assert_eq!(parsed("extract d x --to f y"), run(extract(&["x", "y"], "f")));
         let (records, proofs) = (Some(path("r")), Some(path("p")));
         let close = Command::Close(Closing { deal: file("d"), records, proofs, force: false, wait: false });

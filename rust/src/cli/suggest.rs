@@ -1,15 +1,16 @@
 //! Which names a word that is none of them may have meant.
 
 /// The names that a word may have meant: those that it begins, or else those that the fewest slips turn it into, where
-/// these are few for its length. None where no name is near.
+/// these are few for its length, and fewer than its characters. None where no name is near.
 pub fn near<'n>(word: &str, names: impl IntoIterator<Item = &'n str>) -> Vec<&'n str> {
     let names: Vec<&str> = names.into_iter().collect();
     let begun: Vec<_> = names.iter().copied().filter(|name| word.len() > 1 && name.starts_with(word)).collect();
     if !begun.is_empty() {
         return begun;
     }
-    let most = (word.chars().count() / 3).clamp(1, 3);
-    let least = names.iter().map(|name| slips(word, name)).min().filter(|least| *least <= most);
+    let length = word.chars().count();
+    let most = (length / 3).clamp(1, 3);
+    let least = names.iter().map(|name| slips(word, name)).min().filter(|least| *least <= most && *least < length);
     names.into_iter().filter(|name| Some(slips(word, name)) == least).collect()
 }
 
@@ -78,5 +79,6 @@ mod tests {
         for (word, near_names) in cases {
             assert_eq!(near(word, names), near_names, "{word}");
         }
+        assert_eq!((near("a", ["b", "ab"]), near("ab", ["b", "cb"])), (vec![], vec!["b", "cb"]));
     }
 }

@@ -32,10 +32,7 @@ pub fn close(closing: &Closing) -> Result<Answer, Failure> {
         "{name} is closed: records and proofs are built from now on, for this commitment; book, cancel and pack refuse it \
          without --reopen"
     ));
-    let numberless = deal
-        .number()
-        .is_none()
-        .then(|| format!("no number of {name} is kept, and records need one: vizhuthamen number {name} N"));
+    let numberless = deal.number().is_none().then(|| number::needed(name));
     Ok(nameless.into_iter().chain(numberless).fold(answer, Answer::with_note))
 }
 

@@ -13,6 +13,7 @@ use super::super::survey::{self, Slot};
 use super::{fsck, path_of, refused, text};
 use std::ffi::OsString;
 use std::os::unix::ffi::OsStrExt;
+use std::path::Path;
 
 /// Writes the files with some names, or all.
 pub fn extract(extracting: &Extracting) -> Result<Answer, Failure> {
@@ -120,8 +121,9 @@ fn told_files(answer: Answer, extracting: &Extracting, outputs: &[Output], left:
         Json::Object(vec![("file", fsck::file_name(&output.path)), ("length", Json::Number(output.bytes.len() as u64))])
     });
     let left = left.iter().map(|(name, why)| Json::Object(vec![("name", name.json()), ("why", text(why))]));
+    let folder = Some(&*extracting.folder).filter(|folder| *folder != Path::new("")).unwrap_or(Path::new("."));
     let members = vec![
-        ("folder", fsck::file_name(&extracting.folder)),
+        ("folder", fsck::file_name(folder)),
         ("extracted", Json::List(written.collect())),
         ("not_extracted", Json::List(left.collect())),
     ];

@@ -20,6 +20,11 @@ pub fn show(deal: &Stream) -> Result<Answer, Failure> {
     }
 }
 
+/// That no number of a deal is kept, and what it is for.
+pub fn needed(name: &str) -> String {
+    format!("no number of {name} is kept, and records and proofs need one: vizhuthamen number {name} N")
+}
+
 /// No number of a deal is kept beside it.
 pub fn not_kept(name: &str) -> Failure {
     failure::data(format!("no number of {name} is kept")).hint(format!("it is kept by: vizhuthamen number {name} N"))

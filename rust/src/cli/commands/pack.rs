@@ -224,7 +224,8 @@ impl Done {
         }
         below::write(&built.outputs, packing.force).map_err(|failure| written_but(failure, deal))?;
         let told = renewed.told.iter().map(|told| format!("the manifest: {told}"));
-        let notes = told.chain(built.lines()).collect();
+        let numberless = number.is_none().then(|| number::needed(&deal.content.name));
+        let notes = told.chain(built.lines()).chain(numberless).collect();
         Ok(Done { files, commitment: root(&plan.tree), number, notes, changed })
     }
 
