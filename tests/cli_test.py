@@ -506,7 +506,7 @@ class Collecting(Calls):
         for part in ("vizhuthamen fsck deal", "vizhuthamen list deal", "vizhuthamen cancel deal PLACE"):
             self.assertIn(part, err)
         value = self.object("collect", "deal", "new", status=20)
-        self.assertEqual([(w["slot"], w["place"], w["overlaps"]) for w in value["overlapping"]], [(2, 1920, 0), (3, 1984, 0)])
+        self.assertEqual([(w["slot"], w["place"], w["overlaps"]) for w in value["wrong"]], [(2, 1920, 0), (3, 1984, 0)])
         self.assertEqual((self.get("deal"), self.files()), (over, ["deal", "deal.owners"]))
         self.answer("owner", "deal", 2)  # until then the two are nobody's, and no house cancels them
         for place in (1920, 1984):

@@ -116,7 +116,7 @@ fn refused_collecting(refusal: Refusal, source: &Source, entries: usize) -> Resu
             list.push(wrong_slot(&slot, "overlapping", &owners));
         }
     }
-    Ok(Answer::refused(refusal).with_text(lines, vec![("overlapping", Json::List(list))]).with_note(format!(
+    Ok(Answer::refused(refusal).with_text(lines, vec![("wrong", Json::List(list))]).with_note(format!(
         "which of them are kept is shown by: vizhuthamen fsck {name}, vizhuthamen list {name}; those that are to go are \
          cancelled: vizhuthamen cancel {name} PLACE"
     )))
