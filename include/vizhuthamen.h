@@ -24,12 +24,12 @@ extern "C" {
 
 /* The version of this header, as text and as a number: 10000 x first + 100 x second + third. While the first is 0, the
  * second rises where a program has to be changed or compiled anew. */
-#define VZ_VERSION "0.3.0"
-#define VZ_VERSION_NUMBER 300
+#define VZ_VERSION "0.4.0"
+#define VZ_VERSION_NUMBER 400
 
 /* Lengths in bytes. */
 #define VZ_MAX_DEAL 16777216                /* the largest deal that is lent, 2^24; so too run and message */
-#define VZ_MAX_TABLE 128                    /* the longest table of owners, that of a deal of 2^24 */
+#define VZ_MAX_TABLE 128                    /* the longest table of owners, that of a deal of 2^24; so too its states */
 #define VZ_MAX_RECORD 1973                  /* the longest record that is accepted, and so the longest that is built */
 #define VZ_MAX_RAW 8323072                  /* the longest raw archive; its segment has 2^23 */
 #define VZ_MAX_STREAM UINT64_C(68719476736) /* the most that a stream takes, 2^36; so too the size of a deal */
@@ -72,6 +72,16 @@ enum {
   VZ_BLANK = 0,   /* all 64 bytes are zero */
   VZ_DAMAGED = 1, /* some byte is not zero, and the checksum is wrong */
   VZ_VALID = 2    /* the checksum is right */
+};
+
+/* The state of a slot of a deal, by which an audit tells sound entries from others. */
+enum {
+  VZ_SLOT_BLANK = 0,            /* all 64 bytes are zero */
+  VZ_SLOT_DAMAGED = 1,          /* some byte is not zero, and the checksum is wrong */
+  VZ_SLOT_NOT_STANDING = 2,     /* the checksum is right, but the size or the offset is not allowed in the deal */
+  VZ_SLOT_OVERLAPPING = 3,      /* the entry stands, and overlaps one that stands in a lower slot */
+  VZ_SLOT_WRONG_COMMITMENT = 4, /* the entry stands, but its commitment is not that of the bytes at its offset */
+  VZ_SLOT_KEPT = 5              /* the entry stands, and its commitment is that of the bytes at its offset */
 };
 
 /* SHA-256 of a message of 0 to 2^24 bytes. digest: 32 bytes. Codes: 2. */
@@ -124,10 +134,12 @@ uint32_t vz_make_entry(const uint8_t *commitment, size_t commitment_len, uint64_
 uint32_t vz_read_entry(const uint8_t *entry, size_t entry_len, uint32_t *kind, uint8_t *commitment,
                        size_t commitment_len, uint64_t *offset, uint64_t *size);
 
-/* What stands at an entry place of a deal: state is 0 where the slot is free, 1 where an entry stands, 2 where it is
- * kept; with its commitment (32 bytes), offset and size, zeros where it is free. Codes: 2, 11, 6. */
-uint32_t vz_inspect(const uint8_t *deal, size_t deal_len, uint64_t place, uint32_t *state, uint8_t *commitment,
-                    size_t commitment_len, uint64_t *offset, uint64_t *size);
+/* The audit of a deal, whoever has made it: writes the state of every slot, VZ_SLOT_BLANK to VZ_SLOT_KEPT, one byte
+ * each, into the first bytes of states, as many as vz_index_numbers has entries; the rest stays. VZ_MAX_TABLE bytes
+ * hold the states of any deal. Where two states apply, the lower number is written, so that VZ_SLOT_OVERLAPPING says
+ * nothing of the commitment. A deal that was made by vz_book alone, from all zeros, shows only VZ_SLOT_BLANK and
+ * VZ_SLOT_KEPT. Codes: 2, 11, 12 for fewer bytes than slots. */
+uint32_t vz_audit(const uint8_t *deal, size_t deal_len, uint8_t *states, size_t states_len);
 
 /* How many slots of a deal's index are blank, damaged and valid; together they are the number of entries. Codes: 2,
  * 11. */

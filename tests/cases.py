@@ -1,9 +1,9 @@
 """Calls of the library's routines, random and adversarial."""
 from model import (MAX_RAW, area, filled, height, index_numbers, le, node_place, pad, power, segment_bit,
                    segment_length)
-from operations import (BOOK, BUILD, CANCEL, CHECK, COLLECT, COMMITMENT, FIELDS, FILL, FIND, INSPECT, MAKE, MODEL,
-                        NAMES, NUMBERS, PAD, PLAIN_FORM, READ, ROW, SETTLE, SETTLE_DEAL, SETTLE_TREE, SHA256, STREAM,
-                        UNPAD, Case)
+from operations import (AUDIT, BOOK, BUILD, CANCEL, CHECK, COLLECT, COMMITMENT, FIELDS, FILL, FIND, MAKE, MODEL, NAMES,
+                        NUMBERS, PAD, PLAIN_FORM, READ, ROW, SETTLE, SETTLE_DEAL, SETTLE_TREE, SHA256, STREAM, UNPAD,
+                        Case)
 
 RAW_LENGTHS = (1, 2, 31, 32, 63, 64, 126, 127, 128, 254, 255, 381, 508, 1016)
 TOTALS = (0, 1, 31, 32, 33, 63, 64, 65, 96, 127, 128, 256, 1000, 1024, 2048, 4064, 4096)
@@ -500,8 +500,8 @@ def deal_case(rng, op, data):
         if op == CHECK:
             return op, record, root_of(rng, data), deal_size(rng, data), named_number(rng, number)
         return (op, data, record, 0, named_number(rng, number)) if op == SETTLE_DEAL else (op, record)
-    if op == INSPECT:
-        return op, data, b"", place(rng, len(data))
+    if op == AUDIT:
+        return op, data, output(rng, max(4, len(data) // 131072))
     return op, data
 
 

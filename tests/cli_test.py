@@ -2,10 +2,12 @@
 
 The expected values are those of the independent model.
 """
+import fcntl
 import json
 import os
 import pty
 import random
+import re
 import resource
 import shutil
 import signal
@@ -16,13 +18,14 @@ import time
 import unittest
 from pathlib import Path
 
+import audit_cases
 from cases import node
 from model import MAX_RAW, MAX_RAW_STREAM, Model, area, filled, index_numbers, pad, segment_length, unpad
 
 ROOT = Path(__file__).resolve().parent.parent
 BINARY = Path(os.environ.get("VIZHUTHAMEN", ROOT / "rust" / "target" / "release" / "vizhuthamen"))
 COMMANDS = ("new", "number", "owner", "commit", "stream", "pad", "unpad", "book", "pack", "extract", "close", "cancel", "collect", "list",
-            "tally", "find", "build", "check", "settle", "settle-deal", "show", "fsck", "repair", "salvage", "prove", "verify", "help",
+            "audit", "tally", "find", "build", "check", "settle", "settle-deal", "show", "fsck", "repair", "salvage", "prove", "verify", "help",
             "completions")
 MODEL = Model()
 NUMBER = 0xfedcba9876543210  # of the deals here, and another one
@@ -30,6 +33,7 @@ OTHER = NUMBER + 1
 GIVEN = "--number", NUMBER
 USAGE, DATA, NOT_PROVED, IO, BUSY = 64, 65, 66, 74, 75
 DONE = {"code": 0, "meaning": "done"}
+STATES = "blank", "damaged", "not standing", "overlapping", "wrong commitment", "kept"  # of a slot, by their numbers
 HOUSE = "VIZHUTHAMEN_HOUSE"
 os.environ.pop(HOUSE, None)  # what a test does not name is not named
 
@@ -42,6 +46,11 @@ def told(number):
 def nobody():
     """Options of a call by a user whom permissions bind."""
     return {"user": "nobody", "group": "nogroup", "extra_groups": []} if os.getuid() == 0 else {}
+
+
+def rows_of(table):
+    """The rows of a table by their cells, which are two spaces or more apart."""
+    return [re.split("  +", line.strip()) for line in table.splitlines()]
 
 
 def all_of(terminal):
@@ -223,21 +232,149 @@ class MainJob(Calls):
         deal = bytearray(self.booked(512, (128,))[0])
         deal[5] ^= 1
         self.put("deal", bytes(deal))
-        self.assertEqual(self.answer("list", "deal").splitlines()[1].split()[:6], ["0", "256", "standing", "1", "0", "128"])
+        self.assertEqual(rows_of(self.answer("list", "deal"))[1][:6], ["0", "256", "wrong commitment", "1", "0", "128"])
 
     def test_the_kinds_of_free_slots(self):
         deal = bytearray(self.booked(1024, (128, 128))[0])
         deal[832] ^= 1
         deal[896:960] = MODEL.entry(bytes(32), 64, 128)
         self.put("deal", bytes(deal))
-        rows = [line.split()[2:] for line in self.answer("list", "deal").splitlines()[1:]]
-        self.assertEqual([row[0] for row in rows], ["kept", "damaged", "valid", "blank"])
-        self.assertEqual(rows[1:], [["damaged", "-", "-", "-", "-"], ["valid", "-", "64", "128", "00" * 32],
+        rows = [row[2:] for row in rows_of(self.answer("list", "deal"))[1:]]
+        self.assertEqual([row[0] for row in rows], ["kept", "damaged", "not standing", "blank"])
+        self.assertEqual(rows[1:], [["damaged", "-", "-", "-", "-"], ["not standing", "-", "64", "128", "00" * 32],
                                     ["blank", "-", "-", "-", "-"]])
         self.assertEqual(self.answer("tally", "deal"), "blank 1\ndamaged 1\nvalid 2\n")
         self.put("segment", self.segment())
         self.assertIn("place 832\n", self.answer("book", "deal", "segment", "--force"))
         self.assertEqual(self.answer("tally", "deal"), "blank 1\ndamaged 0\nvalid 3\n")
+
+
+class Auditing(Calls):
+    """The expected states are those that stand beside the calls of audit_cases.py, or the model's."""
+
+    def audited(self, states, name="deal", **options):
+        """An audit that shows these states, by their numbers, as text and as JSON; `list` shows the same table. Gives the rows and the
+        object."""
+        status = 0 if set(states) <= {0, 5} else DATA
+        out, err = self.call("audit", name, status=status, **options)
+        said = [] if status == 0 else ["code 65: some slots are neither blank nor kept"]
+        counts = [f"{word.replace(' ', '_')} {states.count(number)}" for number, word in enumerate(STATES)]
+        lines = out.splitlines()
+        self.assertEqual((lines[: len(said)], lines[-6:]), (said, counts))
+        table = lines[len(said) : -6]
+        rows = rows_of("\n".join(table))[1:]
+        self.assertEqual([row[2] for row in rows], [STATES[state] for state in states])
+        self.assertEqual(("vizhuthamen fsck " in err, "vizhuthamen salvage " in err), (status != 0,) * 2)
+        value = self.object("audit", name, status=status, **options)
+        self.assertEqual([slot["state"] for slot in value["slots"]], [STATES[state] for state in states])
+        self.assertEqual([f"{name} {value[name]}" for name in map(lambda word: word.replace(" ", "_"), STATES)], counts)
+        self.assertEqual(self.answer("list", name, **options).splitlines(), table)
+        return rows, value
+
+    def test_a_deal_of_our_own(self):
+        """Only blank and kept slots: after bookings, a cancellation and a collection."""
+        self.answer("new", "deal", 1024)
+        self.audited(bytes(4))
+        for size, house in ((128, 1), (256, 2), (96, 1)):
+            self.put("segment", self.segment(size))
+            self.answer("book", "deal", "segment", "--house", house)
+        rows, value = self.audited(b"\5\5\5\0")
+        deal = self.get("deal")
+        expected = [[str(i), str(768 + 64 * i), "kept", owner, *map(str, MODEL.standing(deal, i)[1:]), deal[768 + 64 * i :][:32].hex()]
+                    for i, owner in enumerate("121")]
+        self.assertEqual(rows, [*expected, ["3", "960", "blank", "-", "-", "-", "-"]])
+        self.assertEqual((value["meaning"], value["size"], value["start"], value["table"]), ("every slot is blank or kept", 1024, 768, "whole"))
+        self.answer("cancel", "deal", 832, "--house", 2)
+        self.audited(b"\5\0\5\0")
+        self.answer("collect", "deal", "new")
+        self.audited(b"\5\5\0\0", "new")
+        self.assertEqual(self.files(), ["deal", "deal.owners", "deal.vz", "new", "new.owners", "new.vz", "segment"])
+
+    def test_deals_that_others_have_made(self):
+        """Every state and every two of them; what is read is not changed."""
+        cases = [(states, case.a) for code, states, case in audit_cases.judged(self.rng) if code == 0]
+        seen = set()
+        for states, deal in self.rng.sample(cases, 60):
+            self.put("deal", deal)
+            rows, value = self.audited(states)
+            for i, slot in enumerate(value["slots"]):
+                _, kind, commitment, offset, size = MODEL.read_entry(deal[slot["place"] :][:64])
+                said = [told(offset), told(size), commitment.hex()] if kind == 2 else [None] * 3
+                self.assertEqual([slot.get(name) for name in ("offset", "size", "commitment")], said)
+                self.assertEqual(rows[i][4:], [str(x) if x is not None else "-" for x in said])
+                self.assertEqual((rows[i][3], "overlaps" in slot), ("?" if states[i] >= 3 else "-", states[i] == 3))
+            seen.update(states)
+            self.assertEqual((self.get("deal"), self.files()), (deal, ["deal"]))
+        self.assertEqual(seen, set(range(6)))
+
+    def test_the_slot_that_is_overlapped(self):
+        deal, _ = self.booked(2048, (256, 128))
+        self.put("deal", deal[:1920] + MODEL.entry(bytes(32), 256, 128) + MODEL.entry(bytes(32), 0, 512))
+        _, value = self.audited(b"\5\5\3\3")
+        self.assertEqual([slot.get("overlaps") for slot in value["slots"]], [None, None, 1, 0])
+
+    def test_128_slots(self):
+        deal, states = audit_cases.long_deal(self.rng, 1 << 24)
+        self.put("deal", deal)
+        self.audited(states)
+
+    def test_codes(self):
+        deal, _ = self.booked()
+        for at in (31, 1023):
+            self.put("deal", deal[:at] + bytes([deal[at] | 0x80]) + deal[at + 1:])
+            for command in ("audit", "list"):
+                self.refused(11, command, "deal")
+                out, err = self.call(command, "deal", status=11)
+                self.assertEqual(err, "vizhuthamen: what is wrong, and where, is shown by: vizhuthamen fsck deal\n")
+        self.assertIn(f"stray bits 0x80 at byte {at}", self.answer("fsck", "deal", status=DATA))
+        self.assertEqual(self.call("audit", "-", status=11, stdin=self.get("deal"))[1],
+                         "vizhuthamen: what is wrong, and where, is shown by: vizhuthamen fsck -\n")
+        self.put("deal", deal)
+        self.put("deal.vz", b"vizhuthamen deal 1\nsize 512\n")
+        self.assertIn("has 1024 bytes", self.failed(DATA, "audit", "deal"))
+
+    def test_what_is_kept_beside_the_deal(self):
+        """Its number, that it is closed, owners, piece CIDs."""
+        deal, places = self.booked(1024, (256, 128))
+        self.put("deal.vz", f"vizhuthamen deal 1\nsize 1024\nnumber {NUMBER}\n".encode())
+        commitment = MODEL.commitment(deal)[1].hex()
+        self.answer("close", "deal")
+        value = self.object("audit", "deal")
+        self.assertEqual((value["number"], value["closed"], value["slots"][0]["owner"]), (str(NUMBER), commitment, 1))
+        self.assertEqual(self.answer("audit", "deal").splitlines()[-1], f"closed {commitment}")
+        self.put("deal.owners", b"\7\2\0\0")
+        self.assertEqual([row[3] for row in rows_of(self.answer("audit", "deal"))[1:5]], ["nobody(7)", "2", "-", "-"])
+        cid = self.object("audit", "deal", "--cid")["slots"][0]["cid"]
+        self.assertIn(cid, self.answer("audit", "deal", "--cid"))
+
+    def test_a_deal_that_others_work_on(self):
+        deal, _ = self.booked()
+        with open(self.path("deal"), "r+b") as file:
+            fcntl.flock(file, fcntl.LOCK_EX)
+            self.audited(b"\5\5\0\0")
+        self.path("deal").chmod(0o444)
+        self.path("deal.owners").chmod(0o444)
+        self.folder.chmod(0o555)
+        self.addCleanup(self.folder.chmod, 0o777)
+        self.audited(b"\5\5\0\0", **nobody())
+
+    def test_pipes(self):
+        deal, _ = self.booked()
+        shown = [["kept", "?"]] * 2 + [["blank", "-"]] * 2
+        for name in ("-", "/dev/stdin"):
+            self.assertEqual([row[2:4] for row in rows_of(self.answer("audit", name, stdin=deal))[1:5]], shown)
+        os.mkfifo(self.path("pipe"))
+        with subprocess.Popen([self.program, "audit", "pipe"], cwd=self.folder, stdout=subprocess.PIPE) as call:
+            with open(self.path("pipe"), "wb", buffering=0) as pipe:
+                pipe.write(deal[:600])
+                pipe.write(deal[600:])
+            self.assertEqual([row[2:4] for row in rows_of(call.stdout.read().decode())[1:5]], shown)
+        self.assertEqual(call.returncode, 0)
+        read, write = os.pipe()
+        os.close(read)
+        ran = subprocess.run([self.program, "audit", "deal"], cwd=self.folder, stdout=write, stderr=subprocess.PIPE)
+        os.close(write)
+        self.assertEqual((ran.returncode, b"Broken pipe" in ran.stderr), (IO, True))
 
 
 class Cancelling(Calls):
@@ -503,7 +640,7 @@ class Collecting(Calls):
         out, err = self.call("collect", "deal", "new", status=20)
         self.assertEqual(out.splitlines(), ["code 20: two standing entries overlap", "slot 2 (place 1920) overlaps slot 0",
                                             "slot 3 (place 1984) overlaps slot 0"])
-        for part in ("vizhuthamen fsck deal", "vizhuthamen list deal", "vizhuthamen cancel deal PLACE"):
+        for part in ("vizhuthamen fsck deal", "vizhuthamen cancel deal PLACE"):
             self.assertIn(part, err)
         value = self.object("collect", "deal", "new", status=20)
         self.assertEqual([(w["slot"], w["place"], w["overlaps"]) for w in value["wrong"]], [(2, 1920, 0), (3, 1984, 0)])
@@ -526,7 +663,7 @@ class Collecting(Calls):
             self.assertIn(part, error)
         self.assertEqual(self.files(), ["deal", "deal.owners"])
         out, err = self.call("collect", "deal", "new", "--force", "--json")
-        self.assertEqual([(w["slot"], w["state"]) for w in json.loads(out)["left_out"]], [(0, "damaged"), (3, "valid")])
+        self.assertEqual([(w["slot"], w["state"]) for w in json.loads(out)["left_out"]], [(0, "damaged"), (3, "not standing")])
         self.assertIn(f"slot 0 (place {places[0]}) is damaged, and is left out\n", err)
         self.assertEqual(self.both("new"), self.collected(bytes(spoilt), self.get("deal.owners")))
 
@@ -1486,7 +1623,7 @@ class Refusals(Calls):
 
     def test_wrong_sizes_are_named(self):
         self.put("short", bytes(1000))
-        for words in (("list", "short"), ("tally", "short"), ("book", "short", "short"), ("find", "short", "00" * 32),
+        for words in (("list", "short"), ("audit", "short"), ("tally", "short"), ("book", "short", "short"), ("find", "short", "00" * 32),
                       ("build", "short", 0, *GIVEN), ("commit", "short"), ("settle-deal", "short", "short", *GIVEN),
                       ("number", "short", 7), ("owner", "short"), ("owner", "short", 1)):
             out, err = self.call(*words, status=2)
@@ -1494,7 +1631,7 @@ class Refusals(Calls):
             self.assertIn("short has 1000 bytes", err)
         with open(self.path("long"), "wb") as file:
             file.truncate(1 << 33)
-        for words in (("list", "long"), ("commit", "long")):
+        for words in (("list", "long"), ("audit", "long"), ("commit", "long")):
             self.assertIn("long has more than 16777216 bytes", self.call(*words, status=2)[1])
         for size in (0, 511, 513, 1 << 25, 1 << 37):
             self.refused(2, "new", "made", size)
@@ -1546,7 +1683,7 @@ class Usage(Calls):
                  ("owner", "d", 1, "--instead-of", 3), ("owner", "d", "x"), ("book", "d", "s", "--house", "x"),
                  ("new", "d", "512", "--number", ""),
                  ("build", "d", str(1 << 64)), ("build", "d", "256", "-o", "-", "--json"), ("new", "-", "512"), ("book", "-", "s"),
-                 ("list", ""))
+                 ("list", ""), ("audit",), ("audit", "d", "e"), ("audit", "d", "--output", "f"), ("audit", "d", "--no-wait"))
         for words in calls:
             self.failed(USAGE, *words)
         self.assertEqual(self.files(), [])
@@ -1558,11 +1695,11 @@ class Usage(Calls):
         root, commitment = MODEL.commitment(deal)[1].hex(), deal[places[0] : places[0] + 32].hex()
         self.assertEqual(self.answer("commit", "-", stdin=deal), root + "\n")
         self.refused(15, "book", "deal", "-", stdin=segment)
-        for words in (("list", "deal"), ("tally", "deal"), ("find", "deal", commitment),
+        for words in (("list", "deal"), ("audit", "deal"), ("tally", "deal"), ("find", "deal", commitment),
                       ("build", "deal", places[0], *GIVEN)):
             piped = ["-" if w == "deal" else w for w in words]
             read = self.answer(*words)
-            if words[0] == "list":  # nothing lies beside a pipe
+            if words[0] in ("list", "audit"):  # nothing lies beside a pipe
                 read = read.replace("kept   1 ", "kept   ? ")
             self.assertEqual(self.answer(*piped, stdin=deal), read)
         self.answer("check", root, 1024, "-", *GIVEN, stdin=record)
@@ -1605,7 +1742,7 @@ class Usage(Calls):
             if self.rng.randrange(2):
                 self.put("file.owners", self.rng.randbytes(self.rng.choice((4, 4, 3, 0, 200))))
             raw_length = str(len(data) * 127 // 128)
-            for words in (("show", "file"), ("list", "file"), ("tally", "file"), ("commit", "file"), ("stream", "file"),
+            for words in (("show", "file"), ("list", "file"), ("audit", "file"), ("tally", "file"), ("commit", "file"), ("stream", "file"),
                           ("stream", "--raw", "file"), ("settle-deal", "file", "file", "--number", "7"),
                           ("pad", "file"), ("unpad", raw_length, "file"), ("fsck", "file"),
                           ("owner", "file"),
@@ -1625,7 +1762,7 @@ class Failures(Calls):
         self.path("folder").mkdir()
         for words in (("commit", "missing"), ("commit", "folder"), ("stream", "missing"), ("stream", "folder"), ("list", "missing"),
                       ("pad", "missing"), ("pad", "folder"), ("unpad", 127, "missing"), ("unpad", 127, "folder"),
-                      ("tally", "missing"), ("list", "folder"), ("book", "missing", "deal"), ("book", "folder", "deal"),
+                      ("audit", "missing"), ("audit", "folder"), ("tally", "missing"), ("list", "folder"), ("book", "missing", "deal"), ("book", "folder", "deal"),
                       ("book", "deal", "missing"), ("cancel", "missing", 768), ("cancel", "folder", 768), ("collect", "missing", "new"),
                       ("collect", "folder", "new"),
                       ("show", "missing"), ("settle-deal", "deal", "missing", *GIVEN),

@@ -14,7 +14,7 @@ import time
 import unittest
 from concurrent.futures import ThreadPoolExecutor
 
-from cli_test import BINARY, BUSY, DATA, GIVEN, IO, MODEL, NUMBER, OTHER, Calls, nobody
+from cli_test import BINARY, BUSY, DATA, GIVEN, IO, MODEL, NUMBER, OTHER, Calls, nobody, rows_of
 from model import area, filled, index_numbers, pad, segment_length
 
 MIB = 1 << 20
@@ -88,7 +88,7 @@ class Locks(Deals):
         deal, _, places = self.deal_of(1024, (128,))
         self.answer("number", "deal", NUMBER)
         self.held()
-        for words in (("list", "deal"), ("tally", "deal"), ("commit", "deal"), ("build", "deal", places[0]),
+        for words in (("list", "deal"), ("audit", "deal"), ("tally", "deal"), ("commit", "deal"), ("build", "deal", places[0]),
                       ("number", "deal"), ("owner", "deal"), ("find", "deal", deal[places[0] : places[0] + 32].hex())):
             self.answer(*words)
 
@@ -476,7 +476,7 @@ class ByteStreams(Deals):
     def test_a_closed_standard_output_is_an_error_before_anything_is_changed(self):
         deal, *_ = self.deal_of(1024, (128,))
         self.put("segment", self.segment())
-        for words in (("list", "deal"), ("book", "deal", "segment"), ("cancel", "deal", "768"), ("collect", "deal", "other"),
+        for words in (("list", "deal"), ("audit", "deal"), ("book", "deal", "segment"), ("cancel", "deal", "768"), ("collect", "deal", "other"),
                       ("new", "other", "512"), ("pad", "segment", "-o", "-"), ("--help",)):
             ran = subprocess.run(["sh", "-c", '"$0" "$@" >&-', self.program, *words], cwd=self.folder, capture_output=True)
             self.assertEqual((ran.returncode, ran.stderr), (IO, b"vizhuthamen: standard output is closed; nothing is done\n"))
@@ -506,7 +506,7 @@ class Sidecar(Deals):
         os.truncate(self.path("deal"), MIB)
         cut = self.both()
         for words in (("book", "deal", "segment"), ("cancel", "deal", MIB - 64), ("collect", "deal", "new"), ("repair", "deal"),
-                      ("list", "deal"), ("tally", "deal"), ("commit", "deal"), ("stream", "deal"), ("build", "deal", 0),
+                      ("list", "deal"), ("audit", "deal"), ("tally", "deal"), ("commit", "deal"), ("stream", "deal"), ("build", "deal", 0),
                       ("build", "deal", 0, *GIVEN), ("find", "deal", "00" * 32), ("settle-deal", "deal", "segment"),
                       ("number", "deal"), ("number", "deal", 7), ("owner", "deal"), ("owner", "deal", 1)):
             error = self.failed(DATA, *words)
@@ -603,7 +603,7 @@ class Sidecar(Deals):
     def test_nothing_is_known_of_a_pipe(self):
         self.deal_of(1024, (128,))
         expected = self.answer("list", "deal").replace("kept   1 ", "kept   ? ")
-        for command in ("list", "fsck", "commit", "stream"):
+        for command in ("list", "audit", "fsck", "commit", "stream"):
             ran = subprocess.run(["bash", "-c", f'"$0" {command} <(cat deal)', self.program], cwd=self.folder, capture_output=True)
             self.assertEqual(ran.returncode, 0, ran.stderr)
             self.assertTrue(command != "list" or ran.stdout.decode() == expected)
@@ -676,15 +676,15 @@ class Fsck(Deals):
         self.put_both(bytes(deal), bytes(n))
         once, _ = self.worked("commit", "deal")
         listed, out = self.worked("list", "deal")
-        self.assertLess(listed, 8 * once)  # 64 times, where each entry's area is hashed for itself
-        self.assertEqual({row.split()[2] for row in out.splitlines()[1:]}, {"standing"})
-        self.answer("fsck", "deal", status=DATA)
+        checked, _ = self.worked("fsck", "deal", status=DATA)
+        self.assertLess(max(listed, checked), 8 * once)  # 64 times, where each entry's area is hashed for itself
+        self.assertEqual([row[2] for row in rows_of(out)[1:]], ["wrong commitment"] + ["overlapping"] * 127)
 
-    def worked(self, *words):
+    def worked(self, *words, **options):
         """The processor's time that a call takes, and its answer."""
         used = lambda: resource.getrusage(resource.RUSAGE_CHILDREN).ru_utime
         before = used()
-        out = self.answer(*words)
+        out = self.answer(*words, **options)
         return used() - before, out
 
 

@@ -16,6 +16,8 @@ import time
 from collections import Counter
 from pathlib import Path
 
+import audit_cases
+import audit_edge_cases
 import change_cases
 import edge_cases
 import house_cases
@@ -23,21 +25,21 @@ import number_cases
 import tree_cases
 from cases import cases, deal, deal_number, node, paddings, place, run, spoil, strayed, streams, table
 from model import MAX_RAW, area, index_numbers, owners
-from operations import (BOOK, BOOK_TREE, BUILD, BUILD_TREE, CANCEL, CANCEL_TREE, CHECK, COLLECT, COLLECT_TREE,
-                        COMMITMENT, FIELDS, FILL, FIND, INSPECT, MAKE, MODEL, NAMES, NUMBERS, PAD, READ, ROW, SETTLE,
+from operations import (AUDIT, BOOK, BOOK_TREE, BUILD, BUILD_TREE, CANCEL, CANCEL_TREE, CHECK, COLLECT, COLLECT_TREE,
+                        COMMITMENT, FIELDS, FILL, FIND, MAKE, MODEL, NAMES, NUMBERS, PAD, READ, ROW, SETTLE,
                         SETTLE_DEAL, SETTLE_TREE, SHA256, STREAM, TALLY, UNPAD, Case, answer, encode)
 from vectors import large_deals
 
 ROOT = Path(__file__).resolve().parent.parent
 FAILURE = ROOT / "target" / "differential-failure.bin"
-ROUTINES = NAMES | {INSPECT: "inspect", STREAM: "stream", PAD: "pad", UNPAD: "unpad"}
+ROUTINES = NAMES | {STREAM: "stream", PAD: "pad", UNPAD: "unpad"}
 BATCH = 2000
 
 # The codes that a run of the default length must meet. 17 needs a collision of SHA-256, or a tree that is not the deal's, and 2 of
 # sha256 a long message (--large).
 CODES = {SHA256: {0}, COMMITMENT: {0, 2, 11}, NUMBERS: {0, 2}, MAKE: {0, 1, 8}, READ: {0, 2}, FIND: {0, 1, 2, 11, 16},
          BOOK: {0, 2, 4, 11, 13, 14, 15, 22, 23}, BUILD: {0, 2, 6, 11, 12, 16}, CHECK: {*range(11), 19, 21},
-         SETTLE: {*range(11), 18, 19, 21}, SETTLE_DEAL: {0, *range(2, 12), 19, 21}, FIELDS: {0}, INSPECT: {0, 2, 6, 11},
+         SETTLE: {*range(11), 18, 19, 21}, SETTLE_DEAL: {0, *range(2, 12), 19, 21}, FIELDS: {0}, AUDIT: {0, 2, 11, 12},
          STREAM: {0, 2, 11}, PAD: {0, 2, 12}, UNPAD: {0, 2, 11, 12, 24}, TALLY: {0, 2, 11}, FILL: {0, 2, 11, 12},
          BOOK_TREE: {0, 2, 4, 11, 12, 13, 14, 15, 22, 23},
          BUILD_TREE: {0, 2, 6, 11, 12, 16}, SETTLE_TREE: {0, *range(2, 13), 17, 19, 21}, CANCEL: {0, 2, 6, 11, 16, 23},
@@ -114,7 +116,7 @@ def false_entries(rng, count):
         yield FIND, data, data[p : p + 32], 0, 0
         yield Case(BOOK, data, data[o : o + s], y=1, d=owners(data, 1))
         yield BUILD, data, rng.randbytes(2000), p, deal_number(rng)
-        yield INSPECT, data, b"", p, 0
+        yield AUDIT, data, rng.randbytes(n), 0, 0
         yield TALLY, data, b"", 0, 0
 
 
@@ -148,7 +150,6 @@ def limits():
     for n in (full + 32, 2 * full):
         yield FIND, bytes(n), bytes(32), 0, 0
         yield BUILD, bytes(n), bytes(2000), n - 64, 0
-        yield INSPECT, bytes(n), b"", n - 64, 0
         yield TALLY, bytes(n), b"", 0, 0
         yield SETTLE_DEAL, bytes(n), b"", 0, 0
         for op in (FILL, BUILD_TREE, SETTLE_TREE):
@@ -193,7 +194,7 @@ def large_calls(rng, d, sizes):
             yield Case(BOOK, data, segment, y=house, d=table)
             yield Case(BOOK, data, segment, y=3 - house, d=table)
             yield FIND, data, data[p : p + 32], 0, 0
-            yield INSPECT, data, b"", p, 0
+            yield AUDIT, data, rng.randbytes(len(table)), 0, 0
     yield TALLY, data, b"", 0, 0
     yield FIND, data, node(rng), 0, 0
     yield Case(BOOK, data, run(rng, d), y=1, d=table)
@@ -219,14 +220,15 @@ def spoilt_deal(rng, data, places):
     changed[int.from_bytes(data[p + 32 : p + 40], "little")] ^= 1
     changed = bytes(changed)
     yield FIND, changed, data[p : p + 32], 0, 0
-    yield INSPECT, changed, b"", p, 0
+    yield AUDIT, changed, rng.randbytes(len(owners(changed, 0))), 0, 0
     yield BUILD, changed, rng.randbytes(2000), p, 0
     yield Case(BOOK, changed, run(rng, 128), y=1, d=table(rng, changed))
     damaged = changed[:p] + bytes([changed[p] ^ 1]) + changed[p + 1:]
     yield TALLY, damaged, b"", 0, 0
+    yield AUDIT, damaged, rng.randbytes(len(owners(damaged, 0))), 0, 0
     yield Case(BOOK, damaged, run(rng, 128), y=2, d=table(rng, damaged))
     stray = changed[:-1] + b"\x80"
-    for op, b, x in ((COMMITMENT, b"", 0), (FIND, bytes(32), 0), (BUILD, b"", p), (INSPECT, b"", p), (TALLY, b"", 0)):
+    for op, b, x in ((COMMITMENT, b"", 0), (FIND, bytes(32), 0), (BUILD, b"", p), (AUDIT, b"", 0), (TALLY, b"", 0)):
         yield op, stray, b, x, 0
     yield Case(BOOK, stray, bytes(128), y=1, d=owners(stray, 0))
 
@@ -238,6 +240,20 @@ def house_batches(rng):
     yield "houses: what each sees of the other's and nobody's entries", house_cases.own_entries(rng)
     yield "houses: bytes of the table collected", house_cases.collections(rng)
     yield "houses: answers that do not hang on the other's segments, and some that do", house_cases.isolations(rng, 20)
+
+
+def audit_batches(rng, options):
+    cases = lambda judged: [case for *_, case in judged]
+    yield "audits: states, overlaps, buffers and faults", cases(audit_cases.judged(rng))
+    yield "audits: single bytes, bits and numbers", cases(audit_edge_cases.small(rng))
+    yield "audits: deals that others have made", audit_cases.foreign(rng, min(400, options.count))
+    yield "audits: our own deals", audit_cases.own_deals(rng, min(40, options.count))
+    yield "audits: deals of eight slots", cases(audit_cases.long_deals(rng, 1 << 20))
+    if options.large:
+        yield "audits: deals of 128 slots", cases(audit_cases.long_deals(rng, 1 << 24))
+        yield "audits: deals that others have made, of 128 slots", audit_cases.foreign(rng, 1, (1 << 24,))
+        yield "audits: more than a deal has", cases(audit_cases.longest())
+        yield "audits: every size, large areas and far slots", cases(audit_edge_cases.large())
 
 
 def batches(options):
@@ -253,6 +269,7 @@ def batches(options):
     yield "numbers: beside faults of commitment, size, deal and tree", number_cases.beside_deal(rng)
     yield "numbers: two records", number_cases.pairs(rng)
     yield from house_batches(random.Random(f"{options.seed}/houses"))
+    yield from audit_batches(random.Random(f"{options.seed}/audits"), options)
     yield "booking, cancelling, collecting: one rule decides", edge_cases.stored(random.Random(f"{options.seed}/edges"))
     rng = random.Random(f"{options.seed}/trees")
     yield "trees: the refusals in their order", tree_cases.orders(rng)

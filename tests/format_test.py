@@ -103,6 +103,16 @@ def owners_table(rows):
     same("the table of owners", laid_out(rows), *(table for _, table in housed()))
 
 
+def state_table(rows):
+    """The numbers of the states, and their words."""
+    same("the states", [(int(number), words) for number, words, _ in rows], [(state.value, state.words()) for state in vz.SlotState])
+
+
+def states_table(rows):
+    deal, lent = booked()
+    same("the states of the example", laid_out(rows), MODEL.audit(deal, bytes(4))[1], bytes(vz.audit(lent)))
+
+
 def entry_table(rows):
     entry, deal = laid_out(rows), booked()[0]
     _, _, c, o, s = MODEL.read_entry(entry)
@@ -195,6 +205,8 @@ TABLES = {
     ("D", "slots", "start"): sizes,
     ("at", "bytes", "the deal", "in the example"): deal_table,
     ("at", "bytes", "the table of owners", "in the example"): owners_table,
+    ("state", "in words", "the slot"): state_table,
+    ("at", "bytes", "the states", "in the example"): states_table,
     ("at", "bytes", "the entry", f"in the example, at {PLACE}"): entry_table,
     ("tag", "content", "length"): field_table,
     ("at", "bytes", "the record", f"in the example, of place {PLACE} and number {NUMBER}"): record_table,

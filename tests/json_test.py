@@ -116,7 +116,8 @@ class Outcomes(Calls):
 
     def cids(self, value):
         """The members of an object that are piece CIDs: of every commitment in it, and no other."""
-        named = {name: name.replace("commitment", "cid") for name in value if name.endswith("commitment") and len(value[name]) == 64}
+        commitment = lambda name: name.endswith("commitment") and isinstance(value[name], str) and len(value[name]) == 64
+        named = {name: name.replace("commitment", "cid") for name in filter(commitment, value)}
         named.update({name: "closed_cid" for name in value if name == "closed"})
         self.assertEqual({value[cid] for cid in named.values()}, {proofs.cid(bytes.fromhex(value[name])) for name in named})
         self.assertEqual({name for name in value if name.endswith("cid")}, set(named.values()))
@@ -141,7 +142,8 @@ class Outcomes(Calls):
         """A call of each command that is answered with 0."""
         place, number = self.places[0], ("--number", NUMBER)
         return {"new": ("made", 512), "number": ("deal",), "commit": ("deal",), "stream": ("deal",), "pad": ("raw",), "unpad": (150, "padded"),
-                "owner": ("deal",), "book": ("deal", "segment", "--house", 2), "cancel": ("deal", place, "--house", 1), "collect": ("deal", "new"), "list": ("deal",), "tally": ("deal",),
+                "owner": ("deal",), "book": ("deal", "segment", "--house", 2), "cancel": ("deal", place, "--house", 1), "collect": ("deal", "new"), "list": ("deal",),
+                "audit": ("deal",), "tally": ("deal",),
                 "find": ("deal", self.commitment), "build": ("deal", place), "check": (self.root, 1024, "record", *number),
                 "settle": (self.root, 1024, "record", "record", *number), "settle-deal": ("deal", "record"), "show": ("record",),
                 "prove": ("deal", "--segment", "kept", "--output", "proved"), "verify": ("proof", "kept"), "fsck": ("deal",), "repair": ("deal",), "salvage": ("deal", "out"), "help": ("book",), "completions": ("bash",),
@@ -181,6 +183,7 @@ class Answers(Outcomes):
         self.outcome(0, "number", "numbered", 1 << 53, "--instead-of", (1 << 64) - 1)
         self.outcome(0, "collect", "numbered", "again")
         self.outcome(0, "list", "again")
+        self.outcome(0, "audit", "again")
         self.outcome(0, "stream", "--raw", "raw")
         self.outcome(0, "commit", "--raw", "raw")
         self.put("two", bytes(1024))
@@ -227,6 +230,7 @@ class Answers(Outcomes):
             owner = self.outcome(0, "owner", "deal")
             self.assertEqual([o["owner"] for o in owner["owners"]], [b if b < 3 else 0 for b in table[:2]])
             self.outcome(0, "list", "deal")
+            self.outcome(0, "audit", "deal")
             self.outcome(DATA if i else 0, "fsck", "deal")
             self.outcome(0, "collect", "deal", f"collected{i}")
             self.outcome(0, "salvage", "deal", f"out{i}")
@@ -243,8 +247,8 @@ class Answers(Outcomes):
 
     def test_tables_that_are_not_whole(self):
         self.put("deal.owners", bytes(3))
-        for command in ("list", "fsck", "repair"):
-            value = self.outcome(0 if command == "list" else DATA, command, "deal")
+        for command in ("list", "audit", "fsck", "repair"):
+            value = self.outcome(0 if command in ("list", "audit") else DATA, command, "deal")
             self.assertEqual((value["table"], value["table_bytes"]), ("wrong length", 3))
         for words in (("owner", "deal"), ("owner", "deal", 1), ("book", "deal", "segment"), ("cancel", "deal", 768), ("collect", "deal", "new"), ("pack", "raw", "--deal", "deal")):
             self.assertEqual(self.outcome(23, *words)["refused"], ["table"])
@@ -267,6 +271,11 @@ class Answers(Outcomes):
         self.put("overlapping", bytes(deal))
         listed = self.outcome(0, "list", "overlapping")
         self.assertEqual([listed["slots"][2][name] for name in ("offset", "size")], [str((1 << 64) - 128), str((1 << 64) - 1)])
+        self.assertEqual([slot["state"] for slot in listed["slots"]], ["kept", "kept", "not standing", "overlapping"])
+        audited = self.outcome(DATA, "audit", "overlapping")
+        self.assertEqual(audited["slots"], listed["slots"])
+        self.assertEqual([audited[name] for name in ("blank", "damaged", "not_standing", "overlapping", "wrong_commitment", "kept")],
+                         [0, 0, 1, 1, 0, 2])
         self.outcome(DATA, "fsck", "overlapping")
         self.outcome(20, "collect", "overlapping", "new")
         deal[960:] = bytes(64)
@@ -285,7 +294,7 @@ class Refusals(Outcomes):
                  (2, "book", "short", "segment"), (4, "book", "deal", "empty"), (4, "book", "deal", "stray"), (15, "book", "deal", "kept"),
                  (2, "cancel", "short", 0), (6, "cancel", "deal", 1), (16, "cancel", "deal", 960), (6, "cancel", "deal", "--slot", 4),
                  (1, "cancel", "deal", 768, "--commitment", "00"), (2, "collect", "short", "new"), (11, "collect", "stray", "new"),
-                 (2, "list", "short"), (11, "list", "stray"), (2, "tally", "short"), (11, "tally", "stray"), (1, "find", "deal", "00"),
+                 (2, "list", "short"), (11, "list", "stray"), (2, "audit", "short"), (11, "audit", "stray"), (2, "tally", "short"), (11, "tally", "stray"), (1, "find", "deal", "00"),
                  (2, "find", "short", ZEROS), (16, "find", "deal", ZEROS), (2, "build", "short", 0, *given), (6, "build", "deal", 7),
                  (16, "build", "deal", 960), (6, "build", "deal", "--slot", (1 << 64) - 1), (1, "check", "00", 1024, "record", *given),
                  (2, "check", self.root, 1000, "record", *given), (3, "check", self.root, 1024, "cut", *given),
@@ -335,7 +344,7 @@ class Packed(Outcomes):
             self.put(f"folder/many-{i}", bytes(i + 1))
         self.outcome(22, "pack", *(f"folder/many-{i}" for i in range(257)), "--deal", "full")
         self.outcome(0, "close", "deal", "--records", "records", "--proofs", "proofs")
-        for command in ("list", "fsck"):
+        for command in ("list", "audit", "fsck"):
             self.outcome(0, command, "deal")
             self.outcome(0, command, "deal", "--cid")
         for words in (("book", "deal", "segment"), ("cancel", "deal", self.places[0]), ("pack", "raw", "--deal", "deal")):

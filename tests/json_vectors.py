@@ -79,7 +79,7 @@ EXPECTED = {
     "index_numbers": lambda size: named("entries", "start")(index_numbers(size)),
     "make_entry": lambda commitment, offset, size: named("entry")(MODEL.make_entry(commitment, offset, size)),
     "read_entry": lambda entry: named("kind", "commitment", "offset", "size")(MODEL.read_entry(entry)),
-    "inspect": lambda deal, place: named("state", "commitment", "offset", "size")(MODEL.inspect(deal, place)),
+    "audit": lambda deal, states: named("states")(MODEL.audit(deal, states)),
     "tally": lambda deal: named("blank", "damaged", "valid")(MODEL.tally(deal)),
     "find": lambda deal, commitment: named("offset", "size", "place")(MODEL.find(deal, commitment)),
     "book": lambda deal, table, house, segment: booked("deal", "table")(MODEL.book(deal, table, house, segment)),

@@ -10,6 +10,10 @@ ZERO32, ZERO64 = bytes(32), bytes(64)
 
 BLANK, DAMAGED, VALID = range(3)  # the kinds of an entry
 
+# The states of a slot in an audit: blank; damaged; valid but not standing; standing and overlapping a standing entry in a lower slot;
+# standing but its commitment is wrong; kept.
+SLOT_BLANK, SLOT_DAMAGED, SLOT_NOT_STANDING, SLOT_OVERLAPPING, SLOT_WRONG, SLOT_KEPT = range(6)
+
 
 class Hashes:
     """The two hash functions that everything else rests on."""
@@ -57,6 +61,11 @@ def stray(data):
 def area(t):
     """The smallest power of two at or above both a segment size and 128."""
     return max(128, 1 << (t - 1).bit_length())
+
+
+def overlap(row, other):
+    """Whether the areas of two standing entries, each (commitment, offset, size), have a byte in common."""
+    return row[1] < other[1] + area(other[2]) and other[1] < row[1] + area(row[2])
 
 
 def filled(segment):
@@ -265,21 +274,27 @@ class Model:
     def lent_allowed(d):
         return power(d) and 512 <= d <= 1 << 24
 
-    def inspect(self, deal, place):
-        """Code, state (0 free, 1 standing, 2 kept), commitment, offset, size."""
+    def slot_state(self, deal, rows, i):
+        """The lowest state that applies to slot i; the rows are what stands in each slot."""
+        p = index_numbers(len(deal))[2] + 64 * i
+        kind, row = self.read_entry(deal[p : p + 64])[1], rows[i]
+        below = row and any(other and overlap(row, other) for other in rows[:i])
+        kept = row and self.kept(deal, i)
+        applies = kind == BLANK, kind == DAMAGED, kind == VALID and not row, below, row and not kept, kept
+        return next(state for state, holds in enumerate(applies) if holds)
+
+    def audit(self, deal, states):
+        """Code, the lent buffer afterwards: a byte for each slot, and all after them as it was."""
         d = len(deal)
         if not self.lent_allowed(d):
-            return 2, 0, ZERO32, 0, 0
+            return 2, states
         if stray(deal):
-            return 11, 0, ZERO32, 0, 0
-        _, n, start = index_numbers(d)
-        if place % 64 or not start <= place < d:
-            return 6, 0, ZERO32, 0, 0
-        i = (place - start) // 64
-        row = self.standing(deal, i)
-        if row is None:
-            return 0, 0, ZERO32, 0, 0
-        return 0, 2 if self.kept(deal, i) else 1, *row
+            return 11, states
+        n = index_numbers(d)[1]
+        if len(states) < n:
+            return 12, states
+        rows = [self.standing(deal, i) for i in range(n)]
+        return 0, bytes(self.slot_state(deal, rows, i) for i in range(n)) + states[n:]
 
     def tally(self, deal):
         """Code, and how many slots are blank, damaged, valid."""
@@ -396,7 +411,6 @@ class Model:
             return refused(12)
         _, n, start = index_numbers(d)
         rows = [(*row, owner) for row, owner in ((self.standing(deal, i), table[i]) for i in range(n)) if row]
-        overlap = lambda r, s: r[1] < s[1] + area(s[2]) and s[1] < r[1] + area(r[2])
         if any(overlap(r, s) for r, s in combinations(rows, 2)):
             return refused(20)
         new, moved, offset, place = bytearray(d), b"", 0, start

@@ -4,12 +4,15 @@ import sys
 from itertools import product
 from pathlib import Path
 
+import audit_cases
+import audit_edge_cases
 import edge_cases
 import house_cases
 import refusal_cases
 from cases import sparse_record
-from model import (BLANK, DAMAGED, MAX_RAW, VALID, Model, Weak, area, filled, index_numbers, node_in, node_place, owners,
-                   pad, segment_length, sha256, stray, unpad, ZERO32, ZERO64)
+from model import (BLANK, DAMAGED, MAX_RAW, SLOT_BLANK, SLOT_DAMAGED, SLOT_KEPT, SLOT_NOT_STANDING, SLOT_OVERLAPPING, SLOT_WRONG, VALID,
+                   Model, Weak, area, filled, index_numbers, node_in, node_place, owners, pad, segment_length, sha256, stray, unpad, ZERO32,
+                   ZERO64)
 from operations import (BOOK, BOOK_TREE, CANCEL, CANCEL_TREE, CHECK, CHECK_INPUT, COLLECT, COLLECT_TREE, PLAIN_FORM, SETTLE,
                         SETTLE_TREE, answer)
 
@@ -533,7 +536,7 @@ def collections():
         expect("the new deal", m.pack(deal, second), (0, new))
         expect("the new deal and its tree", pack_with_tree(m, deal, second, rng.randbytes(992)), (0, new, tree))
     expect("a new deal collected", m.pack(new, bytes(1024)), (0, new))
-    expect("all are kept", [m.inspect(new, p)[1] for p in (768, 832, 896, 960)], [2, 2, 2, 0])
+    expect("all are kept", m.audit(new, bytes(4)), (0, bytes((SLOT_KEPT, SLOT_KEPT, SLOT_KEPT, SLOT_BLANK))))
     expect("A booked again", m.put(new, a)[:3], (0, 512, 960))
     expect("old bytes that no entry names", m.pack(put(segment(rng, 1024), 768, bytes(256)), deal), (0, bytes(1024)))
 
@@ -769,6 +772,67 @@ def one_rule_decides():
             expect(f"rules that {s} bytes at {o} keep", sorted(rules), [False, True, True])
 
 
+def audits():
+    """The calls of audit_cases.py and audit_edge_cases.py have the codes and states that are written beside them; the rest of the
+    buffer stays, and with a refusal all of it."""
+    m, rng, codes, states = Model(), random.Random(33), set(), set()
+    for code, written, lent in (*audit_cases.judged(rng), *audit_cases.long_deals(rng, 1 << 20), *audit_cases.longest(),
+                                *audit_edge_cases.small(rng), *audit_edge_cases.large()):
+        after = written + lent.b[len(written):]
+        expect(f"an audit of {len(lent.a)} bytes into {len(lent.b)}", m.audit(lent.a, lent.b), (code, after))
+        codes.add(code)
+        states.update(written)
+    expect("the codes", codes, {0, 2, 11, 12})
+    expect("the states", states, {0, 1, 2, 3, 4, 5})
+
+
+def audited_orders():
+    """Where two states apply, the lower number is written: 3 over 4, and 3 over 5. Only lower slots count for 3."""
+    m, rng = Model(), random.Random(34)
+    data = segment(rng, 768)
+    kept = lambda o, s: m.entry(m.commitment(data[o : o + area(s)])[1], o, s)
+    wrong = lambda o, s: m.entry(node_of(rng), o, s)
+    audited = lambda *slots: m.audit(data + b"".join(slots) + bytes(256 - 64 * len(slots)), b"\xff" * 5)
+    for first, other, states in ((kept(0, 128), kept(0, 100), (SLOT_KEPT, SLOT_OVERLAPPING)),
+                                 (kept(0, 128), wrong(0, 256), (SLOT_KEPT, SLOT_OVERLAPPING)),
+                                 (wrong(0, 256), kept(128, 128), (SLOT_WRONG, SLOT_OVERLAPPING)),
+                                 (wrong(0, 128), wrong(0, 128), (SLOT_WRONG, SLOT_OVERLAPPING)),
+                                 (kept(0, 128), kept(128, 128), (SLOT_KEPT, SLOT_KEPT)),
+                                 (kept(0, 128), wrong(128, 128), (SLOT_KEPT, SLOT_WRONG)),
+                                 (m.entry(node_of(rng), 0, 513), kept(0, 512), (SLOT_NOT_STANDING, SLOT_KEPT)),
+                                 (kept(0, 512), m.entry(node_of(rng), 0, 513), (SLOT_KEPT, SLOT_NOT_STANDING)),
+                                 (put(kept(0, 128), 0, b"\1\2"), kept(0, 128), (SLOT_DAMAGED, SLOT_KEPT)),
+                                 (kept(0, 128), put(kept(0, 128), 0, b"\1\2"), (SLOT_KEPT, SLOT_DAMAGED))):
+        expect(f"states {states}", audited(first, other), (0, bytes(states) + b"\0\0\xff"))
+
+
+def audited_laws():
+    """The states of deals that others have made, by what other routines say of them: the kinds are those of the tally, a slot is free for
+    booking below 3, an entry is overlapping somewhere exactly where collecting is refused with 20, and what can be built is 5 or
+    overlapping."""
+    m, seen = Model(), set()
+    for lent in audit_cases.foreign(random.Random(35), 150):
+        d, n = len(lent.a), len(owners(lent.a, 0))
+        states = m.audit(lent.a, bytes(n))[1]
+        expect("the tally", m.tally(lent.a), (0, states.count(0), states.count(1), sum(state >= 2 for state in states)))
+        expect("free slots", [state < 3 for state in states], [m.standing(lent.a, i) is None for i in range(n)])
+        expect("overlaps", 3 in states, m.pack(lent.a, bytes(d))[0] == 20)
+        codes = [m.build(lent.a, NUMBER, d - 64 * n + 64 * i)[0] for i in range(n)]
+        expect("what can be built", all(code == (16, 0)[state == 5] for code, state in zip(codes, states) if state != 3), True)
+        seen.update(zip(states, codes))
+    expect("states and codes of building", seen, {(0, 16), (1, 16), (2, 16), (3, 16), (3, 0), (4, 16), (5, 0)})
+
+
+def audited_runs():
+    """A deal that was made by our own calls alone shows only 0 and 5."""
+    m, seen = Model(), set()
+    for lent in audit_cases.own_deals(random.Random(36), 20):
+        code, states = m.audit(lent.a, lent.b)
+        expect("an audit of an own deal", (code, set(states) <= {SLOT_BLANK, SLOT_KEPT}), (0, True))
+        seen.add(states.count(SLOT_KEPT))
+    expect("numbers of kept entries", seen >= {0, 1, 2, 3}, True)
+
+
 published_values()
 streams()
 paddings()
@@ -805,4 +869,8 @@ own_entries()
 moved_owners()
 isolated()
 one_rule_decides()
+audits()
+audited_orders()
+audited_laws()
+audited_runs()
 print(f"model_test: the papers' values hold in the model; with a weak node hash {collisions()} collisions were shown")

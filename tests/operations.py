@@ -11,12 +11,12 @@ from model import Model, index_numbers, le, pad, sha256, unpad
 
 # The operations by number, as crates/vectors and rust/examples/replay/operation.rs have them. CHECK_INPUT is of the program check_record,
 # and COMPARE of the code that settling shares (two paths from one position): no routines of their own.
-(SHA256, COMMITMENT, NUMBERS, MAKE, READ, FIND, BOOK, BUILD, CHECK, SETTLE, SETTLE_DEAL, FIELDS, CHECK_INPUT, INSPECT, COMPARE, STREAM, PAD,
+(SHA256, COMMITMENT, NUMBERS, MAKE, READ, FIND, BOOK, BUILD, CHECK, SETTLE, SETTLE_DEAL, FIELDS, CHECK_INPUT, AUDIT, COMPARE, STREAM, PAD,
  UNPAD, TALLY, FILL, BOOK_TREE, BUILD_TREE, SETTLE_TREE, CANCEL, CANCEL_TREE, COLLECT, COLLECT_TREE, ROW) = range(1, 29)
 
 NAMES = {SHA256: "sha256", COMMITMENT: "commitment", NUMBERS: "index_numbers", MAKE: "make_entry", READ: "read_entry", FIND: "find",
          BOOK: "book", BUILD: "build", CHECK: "check", SETTLE: "settle_records", SETTLE_DEAL: "settle_with_deal", FIELDS: "read_field",
-         TALLY: "tally", FILL: "tree_fill", BOOK_TREE: "book_with_tree", BUILD_TREE: "build_with_tree",
+         AUDIT: "audit", TALLY: "tally", FILL: "tree_fill", BOOK_TREE: "book_with_tree", BUILD_TREE: "build_with_tree",
          SETTLE_TREE: "settle_with_tree", CANCEL: "cancel", CANCEL_TREE: "cancel_with_tree", COLLECT: "collect",
          COLLECT_TREE: "collect_with_tree", ROW: "tree_row"}
 
@@ -80,6 +80,12 @@ def booked(case):
     else:
         code, o, p, *after = MODEL.book_with_tree(case.a, case.c, case.d, case.y, case.b)
     return code, o, p, *shown(*after)
+
+
+def audited(case):
+    """b is the lent buffer before; the buffer afterwards."""
+    code, states = MODEL.audit(case.a, case.b)
+    return code, digest(states)
 
 
 def tree_filled(case):
@@ -192,7 +198,7 @@ ANSWERS = {
     SETTLE_DEAL: lambda case: MODEL.settle_deal(case.a, case.y, case.b),
     FIELDS: fields,
     CHECK_INPUT: checked_input,
-    INSPECT: lambda case: MODEL.inspect(case.a, case.x),
+    AUDIT: audited,
     COMPARE: compared,
     STREAM: streamed,
     PAD: padded,

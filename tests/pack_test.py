@@ -18,7 +18,7 @@ import time
 import unittest
 from pathlib import Path
 
-from cli_test import BINARY, BUSY, DATA, IO, MODEL, USAGE, Calls, all_of, nobody
+from cli_test import BINARY, BUSY, DATA, IO, MODEL, USAGE, Calls, all_of, nobody, rows_of
 from faults_test import compile_shim
 from model import MAX_RAW, area, segment_length
 
@@ -88,7 +88,7 @@ class Packs(Calls):
             slot = slots[line["place"]]
             self.assertEqual({k: slot[k] for k in ("offset", "size", "commitment", "state")},
                              {**{k: line[k] for k in ("offset", "size", "commitment")}, "state": "kept"})
-            self.assertEqual(line["size"], segment_length(len(raw)))
+            self.assertEqual((line["size"], slot["names"]), (segment_length(len(raw)), line["names"]))
         self.assertEqual(len(self.manifest(deal)), len(set(files.values())))
         return data
 
@@ -422,6 +422,43 @@ class Manifests(Packs):
         self.answer("extract", "new", "--to", "out")
         self.assertEqual(self.found(), files)
 
+    def shown(self, command="list", deal="deal", **options):
+        """The last cells of the rows that a table of slots has, its heading first: the names."""
+        rows = rows_of(self.answer(command, deal, **options))
+        return [row[-1] for row in rows if row[0].isdecimal() or row[0] == "slot"]
+
+    def test_its_names_in_a_table_of_slots(self):
+        self.packed()
+        self.tree({"sub/copy of a": b"1" * 300})
+        self.answer("pack", "in/sub", "--deal", "deal")
+        names = ["name", "a, copy of a", "c", "sub/b, b"]
+        for command in ("list", "audit"):
+            self.assertEqual(self.shown(command), [*names, *["-"] * 5])
+        slots = self.object("audit", "deal")["slots"]
+        self.assertEqual([slot.get("names") for slot in slots], [["a", "copy of a"], ["c"], ["sub/b", "b"], *[None] * 5])
+        # What the other house has booked of it has the name too, and so has a slot that was damaged.
+        self.answer("pack", "in/c", "--deal", "deal", "--house", 2)
+        self.assertEqual(self.shown()[4:6], ["c", "-"])
+        deal = bytearray(self.get("deal"))
+        deal[self.names()["a"]["place"]] ^= 1
+        self.put("deal", bytes(deal))
+        self.assertEqual(self.shown("audit", status=DATA)[1], "a, copy of a")
+        self.assertEqual(self.object("list", "deal")["slots"][0], {"slot": 0, "place": PLACE, "state": "damaged", "names": ["a", "copy of a"]})
+        # A segment that was booked by hand has none, and a deal without a manifest no such column.
+        self.put("segment", self.segment(128))
+        self.answer("book", "deal", "segment", "--force", "--house", 1)
+        self.assertEqual(self.shown()[1], "-")
+        self.put("other", self.get("deal"))
+        self.assertEqual(self.shown(deal="other")[0], "commitment")
+
+    def test_names_of_any_bytes_in_a_table_of_slots(self):
+        files = self.some(20, 1, 100)
+        self.answer("pack", "in", "--deal", "deal")
+        listed = [slot["names"] for slot in self.object("list", "deal")["slots"] if "names" in slot]
+        self.assertEqual(listed, [line["names"] for line in self.manifest()])
+        self.assertEqual(len(self.answer("list", "deal").splitlines()), 1 + len(self.object("list", "deal")["slots"]))
+        self.agree(files)
+
     def test_one_that_does_not_agree(self):
         files = self.packed()
         listed = self.get("deal.manifest.json")
@@ -464,6 +501,10 @@ class Manifests(Packs):
             for words in (("pack", "in", "--deal", "deal"), ("extract", "deal")):
                 self.assertIn("deal.manifest.json cannot be understood", self.failed(DATA, *words))
             self.assertIn("cannot be understood", self.call("fsck", "deal", status=DATA)[0])
+            for command in ("list", "audit"):
+                out, err = self.call(command, "deal")
+                self.assertEqual(rows_of(out)[0][-1], "commitment")
+                self.assertIn("deal.manifest.json cannot be understood", err)
             self.assertEqual(self.found("."), before)
         self.assertIn("cannot be understood", self.call("repair", "deal", status=DATA)[1])
         _, err = self.call("cancel", "deal", PLACE)
@@ -476,6 +517,15 @@ class Manifests(Packs):
         self.assertIn("deal has no manifest", self.failed(DATA, "extract", "deal"))
         self.answer("pack", "in", "--deal", "deal")
         self.agree(files)
+
+    def test_one_that_cannot_be_read(self):
+        self.packed()
+        self.path("deal.manifest.json").unlink()
+        self.path("deal.manifest.json").mkdir()
+        for command in ("list", "audit"):
+            out, err = self.call(command, "deal")
+            self.assertEqual((rows_of(out)[0][-1], rows_of(out)[1][2]), ("commitment", "kept"))
+            self.assertIn("deal.manifest.json: Is a directory", err)
 
     def test_one_of_an_older_deal(self):
         self.packed()

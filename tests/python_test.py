@@ -40,6 +40,14 @@ class Image(unittest.TestCase):
         for number in (*range(300), (1 << 32) - 1, 1 << 32, -1):
             self.assertEqual(vz.meaning(number), stated.get(number, "unknown code"))
 
+    def test_states_are_the_headers(self):
+        stated = re.findall(r"^  VZ_SLOT_(\w+) = (\d+)", header.TEXT, re.MULTILINE)
+        self.assertEqual([(state.name, str(state.value)) for state in vz.SlotState], stated)
+
+    def test_states_are_the_rust_crates(self):
+        rust = re.findall(r'SlotState::\w+ => "([a-z ]+)"', (ROOT / "rust/src/audit.rs").read_text())
+        self.assertEqual([state.words() for state in vz.SlotState], rust)
+
     def test_lengths_and_version_are_the_headers(self):
         for name in ("MAX_DEAL", "MAX_RAW", "MAX_RECORD", "MAX_STREAM", "MAX_TABLE", "STREAM_STATE"):
             self.assertEqual(getattr(vz, name), header.defined(f"VZ_{name}"), name)
@@ -64,11 +72,12 @@ class Image(unittest.TestCase):
 
 
 def methods(value):
-    """A function; of a class that is written here, its methods."""
+    """A function; of a class, the methods that are written here."""
     if inspect.isfunction(value):
         return [value]
     own = inspect.isclass(value) and not hasattr(value, "__dataclass_fields__")
-    return [each for each in vars(value).values() if inspect.isfunction(each)] if own else []
+    written = lambda each: inspect.isfunction(each) and each.__module__.startswith("vizhuthamen.")
+    return [each for each in vars(value).values() if written(each)] if own else []
 
 
 class Memory(unittest.TestCase):
@@ -88,6 +97,7 @@ class Memory(unittest.TestCase):
                         lambda: vz.cancel(deal, view[508:], 1, 256), lambda: vz.cancel(deal, memoryview(tree)[:4], 1, 256, tree=tree),
                         lambda: vz.tree_fill(deal, view[32:]), lambda: vz.book(deal, table, 1, b"\2", tree=view[32:]),
                         lambda: vz.book(deal, table, 1, memoryview(tree)[:100], tree=tree), lambda: vz.build_into(deal, 9, 256, deal),
+                        lambda: vz.audit_into(deal, deal), lambda: vz.audit_into(deal, view[508:]),
                         lambda: vz.pad_into(view[:100], view[50:300]), lambda: vz.tree_row(view[:128], view[127:191])):
             self.assertRaises(ValueError, refused)
         self.assertEqual((bytes(deal), bytes(table), bytes(tree), bytes(other)), (before, b"\1\0\0\0", bytes(480), bytes(512)))
@@ -112,7 +122,8 @@ class Memory(unittest.TestCase):
         for refused in (lambda: vz.book(bytes(512), bytearray(4), 1, b"\1"), lambda: vz.book(bytearray(512), bytes(4), 1, b"\1"),
                         lambda: vz.book(memoryview(bytes(512)), bytearray(4), 1, b"\1"),
                         lambda: vz.cancel(self.deal, bytes(self.table), 1, 256),
-                        lambda: vz.collect(self.deal, self.table, bytearray(512), bytes(4)), lambda: vz.sha256(memoryview(self.deal)[::2]), lambda: vz.sha256("text"), lambda: vz.sha256(7)):
+                        lambda: vz.collect(self.deal, self.table, bytearray(512), bytes(4)), lambda: vz.audit_into(self.deal, bytes(4)),
+                        lambda: vz.sha256(memoryview(self.deal)[::2]), lambda: vz.sha256("text"), lambda: vz.sha256(7)):
             self.assertRaises(TypeError, refused)
 
     def test_what_is_found_is_a_part_of_the_deal(self):
@@ -130,7 +141,7 @@ class Answers(unittest.TestCase):
     def test_numbers_have_64_bits(self):
         for refused in (-1, 1 << 64):
             self.assertRaises(OverflowError, vz.index_numbers, refused)
-            self.assertRaises(OverflowError, vz.inspect, bytes(512), refused)
+            self.assertRaises(OverflowError, vz.build, bytes(512), 9, refused)
             self.assertRaises(OverflowError, vz.check, bytes(32), 512, refused, b"")
             self.assertRaises(OverflowError, vz.unpad, refused, b"")
             self.assertRaises(OverflowError, vz.cancel, bytearray(512), bytearray(4), 1, refused)
@@ -160,6 +171,28 @@ class Answers(unittest.TestCase):
         self.assertEqual(self.code(lambda: vz.collect(deal, table, second, bytearray(3))), vz.Refusal.HOUSE)
         vz.collect(deal, table, second, owners)
         self.assertEqual(owners, bytes((2, 1, 0, 0)))
+
+    def test_an_audit(self):
+        deal, states = bytearray(1024), vz.SlotState
+        vz.book(deal, bytearray(4), 1, b"\1" * 128)
+        self.assertEqual(vz.audit(deal), [states.KEPT, states.BLANK, states.BLANK, states.BLANK])
+        self.assertTrue(all(state.is_sound() for state in vz.audit(deal)))
+        commitment = bytes(deal[768:800])
+        deal[832:896] = vz.make_entry(commitment, 0, 100)
+        deal[896:960] = vz.make_entry(commitment, 128, 128)
+        deal[960:] = vz.make_entry(commitment, 64, 128)
+        self.assertEqual(vz.audit(deal), [states.KEPT, states.OVERLAPPING, states.WRONG_COMMITMENT, states.NOT_STANDING])
+        deal[768] ^= 1
+        self.assertEqual([state.words() for state in vz.audit(deal)], ["damaged", "kept", "wrong commitment", "not standing"])
+        self.assertEqual([state.is_sound() for state in vz.audit(deal)], [False, True, False, False])
+        lent = bytearray(b"\xa5" * 6)
+        vz.audit_into(deal, lent)
+        self.assertEqual(lent, b"\1\5\4\2\xa5\xa5")
+        self.assertEqual(self.code(lambda: vz.audit_into(deal, memoryview(lent)[:3])), vz.Refusal.OUTPUT)
+        deal[31] |= 0x40
+        self.assertEqual(self.code(lambda: vz.audit(deal)), vz.Refusal.STRAY_BITS)
+        self.assertEqual(self.code(lambda: vz.audit(deal[1:])), vz.Refusal.SIZE)
+        self.assertEqual(lent, b"\1\5\4\2\xa5\xa5")
 
     def code(self, call):
         with self.assertRaises(vz.Refusal) as caught:

@@ -217,15 +217,80 @@ def held_slots(count):
     return joined(zeros((1 << 24) - 8192), slots + bytes(8192 - len(slots)))
 
 
-def inspections():
+def audits():
     deal = deal_of(1024, segment(1), segment(2, 100))
-    standing, not_standing = (with_entries(deal, MODEL.entry(OTHER, *row)) for row in ((128, 100), (64, 128)))
-    for name, data, place in (("kept", deal, 768), ("kept-second", deal, 832), ("free", deal, 896), ("standing", standing, 768),
-                              ("damaged", changed(deal, 770, b"\0"), 768), ("valid-not-standing", not_standing, 768)):
-        yield call("inspect", name, "what stands at the place", deal=data, place=place)
-    yield from orders("inspect", {"deal": deal, "place": 768}, {**CUT_DEAL, **STRAY_DEAL, "place": lambda i: {"place": 800}})
-    for place in (704, 1024, (1 << 32) + 768, (1 << 64) - 64):
-        yield call("inspect", f"place-{place}", "no place of the index", deal=deal, place=place)
+    first, second = deal[768:832], deal[832:896]
+    inside = own_entry(deal, 0, 100)
+    not_standing = MODEL.entry(first[:32], 64, 128)
+    damaged = changed(first, 0, bytes([first[0] ^ 1]))
+    wrong = MODEL.entry(OTHER, 0, 128)
+    whole = own_entry(deal, 0, 256)
+    for name, how, entries in (
+            ("own", "made by our bookings: kept and blank", (first, second)),
+            ("damaged", "one bit of an entry is another one", (damaged, second)),
+            ("not-standing", "valid, with the commitment of bytes that are there, at no multiple of its area", (not_standing, second)),
+            ("wrong-commitment", "standing, with another commitment", (wrong, second)),
+            ("overlapping-kept", "its commitment is right, and a lower slot has its bytes: 3 before 5", (first, inside)),
+            ("overlapping-wrong", "its commitment is wrong, and a lower slot has its bytes: 3 before 4", (first, wrong)),
+            ("larger-above", "the larger area in the higher slot", (second, first, whole)),
+            ("larger-around", "the larger area in the higher slot, and the smaller one at its end", (second, whole)),
+            ("larger-below", "the larger area in the lower slot, which overlaps higher ones alone", (whole, first, second)),
+            ("overlapping-by-overlapping", "the third overlaps the second alone, which is overlapping itself", (first, whole, second)),
+            ("below-not-kept", "a lower entry that is not kept counts", (wrong, first)),
+            ("below-damaged", "a lower slot that is damaged does not count", (damaged, first)),
+            ("below-not-standing", "nor one that does not stand", (MODEL.entry(OTHER, 0, 513), first)),
+            ("damaged-above", "a damaged slot is damaged, whatever its bytes would be", (first, damaged)),
+            ("not-standing-above", "what does not stand does not overlap", (first, MODEL.entry(OTHER, 0, 513))),
+            ("after-the-size", "an area is also what follows the size", (own_entry(deal, 0, 257), own_entry(deal, 384, 128))),
+            ("after-its-own-size", "the same in the other order", (own_entry(deal, 384, 128), own_entry(deal, 0, 257))),
+            ("beside", "areas that lie beside each other", (own_entry(deal, 0, 256), own_entry(deal, 256, 128))),
+            ("one-area", "one area in all slots", (first,) * 4)):
+        yield call("audit", name, how, deal=with_entries(bytes(deal[:768]) + bytes(256), *entries), states=repeat(b"\xa5", 4))
+
+
+def audits_of_one_rule():
+    """Entries of 1,024 bytes of which one rule says whether they stand, or whether they are kept."""
+    deal = bytes(nodes("deal", 24)) + bytes(256)
+    entry, cut = own_entry(deal, 0, 128), MODEL.tree(filled(deal[:100]))[-1][0]
+    whole = entry[:32]
+    for name, how, slot in (
+            ("half", "half of the deal", own_entry(deal, 0, 512)),
+            ("last-area", "an area that ends at the index start, with other bytes than zeros after the size", own_entry(deal, 640, 100)),
+            ("commitment-of-the-size", "the commitment is that of the size's bytes and zeros, and others follow", MODEL.entry(cut, 0, 100)),
+            ("commitment-byte-1", "one bit of byte 1 is another one", MODEL.entry(changed(whole, 1, bytes([whole[1] ^ 1])), 0, 128)),
+            ("commitment-byte-31", "one bit of byte 31 is another one", MODEL.entry(changed(whole, 31, bytes([whole[31] ^ 1])), 0, 128)),
+            ("commitment-zeros", "a commitment of zeros", MODEL.entry(bytes(32), 0, 128)),
+            ("checksum-byte-63", "one bit of the checksum's last byte is another one", changed(entry, 63, bytes([entry[63] ^ 1]))),
+            ("size-0", "no size", MODEL.entry(OTHER, 0, 0)),
+            ("size-513", "more than half of the deal", MODEL.entry(OTHER, 0, 513)),
+            ("offset-128", "a multiple of 128, and not of the area of 256", MODEL.entry(own_entry(deal, 0, 200)[:32], 128, 200)),
+            ("offset-512", "the area ends beyond the index start", MODEL.entry(OTHER, 512, 512)),
+            ("offset-768", "an area in the index", MODEL.entry(OTHER, 768, 128)),
+            ("wrapping-offset", "offset and area would wrap", MODEL.entry(OTHER, (1 << 64) - 128, 128))):
+        yield call("audit", name, how, deal=with_entries(deal, slot), states=repeat(b"\xa5", 4))
+    yield call("audit", "offset-1024", "in 2,048 bytes the size ends before the index start, and the area does not",
+               deal=with_entries(bytes(2048), MODEL.entry(OTHER, 1024, 600)), states=repeat(b"\xa5", 4))
+    yield call("audit", "256-bytes", "no deal", deal=zeros(256), states=repeat(b"\xa5", 4))
+
+
+def audited_buffers():
+    deal = deal_of(1024, segment(1), segment(2, 100))
+    for n in (0, 1, 3, 4, 5, 44):
+        yield call("audit", f"buffer-{n}", "a byte for each slot, and the rest stays", deal=deal, states=repeat(b"\xa5", n))
+    yield from orders("audit", {"deal": deal, "states": repeat(b"\xa5", 4)}, {
+        **CUT_DEAL, **STRAY_DEAL,
+        "buffer": lambda i: {"states": i["states"][:3]},
+    })
+    for k in (20, 24):
+        n = (1 << k) // 131072
+        yield call("audit", f"2-to-{k}", f"{n} slots", deal=zeros(1 << k), states=repeat(b"\xa5", n))
+        yield call("audit", f"2-to-{k}-short", f"{n} slots", deal=zeros(1 << k), states=repeat(b"\xa5", n - 1))
+    for node in (0, 15, 31):
+        for bits in (0x40, 0x80):
+            yield call("audit", f"stray-{node}-{bits:02x}", f"node {node} of 32 has stray bits", deal=stray(deal, 32 * node, bits),
+                       states=repeat(b"\xa5", 4))
+    yield call("audit", "2-to-24-standing", "128 slots, in all of which an entry stands", deal=held_slots(128), states=repeat(b"\xa5", 130))
+    yield call("audit", "2-to-25", "no lent deal", deal=zeros(1 << 25), states=repeat(b"\xa5", 256))
 
 
 def tallies():
@@ -301,4 +366,5 @@ def collections():
 
 
 GROUPS = (hashes, commitments, streams, paddings, refused_paddings, sizes, entries, kinds_of_entries, two_runs, booked_sizes,
-          bookings_in_foreign_deals, refused_bookings, houses, table_of_2_to_24, inspections, tallies, findings, cancellations, collections)
+          bookings_in_foreign_deals, refused_bookings, houses, table_of_2_to_24, audits, audits_of_one_rule, audited_buffers, tallies,
+          findings, cancellations, collections)

@@ -7,6 +7,8 @@ import random
 import sys
 from pathlib import Path
 
+import audit_cases
+import audit_edge_cases
 import change_cases
 import edge_cases
 import house_cases
@@ -227,6 +229,8 @@ def all_cases():
     yield from change_cases.foreign_deals(random.Random(256), 8, (512, 1024))
     yield from house_cases.stored(random.Random(22))
     yield from edge_cases.stored(random.Random(23))
+    yield from audit_cases.stored(random.Random(24))
+    yield from (case for *_, case in audit_edge_cases.small(random.Random(25)))
     yield from number_cases.stored(random.Random(21))
     yield from refusal_cases.stored()
     yield COMMITMENT, run(rng, 8192), b"", 0, 0

@@ -5,7 +5,7 @@ use crate::record::{filled, DEAL_NUMBER};
 use crate::timing::Work;
 use crate::{DEAL, SEGMENT};
 use std::hint::black_box;
-use vizhuthamen::{table_length, Booking, Node, Settled, MAX_TABLE};
+use vizhuthamen::{table_length, Booking, Node, Settled, SlotState, MAX_TABLE};
 
 const HASHING: &str = "one pass: commitment of the deal";
 const BUILD: &str = "build: the record of the last of 64 entries";
@@ -16,6 +16,9 @@ const COLLECT_WORK: &str = "a tally, and a copy of the deal's bytes";
 const FIND_SIZE: &str = "worst find: 128 entries over one half (16)";
 const FIND_SIZES: &str = "worst find: 128 sizes over one half (16)";
 const FIND_AREAS: &str = "worst find: 128 areas, the largest first (16)";
+const AUDIT: &str = "audit: 64 segments of 64 KiB";
+const AUDIT_HALF: &str = "audit: one segment, of half the deal";
+const AUDIT_AREAS: &str = "audit: 128 areas that overlap, the largest first";
 
 /// Prints the times and how many passes each is. The aims are in passes that hash.
 pub fn print() -> Vec<Aim> {
@@ -30,6 +33,12 @@ pub fn print() -> Vec<Aim> {
         let find = move || assert_eq!(vizhuthamen::find(black_box(deal), named.as_ref()).unwrap_err().code(), 16);
         (name, Work::new(find))
     }));
+    works.extend([(AUDIT, &deal), (AUDIT_HALF, &half.0), (AUDIT_AREAS, &areas[2])].map(|(name, deal)| {
+        let audit = move || {
+            black_box(vizhuthamen::audit(black_box(deal)).unwrap());
+        };
+        (name, Work::new(audit))
+    }));
     works.extend([booking(&deal, true), booking(&deal, false)]);
     works.extend(collecting(&deal));
     let passes = Passes::print(works, ["reading passes", "hashing passes"]);
@@ -39,6 +48,7 @@ pub fn print() -> Vec<Aim> {
         Aim::at_most("build, passes of hashing over the deal", 1.15, hashing(&[BUILD, BUILD_HALF])),
         Aim::at_most("settle with the deal, passes of hashing", 1.15, hashing(&[SETTLE])),
         Aim::at_most("worst find, passes of hashing", 8.0, hashing(&[FIND_SIZE, FIND_SIZES, FIND_AREAS])),
+        Aim::at_most("audit, passes of hashing over the deal", 1.15, hashing(&[AUDIT, AUDIT_HALF, AUDIT_AREAS])),
         Aim::at_most("collect, time over a tally and a copy of the deal's bytes", 1.5, collecting),
     ]
 }
@@ -96,9 +106,7 @@ fn indexed(named: &Node, numbers: impl Iterator<Item = (u64, u64)>) -> Vec<u8> {
         let entry = vizhuthamen::make_entry(named.as_ref(), offset, size).expect("a node");
         deal[place as usize..][..64].copy_from_slice(&entry);
     }
-    for place in [index.start, DEAL as u64 - 64] {
-        assert!(matches!(vizhuthamen::inspect(&deal, place), Ok(vizhuthamen::Slot::Standing(_))), "{place}");
-    }
+    assert!(vizhuthamen::audit(&deal).expect("a deal").into_iter().all(|state| state > SlotState::NotStanding));
     deal
 }
 

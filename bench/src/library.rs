@@ -64,7 +64,7 @@ functions! {
     index_numbers: (u64, Number, Number);
     make_entry: (In, usize, u64, u64, Out, usize);
     read_entry: (In, usize, *mut u32, Out, usize, Number, Number);
-    inspect: (In, usize, u64, *mut u32, Out, usize, Number, Number);
+    audit: (In, usize, Out, usize);
     tally: (In, usize, Number, Number, Number);
     find: (In, usize, In, usize, Number, Number, Number);
     book: (Out, usize, Out, usize, u8, In, usize, Number, Number);

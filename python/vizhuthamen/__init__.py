@@ -16,9 +16,10 @@ where it is a memoryview that may not be written. No other thread may change len
 
 Anyone may use, copy, change and pass on this package, without conditions (0BSD).
 """
+from ._audit import SlotState, audit, audit_into
 from ._codes import Refusal, meaning, version
-from ._deal import (MAX_DEAL, MAX_TABLE, AlreadyKept, Booked, Booking, Found, Free, Kept, Position, Slot, Standing, Tally, book, cancel,
-                    collect, find, inspect, table_length, tally)
+from ._deal import (MAX_DEAL, MAX_TABLE, AlreadyKept, Booked, Booking, Found, Position, Tally, book, cancel, collect, find, table_length,
+                    tally)
 from ._entry import Blank, Damaged, Entry, IndexNumbers, ReadEntry, Valid, index_numbers, make_entry, read_entry
 from ._fr32 import MAX_RAW, pad, pad_into, segment_length, unpad, unpad_into
 from ._hash import commitment, sha256
@@ -31,9 +32,9 @@ from ._tree import filled_tree, tree_fill, tree_length, tree_row
 __license__ = "0BSD"
 __all__ = [
     "MAX_DEAL", "MAX_RAW", "MAX_RECORD", "MAX_STREAM", "MAX_TABLE", "STREAM_STATE", "AlreadyKept", "Blank", "Booked", "Booking",
-    "Collision", "Damaged", "Entry", "Field", "Found", "Free", "IndexNumbers", "Kept", "Position", "Readable", "ReadEntry", "Refusal", "Same", "Settled",
-    "Slot", "Standing", "Streamed", "Streaming", "Tally", "Valid", "Writable", "book", "build", "build_into", "cancel", "check", "collect",
-    "commitment", "fields", "filled_tree", "find", "index_numbers", "inspect", "make_entry", "meaning", "pad", "pad_into", "read_entry",
-    "read_field", "segment_length", "settle_records", "settle_with_deal", "sha256", "table_length", "tally", "tree_fill", "tree_length",
-    "tree_row", "unpad", "unpad_into", "version",
+    "Collision", "Damaged", "Entry", "Field", "Found", "IndexNumbers", "Position", "Readable", "ReadEntry", "Refusal", "Same", "Settled",
+    "SlotState", "Streamed", "Streaming", "Tally", "Valid", "Writable", "audit", "audit_into", "book", "build", "build_into", "cancel",
+    "check", "collect", "commitment", "fields", "filled_tree", "find", "index_numbers", "make_entry", "meaning", "pad", "pad_into",
+    "read_entry", "read_field", "segment_length", "settle_records", "settle_with_deal", "sha256", "table_length", "tally", "tree_fill",
+    "tree_length", "tree_row", "unpad", "unpad_into", "version",
 ]

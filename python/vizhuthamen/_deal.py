@@ -5,35 +5,12 @@ from dataclasses import dataclass
 from typing import Final, Optional, Union
 
 from ._codes import Refusal, accepted
-from ._entry import Entry, written
 from ._library import Readable, Writable, byte_view, call, numbers
 
 MAX_DEAL: Final = 1 << 24
 """The largest deal that is held in memory, in bytes."""
 MAX_TABLE: Final = 128
 """The longest table of owners, in bytes: that of the largest deal."""
-
-
-@dataclass(frozen=True)
-class Free:
-    """No standing entry."""
-
-
-@dataclass(frozen=True)
-class Standing:
-    """A standing entry whose commitment is not that of the bytes at its offset."""
-
-    entry: Entry
-
-
-@dataclass(frozen=True)
-class Kept:
-    """A standing entry whose commitment is that of the bytes at its offset."""
-
-    entry: Entry
-
-
-Slot = Union[Free, Standing, Kept]
 
 
 @dataclass(frozen=True)
@@ -85,12 +62,6 @@ def table_length(size: int) -> int:
     deal's is all zeros. A slot's byte is 1 or 2 for the house that owns the entry there, and any other one for nobody; it counts only
     where an entry stands. Booking sets it, cancelling clears it, and collecting writes a second table."""
     return max(4, size // 131072)
-
-
-def inspect(deal: Readable, place: int) -> Slot:
-    """What stands at an entry place of a deal. Refusals: 2, 11, 6."""
-    state, entry = written("vz_inspect", deal, place)
-    return (Free(), Standing(entry), Kept(entry))[state]
 
 
 def tally(deal: Readable) -> Tally:

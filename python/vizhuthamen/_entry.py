@@ -3,7 +3,7 @@ from __future__ import annotations
 
 import ctypes
 from dataclasses import dataclass
-from typing import Tuple, Union
+from typing import Union
 
 from ._codes import accepted
 from ._library import Readable, call, numbers
@@ -63,12 +63,6 @@ def make_entry(commitment: Readable, offset: int, size: int) -> bytes:
 
 def read_entry(entry: Readable) -> ReadEntry:
     """What the 64 bytes of an entry say. Refusals: 2 for another length."""
-    kind, said = written("vz_read_entry", entry)
-    return (Blank(), Damaged(), Valid(said))[kind]
-
-
-def written(name: str, *arguments: Union[Readable, int]) -> Tuple[int, Entry]:
-    """What a call that is accepted writes: a number, and the three parts of an entry."""
-    number, node, (offset, size) = ctypes.c_uint32(), bytearray(32), numbers(2)
-    accepted(call(name, *arguments, number, node, offset, size))
-    return number.value, Entry(bytes(node), offset.value, size.value)
+    kind, node, (offset, size) = ctypes.c_uint32(), bytearray(32), numbers(2)
+    accepted(call("vz_read_entry", entry, kind, node, offset, size))
+    return (Blank(), Damaged(), Valid(Entry(bytes(node), offset.value, size.value)))[kind.value]

@@ -14,7 +14,7 @@ Readable = Union[bytes, bytearray, memoryview]
 Writable = Union[bytearray, memoryview]
 Number = Union[ctypes.c_uint32, ctypes.c_uint64]
 
-NAME = "libvizhuthamen.so.0.3"
+NAME = "libvizhuthamen.so.0.4"
 
 # The functions of vizhuthamen.h: `in` and `out` are memory that is read, and that is written, a pointer and a length each; u8 and u64
 # are numbers; u32* and u64* are numbers that are written.
@@ -29,7 +29,7 @@ FUNCTIONS = {
     "vz_index_numbers": "u64 u64* u64*",
     "vz_make_entry": "in u64 u64 out",
     "vz_read_entry": "in u32* out u64* u64*",
-    "vz_inspect": "in u64 u32* out u64* u64*",
+    "vz_audit": "in out",
     "vz_tally": "in u64* u64* u64*",
     "vz_find": "in in u64* u64* u64*",
     "vz_book": "out out u8 in u64* u64*",

@@ -1,6 +1,5 @@
 //! A deal in memory: its slots and their owners, finding a segment, booking and cancelling one, collecting all.
 use crate::codes::{accepted, Refusal};
-use crate::entry::{written, Entry};
 use crate::ffi;
 
 /// The largest deal that is held in memory, in bytes.
@@ -18,17 +17,6 @@ pub const fn table_length(size: usize) -> usize {
         0..=3 => 4,
         slots => slots,
     }
-}
-
-/// What a slot of the index holds.
-#[derive(Clone, Copy, Debug, PartialEq, Eq)]
-pub enum Slot {
-    /// No standing entry.
-    Free,
-    /// A standing entry whose commitment is not that of the bytes at its offset.
-    Standing(Entry),
-    /// A standing entry whose commitment is that of the bytes at its offset.
-    Kept(Entry),
 }
 
 /// How many slots of an index are of each kind; together they are the number of entries.
@@ -71,19 +59,6 @@ pub enum Booking {
     Booked(Position),
     /// Code 15: the house has the segment in the deal, which was not changed. It is kept here, in its lowest such slot.
     AlreadyKept(Position),
-}
-
-/// What stands at an entry place of a deal. Refusals: 2, 11, 6.
-pub fn inspect(deal: &[u8], place: u64) -> Result<Slot, Refusal> {
-    // SAFETY: both slices are live, and what is written are locals of their own.
-    let (state, entry) = written(|state, node, offset, size| unsafe {
-        ffi::vz_inspect(deal.as_ptr(), deal.len(), place, state, node.as_mut_ptr(), node.len(), offset, size)
-    })?;
-    Ok(match state {
-        0 => Slot::Free,
-        1 => Slot::Standing(entry),
-        _ => Slot::Kept(entry),
-    })
 }
 
 /// How many slots of a deal's index are blank, damaged and valid. Refusals: 2, 11.
@@ -219,7 +194,7 @@ pub fn cancel(
 /// held.
 ///
 /// ```
-/// use vizhuthamen::{book, cancel, collect, inspect, Slot};
+/// use vizhuthamen::{audit, book, cancel, collect, SlotState};
 ///
 /// let (mut deal, mut table) = ([0; 1024], [0; 4]);
 /// for (house, byte) in [(1, 1), (1, 2), (2, 3)] {
@@ -229,7 +204,7 @@ pub fn cancel(
 /// let (mut second, mut owners) = ([7; 1024], [7; 4]);
 /// collect(&deal, &table, &mut second, None, &mut owners)?;
 /// assert_eq!(second[..256], [[1; 128], [3; 128]].concat());
-/// assert!(matches!(inspect(&second, 832)?, Slot::Kept(entry) if entry.offset == 128));
+/// assert_eq!(audit(&second)?, [SlotState::Kept, SlotState::Kept, SlotState::Blank, SlotState::Blank]);
 /// assert_eq!((table, owners), ([1, 0, 2, 0], [1, 2, 0, 0]));
 /// # Ok::<(), vizhuthamen::Refusal>(())
 /// ```
@@ -255,9 +230,9 @@ pub fn collect(
 #[cfg(test)]
 mod tests {
     use super::*;
-    use crate::entry::{index_numbers, make_entry};
+    use crate::audit::{audit, SlotState};
+    use crate::entry::{index_numbers, make_entry, read_entry, Entry, ReadEntry};
     use crate::hash::commitment;
-    use crate::node::Node;
     use crate::testing::{put, segment};
     use crate::tree::filled_tree;
 
@@ -286,6 +261,16 @@ mod tests {
 
         fn cancel(&mut self, house: u8, place: u64) -> Result<(), Refusal> {
             cancel(&mut self.deal, None, &mut self.table, house, place)
+        }
+    }
+
+    /// The entry at a place of a deal of four slots, which is in this state.
+    fn standing(deal: &[u8], place: usize, state: SlotState) -> Entry {
+        let slot = (place + 256 - deal.len()) / 64;
+        assert_eq!(audit(deal).unwrap()[slot], state, "{place}");
+        match read_entry(&deal[place..place + 64]) {
+            Ok(ReadEntry::Valid(entry)) => entry,
+            other => panic!("{place}: {other:?}"),
         }
     }
 
@@ -429,7 +414,7 @@ mod tests {
         assert_eq!(housed.deal[..130], *short);
         assert_eq!(housed.deal[130..256], [0; 126]);
         assert_eq!(housed.deal[256..768], [1; 512]);
-        let Ok(Slot::Kept(entry)) = inspect(&housed.deal, 768) else { panic!("the segment is kept") };
+        let entry = standing(&housed.deal, 768, SlotState::Kept);
         assert_eq!(entry.commitment, commitment(&housed.deal[..256]).unwrap());
         assert_eq!(find(&housed.deal, entry.commitment.as_ref()).unwrap().segment, short);
         assert_eq!(housed.book(1, short), kept(0, 768));
@@ -469,7 +454,6 @@ mod tests {
         assert_eq!(housed.deal[832..896], [0; 64]);
         assert_eq!((&housed.deal[..832], &housed.deal[896..]), (&before[..832], &before[896..]));
         assert_eq!(housed.table, [1, 0, 1, 0]);
-        assert_eq!(inspect(&housed.deal, 832), Ok(Slot::Free));
         refused(&mut housed, Refusal::NOT_KEPT, |housed| housed.cancel(2, 832));
         assert_eq!(housed.book(2, &segment(2, 256)), booked(256, 832));
         assert_eq!((housed.deal, housed.table), (before, [1, 2, 1, 0]));
@@ -488,7 +472,7 @@ mod tests {
     fn an_entry_that_stands_is_cancelled_kept_or_not() {
         let mut housed = three_segments();
         housed.deal[300] ^= 1;
-        assert!(matches!(inspect(&housed.deal, 832), Ok(Slot::Standing(_))));
+        standing(&housed.deal, 832, SlotState::WrongCommitment);
         assert_eq!(housed.cancel(2, 832), Ok(()));
         housed.deal[768] ^= 1; // the first entry is damaged
         housed.deal[960..].copy_from_slice(&make_entry(&[7; 32], 1, 1).unwrap()); // valid, and stands not
@@ -524,8 +508,8 @@ mod tests {
         assert_eq!(second[256..356], segment(3, 100));
         assert_eq!(second[356..768], [0; 412]);
         let entry = |bytes: &[u8], offset, size| Entry { commitment: commitment(bytes).unwrap(), offset, size };
-        assert_eq!(inspect(&second, 768), Ok(Slot::Kept(entry(&segment(2, 256), 0, 256))));
-        assert_eq!(inspect(&second, 832), Ok(Slot::Kept(entry(&second[256..384], 256, 100))));
+        assert_eq!(standing(&second, 768, SlotState::Kept), entry(&segment(2, 256), 0, 256));
+        assert_eq!(standing(&second, 832, SlotState::Kept), entry(&second[256..384], 256, 100));
         assert_eq!(second[896..], [0; 128]);
         let (mut third, mut again) = ([0; 1024], [7; 4]);
         assert_eq!(collect(&second, &owners, &mut third, None, &mut again), Ok(()));
@@ -556,11 +540,8 @@ mod tests {
         assert_eq!(second[..512], [&deal[256..512], &deal[128..256], &deal[640..768]].concat());
         assert_eq!(owners, [2, 7, 0, 0]);
         for (place, old, offset) in [(768, 832, 0), (832, 896, 256), (896, 960, 384)] {
-            let (Ok(Slot::Standing(entry)), Ok(Slot::Standing(moved))) = (inspect(&deal, old), inspect(&second, place))
-            else {
-                panic!("{place}: the entry stands, and is not kept");
-            };
-            assert_eq!(moved, Entry { offset, ..entry });
+            let entry = standing(&deal, old, SlotState::WrongCommitment);
+            assert_eq!(standing(&second, place, SlotState::WrongCommitment), Entry { offset, ..entry });
         }
         assert_eq!(second[960..], [0; 64]);
     }
@@ -628,24 +609,6 @@ mod tests {
         assert_eq!(find(&deal, &[0; 32]), Err(Refusal::NOT_KEPT));
         assert_eq!(find(&deal, &[0; 31]), Err(Refusal::COMMITMENT_LENGTH));
         assert_eq!(find(&deal[..1000], &[0; 32]), Err(Refusal::SIZE));
-    }
-
-    #[test]
-    fn the_three_states_of_a_slot() {
-        let mut deal = [0; 512];
-        put(&mut deal, &segment(1, 128));
-        let entry = Entry { commitment: commitment(&segment(1, 128)).unwrap(), offset: 0, size: 128 };
-        assert_eq!(inspect(&deal, 256), Ok(Slot::Kept(entry)));
-        assert_eq!(inspect(&deal, 320), Ok(Slot::Free));
-        let other = Entry { commitment: Node([7; 32]), offset: 128, size: 128 };
-        deal[320..384].copy_from_slice(&make_entry(&other.commitment.0, other.offset, other.size).unwrap());
-        assert_eq!(inspect(&deal, 320), Ok(Slot::Standing(other)));
-        for place in [0, 192, 255, 257, 300, 512, u64::MAX - 63] {
-            assert_eq!(inspect(&deal, place), Err(Refusal::PLACE), "{place}");
-        }
-        assert_eq!(inspect(&deal[..511], 256), Err(Refusal::SIZE));
-        deal[31] = 0x80;
-        assert_eq!(inspect(&deal, 0), Err(Refusal::STRAY_BITS));
     }
 
     #[test]

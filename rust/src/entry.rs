@@ -54,24 +54,18 @@ pub fn make_entry(commitment: &[u8], offset: u64, size: u64) -> Result<[u8; 64],
 
 /// What the 64 bytes of an entry say. Refusals: 2 for another length.
 pub fn read_entry(entry: &[u8]) -> Result<ReadEntry, Refusal> {
+    let (mut kind, mut node, mut offset, mut size) = (0, [0; 32], 0, 0);
     // SAFETY: both slices are live, and what is written are locals of their own.
-    let (kind, valid) = written(|kind, node, offset, size| unsafe {
-        ffi::vz_read_entry(entry.as_ptr(), entry.len(), kind, node.as_mut_ptr(), node.len(), offset, size)
-    })?;
+    let code = unsafe {
+        let (out, len) = (node.as_mut_ptr(), node.len());
+        ffi::vz_read_entry(entry.as_ptr(), entry.len(), &mut kind, out, len, &mut offset, &mut size)
+    };
+    accepted(code)?;
     Ok(match kind {
         0 => ReadEntry::Blank,
         1 => ReadEntry::Damaged,
-        _ => ReadEntry::Valid(valid),
+        _ => ReadEntry::Valid(Entry { commitment: Node(node), offset, size }),
     })
-}
-
-/// What a call that is accepted writes: a number, and the three parts of an entry.
-pub(crate) fn written(
-    call: impl FnOnce(&mut u32, &mut [u8; 32], &mut u64, &mut u64) -> u32,
-) -> Result<(u32, Entry), Refusal> {
-    let (mut number, mut commitment, mut offset, mut size) = (0, [0; 32], 0, 0);
-    accepted(call(&mut number, &mut commitment, &mut offset, &mut size))?;
-    Ok((number, Entry { commitment: Node(commitment), offset, size }))
 }
 
 #[cfg(test)]

@@ -55,17 +55,8 @@ extern "C" {
         size: *mut u64,
     ) -> u32;
 
-    /// What stands at an entry place of a deal. `commitment`: 32 bytes. Codes: 12, 2, 11, 6.
-    pub fn vz_inspect(
-        deal: *const u8,
-        deal_len: usize,
-        place: u64,
-        state: *mut u32,
-        commitment: *mut u8,
-        commitment_len: usize,
-        offset: *mut u64,
-        size: *mut u64,
-    ) -> u32;
+    /// Writes the state of every slot of a deal into the first bytes of `states`, one byte each. Codes: 2, 11, 12.
+    pub fn vz_audit(deal: *const u8, deal_len: usize, states: *mut u8, states_len: usize) -> u32;
 
     /// How many slots of a deal's index are blank, damaged and valid. Codes: 2, 11.
     pub fn vz_tally(deal: *const u8, deal_len: usize, blank: *mut u64, damaged: *mut u64, valid: *mut u64) -> u32;
@@ -296,15 +287,6 @@ mod tests {
                 let code = unsafe {
                     let (out, len) = (out.as_mut_ptr(), out.len());
                     vz_read_entry(input.as_ptr(), input.len(), &mut word, out, len, &mut offset, &mut size)
-                };
-                assert!(code == 0 || (word, offset, size) == (7, NUMBER, NUMBER));
-                code
-            });
-            refuses_lengths(32, |out| {
-                let (mut word, mut offset, mut size) = (7, NUMBER, NUMBER);
-                let code = unsafe {
-                    let (out, len) = (out.as_mut_ptr(), out.len());
-                    vz_inspect(input.as_ptr(), input.len(), 256, &mut word, out, len, &mut offset, &mut size)
                 };
                 assert!(code == 0 || (word, offset, size) == (7, NUMBER, NUMBER));
                 code

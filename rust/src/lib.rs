@@ -12,7 +12,8 @@
 //! [`cancel`], [`build`] and [`settle_with_deal`], which then hash little of the deal. [`collect`] fills one for the
 //! second deal.
 //!
-//! Two houses, 1 and 2, book in one deal; whose entry a slot holds says a table beside the deal ([`table_length`]).
+//! Two houses, 1 and 2, book in one deal; whose entry a slot holds says a table beside the deal ([`table_length`]). What to
+//! make of a deal that another program has made says its [`audit`].
 //!
 //! ```
 //! let mut deal = vec![0; 512];
@@ -31,6 +32,7 @@
 #![warn(missing_debug_implementations)]
 
 mod archive;
+mod audit;
 pub mod cid;
 mod codes;
 mod deal;
@@ -46,10 +48,10 @@ mod streaming;
 mod tree;
 
 pub use archive::{RawStreamed, RawStreaming, MAX_RAW_STREAM, RAW_PART};
+pub use audit::{audit, audit_into, SlotState};
 pub use codes::{meaning, Refusal};
 pub use deal::{
-    book, cancel, collect, find, inspect, table_length, tally, Booking, Found, Position, Slot, Tally, MAX_DEAL,
-    MAX_TABLE,
+    book, cancel, collect, find, table_length, tally, Booking, Found, Position, Tally, MAX_DEAL, MAX_TABLE,
 };
 pub use entry::{index_numbers, make_entry, read_entry, Entry, IndexNumbers, ReadEntry};
 pub use fr32::{pad, pad_into, segment_length, unpad, unpad_into, MAX_RAW};

@@ -27,7 +27,7 @@ static void answer(const char *what, uint64_t got, uint64_t expected) {
 static uint8_t deal[512], table[4], first_segment[128], second_segment[128], third_segment[128];
 static uint8_t commitment[32], deal_commitment[32], entry[64], record[VZ_MAX_RECORD], left[64], right[64];
 static uint64_t offset, place, size, length, start, next, entries, blank, damaged, valid;
-static uint32_t kind, state, tag;
+static uint32_t kind, tag;
 static const uint64_t number = 0x0102030405060708; /* the deal's */
 
 static void hashing(void) {
@@ -139,12 +139,14 @@ static void houses(void) {
 }
 
 static void looking(void) {
-  uint8_t read[32];
-  answer("inspect", vz_inspect(deal, 512, 256, &state, read, 32, &offset, &size), VZ_OK);
-  answer("inspect, state", state, 2);
-  answer("inspect a free slot", vz_inspect(deal, 512, 448, &state, read, 32, &offset, &size), VZ_OK);
-  answer("inspect a free slot, state", state, 0);
-  answer("inspect no place", vz_inspect(deal, 512, 300, &state, read, 32, &offset, &size), VZ_PLACE);
+  uint8_t states[6] = {7, 7, 7, 7, 7, 7};
+  answer("audit into 3 bytes", vz_audit(deal, 512, states, 3), VZ_OUTPUT);
+  answer("audit of 511 bytes", vz_audit(deal, 511, states, 3), VZ_SIZE);
+  answer("audit, states left as they were", states[0] + states[1] + states[2] + states[3], 28);
+  answer("audit", vz_audit(deal, 512, states, 5), VZ_OK);
+  answer("audit, kept", states[0] == VZ_SLOT_KEPT && states[1] == VZ_SLOT_KEPT, 1);
+  answer("audit, blank", states[2] == VZ_SLOT_BLANK && states[3] == VZ_SLOT_BLANK, 1);
+  answer("audit, the rest", states[4] + states[5], 14);
   answer("tally", vz_tally(deal, 512, &blank, &damaged, &valid), VZ_OK);
   answer("tally, blank", blank, 2);
   answer("tally, damaged", damaged, 0);

@@ -6,7 +6,7 @@ use crate::peers::Peer;
 use crate::record::{Longest, DEAL_NUMBER, DEAL_SIZE};
 use crate::timing::Work;
 use std::hint::black_box;
-use vizhuthamen::{MAX_RECORD, STREAM_STATE};
+use vizhuthamen::{MAX_RECORD, MAX_TABLE, STREAM_STATE};
 
 fn case<'a>(
     function: &'static str,
@@ -178,13 +178,12 @@ fn checks<'a>(longest: &'a Longest, kept: &'a Kept) -> Vec<Case<'a>> {
 }
 
 fn over_deal<'a>(kept: &'a Kept, input: &'static str, repeats: usize) -> Vec<Case<'a>> {
-    let (deal, length, place) = (&kept.deal, kept.deal.len(), kept.place);
+    let (deal, length) = (&kept.deal, kept.deal.len());
     let mut cases = vec![
-        call("vz_inspect", input, repeats, 0, move |library| {
-            let (mut state, mut node, mut offset, mut size) = (0, [0; 32], 0, 0);
-            let (deal, node) = (black_box(deal).as_ptr(), node.as_mut_ptr());
+        call("vz_audit", input, repeats, 0, move |library| {
+            let mut states = [0; MAX_TABLE];
             // SAFETY: the slices are live and apart.
-            unsafe { (library.inspect)(deal, length, place, &mut state, node, 32, &mut offset, &mut size) }
+            unsafe { (library.audit)(black_box(deal).as_ptr(), length, states.as_mut_ptr(), states.len()) }
         }),
         call("vz_tally", input, 20 * repeats, 0, move |library| {
             let (mut blank, mut damaged, mut valid) = (0, 0, 0);

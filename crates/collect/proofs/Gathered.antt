@@ -15,7 +15,7 @@ use Rattle.room.specs.Room.{Range, SameBelow, Bounded, rangesIn}
 use Rattle.room.specs.RoomLaws.{slots-high}
 use Rattle.room.specs.declared.Ranges.{Ranges}
 use Rattle.ranges.specs.Ranges.{rangesOf}
-use Rattle.ranges.specs.RangesLaws.{ranges-end}
+use Rattle.ranges.specs.RangesLaws.{ranges-end, gathered-bounded}
 use Rattle.packing.specs.Order.{newSlot, newOffset, noneOverlaps}
 use Rattle.packing.specs.NoOverlapLaws.{none-overlaps, none-overlaps-same}
 use Rattle.packing.specs.PackingLaws.{new-slot-same, new-offset-same}
@@ -30,17 +30,7 @@ module _ (deal : List ℕ) (ranges : Ranges) (slots : ℕ) (lent : lentSizeAllow
   few = omega (arith, slots-high (length deal) lent)
 
   pub bounded : Bounded slots ranges
-  bounded i h =
-      let l = lent-size (length deal) lent in
-      let g = gathered i (omega arith) in
-      omega (
-        arith,
-        ap (λ (r : Range). r .offset) g,
-        ap (λ (r : Range). r .area) g,
-        ranges-end deal (l .deal) i (omega arith),
-        index-start-le (length deal),
-        l .lent-high,
-      )
+  bounded i h = gathered-bounded deal ranges lent gathered i (omega arith)
 
   -- the test over them is that of the deal
   pub test-is : noneOverlaps (rangesIn ranges) slots ≡ noneOverlaps (rangesOf deal) (entryCount (length deal))

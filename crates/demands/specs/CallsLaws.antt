@@ -6,7 +6,7 @@ use mathlib.Core.Bool.{true}
 use native.Mathlib.Omega.{arith}
 use lib.ListN.{length}
 use Rattle.sizes.specs.Sizes.{entryCount, slotPlace}
-use Rattle.lent.specs.LentDeal.{lentDeal}
+use Rattle.lent.specs.LentDeal.{LentDeal, lentDeal, dealSize}
 use Rattle.room.specs.declared.Booked.{Booked}
 use Rattle.booking.specs.Booking.{keepsOwn}
 use Rattle.booking.specs.BookableLaws.{BookableFor}
@@ -14,17 +14,21 @@ use Rattle.booking.specs.BookedLaws.{booked-length}
 use Rattle.booking.specs.NeverAgain.{kept-after-booking, own-after-booking, bookable-after-booking}
 use Rattle.cancel.specs.CancelLaws.{cancelled-length}
 use Rattle.demands.specs.Calls.{Call, bookSegment, cancelPlace, DealAndTable, answerIn, afterPlainCall, runCalls}
-use Rattle.demands.specs.Calls.{DoesNotCancel, NoneCancels}
+use Rattle.demands.specs.Calls.{dealAfterCall, DoesNotCancel, NoneCancels}
 use Rattle.demands.specs.CancelKeepLaws.{
   bookable-after-cancelling,
   keeps-after-cancelling,
   kept-after-cancelling,
 }
 
--- the length of the deal stays
+-- the length of the deal stays, with a tree beside it or without one
+pub after-length : (call : Call) (deal : LentDeal) (table : List ℕ)
+    → length (dealAfterCall call deal table) ≡ dealSize deal
+after-length (bookSegment by other) deal table = booked-length deal table by other
+after-length (cancelPlace by place) deal table = cancelled-length deal table by place
+
 pub call-length : (was : DealAndTable) (call : Call) → length (afterPlainCall call was .deal) ≡ length (was .deal)
-call-length was (bookSegment by other) = booked-length (lentDeal (was .deal)) (was .table) by other
-call-length was (cancelPlace by place) = cancelled-length (lentDeal (was .deal)) (was .table) by place
+call-length was call = after-length call (lentDeal (was .deal)) (was .table)
 
 pub run-length : (was : DealAndTable) (calls : List Call) → length (runCalls was calls .deal) ≡ length (was .deal)
 unfolding runCalls

@@ -13,7 +13,8 @@ use Rattle.lent.specs.LentDeal.{lentDeal, treeDeal}
 use Rattle.booking.specs.Booking.{bookAnswer, bookedDeal, bookedTable}
 use Rattle.cancel.specs.Cancel.{cancelCode, cancelledTable}
 use Rattle.demands.specs.TreeForms as T
-use Rattle.demands.specs.OthersChanged.{NoneOverlap, OthersChanged}
+use Rattle.demands.specs.NoneOverlap.{NoneOverlap}
+use Rattle.demands.specs.OthersChanged.{OthersChanged}
 use Rattle.demands.specs.IsolationLaws as I
 use Rattle.demands.specs.OthersBookedLaws as B
 

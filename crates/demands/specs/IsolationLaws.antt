@@ -51,7 +51,8 @@ use Rattle.cancel.specs.CancelLaws.{code-cong}
 use Rattle.cancel.specs.OwnerCancelLaws.{refused-table}
 use Rattle.cancel.specs.OwnerCancelLaws as C
 use Rattle.demands.specs.CancelRoomLaws.{covers-range}
-use Rattle.demands.specs.OthersChanged.{NoneOverlap, NotOthers, OthersChanged}
+use Rattle.demands.specs.NoneOverlap.{NoneOverlap}
+use Rattle.demands.specs.OthersChanged.{NotOthers, OthersChanged}
 
 -- a row says whether its entry stands
 stands-is : (d : ℕ) (entry : List ℕ) → rowOf d entry .stands ≡ standing d entry

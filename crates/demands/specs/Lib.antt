@@ -8,6 +8,11 @@ pub mod Cancelling
 pub mod Collecting
 pub mod Quota
 pub mod Isolation
+pub mod Auditing
+pub mod DealCalls
+pub mod NoneOverlap
+pub mod Sound
+pub mod Shown
 pub mod TableLaws
 pub mod Table
 pub mod Chains
@@ -26,6 +31,11 @@ pub mod HeldLaws
 pub mod BookAgainLaws
 pub mod Shared
 pub mod QuotaLaws
+pub mod DealCallsLaws
+pub mod ZeroDealLaws
+pub mod NoneOverlapLaws
+pub mod SoundLaws
+pub mod ShownLaws
 pub mod OthersChanged
 pub mod OthersBookedLaws
 pub mod IsolationLaws

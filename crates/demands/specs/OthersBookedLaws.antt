@@ -1,8 +1,8 @@
 -- Deals that differ in another's segment alone: those in which another house booked the one or the other of two
 -- segments of one size. In both the areas stay apart where they were.
-use mathlib.Core.Path.{_≡_, refl, sym, ap, _∙_, subst, subst₂}
-use mathlib.Core.Bool.{Bool, true, false, true≢false}
-use mathlib.Core.Logic.{_≢_, inl, inr, ⊎-elim}
+use mathlib.Core.Path.{_≡_, refl, sym, ap, _∙_, subst}
+use mathlib.Core.Bool.{false, true≢false}
+use mathlib.Core.Logic.{_≢_}
 use Prim.Native.Nat.{ℕ, _+_, _<_}
 use native.Mathlib.Decide.{ℕ-discrete}
 use native.Mathlib.Omega.{arith}
@@ -13,16 +13,13 @@ use borrow.Author.Tests.{ne-eqb}
 use Rattle.octets.specs.SpliceLaws.{getD-part}
 use Rattle.sizes.specs.Sizes.{area, entryCount, indexStart}
 use Rattle.lent.specs.LentDeal.{lentDeal}
-use Rattle.index.specs.Slots.{slotAt, standing, holds, rowAt}
+use Rattle.index.specs.Slots.{holds, rowAt}
 use Rattle.index.specs.declared.Row.{Row}
-use Rattle.room.specs.Room.{Range, range, overlap, overlaps}
-use Rattle.room.specs.OverlapLaws.{overlap-false, overlap-sym}
+use Rattle.room.specs.Room.{overlap, overlaps}
+use Rattle.room.specs.OverlapLaws.{overlap-sym}
 use Rattle.room.specs.DecideLaws.{Places}
 use Rattle.room.specs.declared.Decision.the-variants.{Place}
-use Rattle.ranges.specs.Ranges.{rowRange, rangesOf}
-use Rattle.ranges.specs.RangesLaws.{range-stands, range-free}
-use Rattle.packing.specs.Apart.{Beside, RangesApart}
-use Rattle.packing.specs.NoOverlapLaws.{none-overlaps}
+use Rattle.ranges.specs.Ranges.{rangesOf}
 use Rattle.houses.specs.Houses.{owned, withOwner}
 use Rattle.houses.specs.HousesLaws.{owner-here}
 use Rattle.booking.specs.Write.{segmentCommitment, writtenDeal}
@@ -31,7 +28,9 @@ use Rattle.booking.specs.Booking.{decision, bookAnswer, bookedDeal, bookedTable
 use Rattle.booking.specs.BookingLaws.{books, code-0}
 use Rattle.booking.specs.BookedLaws.{booked-fits, booked-is, booked-table-is, booked-slot-in}
 use Rattle.demands.specs.CancelRoomLaws.{covers-range}
-use Rattle.demands.specs.OthersChanged.{NoneOverlap, OthersChanged}
+use Rattle.demands.specs.NoneOverlap.{NoneOverlap}
+use Rattle.demands.specs.NoneOverlapLaws.{range-new, written-apart}
+use Rattle.demands.specs.OthersChanged.{OthersChanged}
 
 -- a segment was written in slot k at the offset o
 module _ {deal segment : List ℕ} {k o : ℕ} (facts : Fits deal segment k o) where
@@ -40,53 +39,6 @@ module _ {deal segment : List ℕ} {k o : ℕ} (facts : Fits deal segment k o) w
 
   abbrev n : ℕ
   n = area (length segment)
-
-  -- the slot takes up its area, and every other slot what it took up
-  range-new : rangesOf after k ≡ range o n
-  range-new = ap rowRange (row-written facts)
-
-  range-other : (j : ℕ) → j < entryCount (length deal) → j ≢ k → rangesOf after j ≡ rangesOf deal j
-  range-other j h ne = ap rowRange (row-same facts j h ne)
-
-  beside-new : (j : ℕ) → j < entryCount (length deal) → Beside o n (rangesOf deal j .offset) (rangesOf deal j .area)
-  beside-new j h = by-test (standing (length deal) (slotAt deal j)) refl
-    where
-      by-test : (b : Bool) → standing (length deal) (slotAt deal j) ≡ b
-          → Beside o n (rangesOf deal j .offset) (rangesOf deal j .area)
-      by-test true e =
-          subst (λ (r : Range). Beside o n (r .offset) (r .area)) (sym (range-stands (length deal) (slotAt deal j) e))
-          (overlap-false o n _ _ .0 (facts .apart j h e))
-      by-test false e =
-          subst (λ (r : Range). Beside o n (r .offset) (r .area)) (sym (range-free (length deal) (slotAt deal j) e))
-          (inl (omega arith))
-
-  abbrev BesideEachOther : Range → Range → Type 0
-  BesideEachOther r s = Beside (r .offset) (r .area) (s .offset) (s .area)
-
-  still-apart : RangesApart (rangesOf deal) (entryCount (length deal))
-      → RangesApart (rangesOf after) (entryCount (length deal))
-  still-apart apart i j hi hj ne =
-      elim (ℕ-discrete i k) [
-        | yes new ↦
-            subst₂ BesideEachOther (sym (ap (rangesOf after) new ∙ range-new))
-            (sym (range-other j hj (λ same. ne (new ∙ sym same)))) (beside-new j hj)
-        | no old ↦
-            elim (ℕ-discrete j k) [
-              | yes new ↦
-                  subst₂ BesideEachOther (sym (range-other i hi old)) (sym (ap (rangesOf after) new ∙ range-new))
-                  (⊎-elim (λ x. inr x) (λ y. inl y) (beside-new i hi))
-              | no old' ↦
-                  subst₂ BesideEachOther (sym (range-other i hi old)) (sym (range-other j hj old'))
-                  (apart i j hi hj ne)
-            ]
-      ]
-
-  written-apart : NoneOverlap deal → NoneOverlap (writtenDeal deal segment k o)
-  written-apart e =
-      let slots = ap entryCount (written-length facts) in
-      none-overlaps (rangesOf after) (entryCount (length after)) .1
-      (subst (RangesApart (rangesOf after)) (sym slots)
-      (still-apart (none-overlaps (rangesOf deal) (entryCount (length deal)) .0 e)))
 
   -- a byte below the index outside the area is as it was
   byte-same : (p : ℕ) → p < indexStart (length deal) → overlap p 1 o n ≡ false → getD after p 0 ≡ getD deal p 0

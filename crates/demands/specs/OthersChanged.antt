@@ -9,14 +9,8 @@ use lib.ListN.{length, getD}
 use Rattle.stray.specs.StrayBits.{noStrayBits}
 use Rattle.sizes.specs.Sizes.{entryCount, indexStart}
 use Rattle.index.specs.Slots.{slotAt, standing, rowAt}
-use Rattle.ranges.specs.Ranges.{rangesOf}
-use Rattle.packing.specs.Order.{noneOverlaps}
 use Rattle.houses.specs.Houses.{owned}
 use Rattle.demands.specs.Covers.{covers}
-
--- "no standing area overlaps another": what collection asks of a deal (20)
-abbrev pub NoneOverlap : List ℕ → Type 0
-NoneOverlap deal = noneOverlaps (rangesOf deal) (entryCount (length deal)) ≡ true
 
 -- the byte at p lies in no area of a standing entry that is somebody else's, the other house's or nobody's
 abbrev pub NotOthers : List ℕ → List ℕ → ℕ → ℕ → Type 0

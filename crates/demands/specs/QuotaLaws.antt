@@ -7,16 +7,15 @@ use Prim.Native.Nat.{ℕ, suc, _+_, _*_, _%_, _≤_, _<_}
 use native.Mathlib.Decide.{ℕ-discrete}
 use native.Mathlib.Omega.{arith}
 use mathlib.Core.List.{List, [], _∷_}
-use lib.ListN.{length, replicate, length-replicate}
+use lib.ListN.{length, replicate}
 use lib.Dec.{eqb}
 use borrow.Author.Tests.{eqb-true, leb-true, leb-false, le-leb, not-false}
 use Rattle.rules.specs.Search.{one}
-use Rattle.sizes.specs.Sizes.{entryCount, slotPlace}
+use Rattle.sizes.specs.Sizes.{entryCount}
 use Rattle.sizes.specs.SizesLaws.{DealSize}
 use Rattle.lent.specs.LentDeal.{LentDeal, lentDeal, dealSize}
 use Rattle.index.specs.Slots.{slotAt, standing}
 use Rattle.index.specs.SlotsLaws.{zero-free}
-use Rattle.index.specs.KeptRowsLaws.{slot-within}
 use Rattle.index.specs.Written.{slotOf}
 use Rattle.room.specs.Room.{isEmpty}
 use Rattle.room.specs.Decide.{answerTo}
@@ -41,9 +40,9 @@ use Rattle.collect.specs.MovesLaws.{Collectable}
 use Rattle.collect.specs.CollectLaws.{collected-length}
 use Rattle.collect.specs.CollectPacked.{standing-from}
 use Rattle.collect.specs.OwnersLaws.{owner-from}
-use Rattle.collect.specs.ZerosLaws.{zeros-part}
 use Rattle.demands.specs.Calls.{Call, bookSegment, cancelPlace, DealAndTable, answerIn, afterPlainCall, runCalls}
 use Rattle.demands.specs.CallsLaws.{run-length}
+use Rattle.demands.specs.ZeroDealLaws.{none-stands}
 use Rattle.demands.specs.HeldLaws.{count-both, count-none, holds-is, slots-even}
 use Rattle.demands.specs.HeldLaws.{written-held, written-held-other, cancelled-held, cancelled-held-other}
 use Rattle.demands.specs.CollectedHeldLaws.{collected-held}
@@ -292,27 +291,16 @@ module _ (d : ℕ) (table : List ℕ) where
   abbrev start : DealAndTable
   start = record { deal = zeros; table = table }
 
-  same-length : length zeros ≡ d
-  same-length = length-replicate d 0
-
-  none-stands : DealSize (length zeros) → (i : ℕ) → i < entryCount (length zeros)
-      → standing (length zeros) (slotAt zeros i) ≡ false
-  none-stands t i h =
-      let n = length zeros in
-      ap (standing n)
-      (zeros-part d (slotPlace n i) 64 (omega (arith, slot-within n i t h, same-length)))
-      ∙ zero-free n
-
   zeros-shared : DealSize (length zeros) → Shared start
   unfolding heldCount
   zeros-shared t =
       record {
-        all-owned = λ i h stands. absurd (true≢false (sym stands ∙ none-stands t i h));
+        all-owned = λ i h stands. absurd (true≢false (sym stands ∙ none-stands d i t h));
         half-at-most = λ house.
             let none = count-none (holds (rangesOf zeros) table house) 0 (entryCount (length zeros))
             (λ j a b.
             holds-is zeros table t house j
-            ∙ ap (λ (x : Bool). x && owned table house j) (none-stands t j (omega arith))) in
+            ∙ ap (λ (x : Bool). x && owned table house j) (none-stands d j t (omega arith))) in
             omega (arith, none);
       }
 

@@ -1,7 +1,6 @@
 pub mod Slots
 pub mod Find
 pub mod Tried
-pub mod Inspect
 pub mod Tally
 pub mod KeptRows
 pub mod Written

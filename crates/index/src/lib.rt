@@ -1,12 +1,10 @@
-// The index of a lent deal: its slots, finding a segment, inspecting a slot, and the tally of its slots.
+// The index of a lent deal: its slots, finding a segment, and the tally of its slots.
 mod finding; // finding.rt: finding a segment by its commitment
-mod inspecting; // inspecting.rt: what stands at an entry place
 mod slots; // slots.rt: standing and kept entries
 mod tallying; // tallying.rt: how many slots are of each kind
 
 pub use finding::find;
 pub use finding::find_numbers;
-pub use inspecting::inspect;
 pub use slots::area_of;
 pub use slots::kept_at;
 pub use slots::segment_node;
@@ -27,22 +25,6 @@ pub struct FoundSegment {
     pub offset: u64,
     pub size: u64,
     pub place: u64,
-}
-
-// What a slot holds: nothing that stands, a standing entry that is not kept, or a kept entry.
-pub enum SlotState {
-    Free,
-    Standing,
-    Kept,
-}
-
-// What stands at an entry place; zeros where the slot is free, and on a refusal.
-pub struct Inspected {
-    pub code: u8,
-    pub state: SlotState,
-    pub commitment: [u8; 32],
-    pub offset: u64,
-    pub size: u64,
 }
 
 // How many slots are blank, damaged and valid; zeros on a refusal.

@@ -9,13 +9,14 @@ use native.Mathlib.Omega.{arith}
 use lib.ListN.{length}
 use borrow.Author.Tests.{ne-eqb}
 use Rattle.entries.specs.Entry.{offsetIn, sizeIn}
-use Rattle.sizes.specs.Sizes.{area, indexStart, entryCount, segmentLevel, segmentPosition}
+use Rattle.sizes.specs.Sizes.{area, lentSizeAllowed, indexStart, entryCount, segmentLevel, segmentPosition}
 use Rattle.sizes.specs.AreaLaws.{area-doubled, area-is-doubled}
-use Rattle.sizes.specs.SizesLaws.{DealSize}
+use Rattle.sizes.specs.SizesLaws.{DealSize, lent-size, index-start-le}
 use Rattle.index.specs.KeptLaws.{row-stands, row-free}
 use Rattle.index.specs.KeptRowsLaws.{standing-size, standing-place, row-ends}
 use Rattle.index.specs.Slots.{standing, slotAt, rowOf, rowOffset, rowArea}
-use Rattle.room.specs.Room.{Range, range, EndBy, isEmpty}
+use Rattle.room.specs.Room.{Range, range, SameBelow, EndBy, Bounded, rangesIn, isEmpty}
+use Rattle.room.specs.declared.Ranges.{Ranges}
 use Rattle.ranges.specs.Ranges.{rowRange, rangesOf}
 
 module _ (d : ℕ) (entry : List ℕ) where
@@ -76,3 +77,19 @@ module _ (d : ℕ) (entry : List ℕ) where
 pub ranges-end : (deal : List ℕ) → DealSize (length deal)
     → EndBy (indexStart (length deal)) (entryCount (length deal)) (rangesOf deal)
 ranges-end deal t i h = row-ends (length deal) (slotAt deal i) t
+
+-- and so do those that were gathered of a lent deal
+pub gathered-bounded : (deal : List ℕ) (ranges : Ranges) → lentSizeAllowed (length deal) ≡ true
+    → SameBelow (entryCount (length deal)) (rangesIn ranges) (rangesOf deal)
+    → Bounded (entryCount (length deal)) ranges
+gathered-bounded deal ranges lent gathered i h =
+    let l = lent-size (length deal) lent in
+    let g = gathered i h in
+    omega (
+      arith,
+      ap (λ (r : Range). r .offset) g,
+      ap (λ (r : Range). r .area) g,
+      ranges-end deal (l .deal) i h,
+      index-start-le (length deal),
+      l .lent-high,
+    )

@@ -152,7 +152,7 @@ module _ (slots : ℕ) (r s : ℕ → Range) (same : SameBelow slots r s) where
   free-slot-cong =
       lowest-cong (λ i. isEmpty (r i)) (λ i. isEmpty (s i)) 0 slots (λ j a b. ap isEmpty (same j (omega arith)))
 
-  fits-cong : (n o : ℕ) → fits r slots n o ≡ fits s slots n o
+  pub fits-cong : (n o : ℕ) → fits r slots n o ≡ fits s slots n o
   fits-cong n o =
       ap isMissing
       (lowest-cong (λ i. overlaps o n (r i)) (λ i. overlaps o n (s i)) 0 slots

@@ -103,6 +103,11 @@ fn tally(deal: &[u8]) {
     show::number(tallied.valid);
 }
 
+fn audit(deal: &[u8], states: &mut [u8]) {
+    show::code(audit::audit(deal, states));
+    show::digest(states);
+}
+
 fn find(deal: &[u8], commitment: &[u8]) {
     let found = index::find_numbers(deal, commitment);
     let view = index::find(deal, commitment);
@@ -312,6 +317,10 @@ fn answer_with_tree(operation: u64, a: &mut [u8], b: &mut [u8], c: &mut [u8], x:
 fn answer_any(operation: u64, a: &mut [u8], b: &mut [u8], c: &mut [u8], x: u64, y: u64) {
     if operation == 8 {
         build(a, y, x, b);
+        return;
+    }
+    if operation == 14 {
+        audit(a, b);
         return;
     }
     if operation == 17 {

@@ -5,8 +5,6 @@ use mathlib.Core.List.{List}
 use lib.ListN.{length}
 use lib.Dec.{eqb}
 use Rattle.rules.specs.Choice.{choose}
-use Rattle.index.specs.declared.SlotState.{SlotState}
-use Rattle.index.specs.declared.SlotState.the-variants.{Free, Standing, Kept}
 use Rattle.fields.specs.declared.Field.{Field}
 use Rattle.fields.specs.declared.Field.the-variants.{Content, Refused}
 
@@ -25,12 +23,6 @@ lentOutput code value before = choose (eqb code 0) value before
 -- the same where it is written with one other code too: 15 in the bookings, 17 in the settlings
 abbrev pub lentOutputOr : {A : Type 0} → ℕ → ℕ → A → A → A
 lentOutputOr other code value before = choose (eqb code 0 || eqb code other) value before
-
--- the number of a slot's state
-abbrev pub stateNumber : SlotState → ℕ
-stateNumber Free = 0
-stateNumber Standing = 1
-stateNumber Kept = 2
 
 -- the four numbers of a field, 0 where none lies at the place
 abbrev pub fieldTag : Field → ℕ

@@ -1,55 +1,19 @@
 // Lent deals.
-use crate::numbers::state_number;
-use crate::output::WRONG_LENGTH;
-use crate::output::write_entry;
 use crate::output::write_three;
 ghost use mathlib.Core.Path.{_≡_};
 ghost use Rattle.lent.specs.LentDeal.{lentDeal};
-ghost use Rattle.index.specs.Inspect.{inspectAnswer};
 ghost use Rattle.index.specs.Tally.{tallyAnswer};
 ghost use Rattle.index.specs.Find.{findNumbers};
-ghost use Rattle.vizhuthamen.specs.Export.{lentCode, lentOutput, stateNumber};
+ghost use Rattle.audit.specs.Audit.{auditCode, auditedStates};
+ghost use Rattle.vizhuthamen.specs.Export.{lentOutput};
 
-// What stands at an entry place of a deal.
+// The state of every slot of a deal.
 #[no_mangle]
-pub extern "C" fn vz_inspect(
-    deal: &[u8],
-    place: u64,
-    state: &mut u32,
-    commitment: &mut [u8],
-    offset: &mut u64,
-    size: &mut u64,
-) -> u32
-    ensures { λ r. ⌜ r
-        ≡ lentCode 32 (now (commitment .entry)) (inspectAnswer (lentDeal (now (deal .entry))) place .code) ⌝ }
-    ensures { λ r. ⌜ now (state .exit)
-        ≡ lentOutput r (stateNumber (inspectAnswer (lentDeal (now (deal .entry))) place .state))
-        (now (state .entry)) ⌝ }
-    ensures { λ r. ⌜ now (commitment .exit)
-        ≡ lentOutput r (inspectAnswer (lentDeal (now (deal .entry))) place .commitment) (now (commitment .entry)) ⌝ }
-    ensures { λ r. ⌜ now (offset .exit)
-        ≡ lentOutput r (inspectAnswer (lentDeal (now (deal .entry))) place .offset) (now (offset .entry)) ⌝ }
-    ensures { λ r. ⌜ now (size .exit)
-        ≡ lentOutput r (inspectAnswer (lentDeal (now (deal .entry))) place .size) (now (size .entry)) ⌝ }
+pub extern "C" fn vz_audit(deal: &[u8], states: &mut [u8]) -> u32
+    ensures { λ r. ⌜ r ≡ auditCode (now (deal .entry)) (now (states .entry)) ⌝ }
+    ensures { λ _. ⌜ now (states .exit) ≡ auditedStates (now (deal .entry)) (now (states .entry)) ⌝ }
 {
-    if commitment.len() != 32 {
-        return WRONG_LENGTH;
-    }
-    let answer = index::inspect(deal, place);
-    let slot = answer.state;
-    let bytes = answer.commitment;
-    write_entry(
-        answer.code == 0,
-        state_number(slot),
-        bytes,
-        answer.offset,
-        answer.size,
-        state,
-        commitment,
-        offset,
-        size,
-    );
-    answer.code as u32
+    audit::audit(deal, states) as u32
 }
 
 // How many slots of a deal's index are blank, damaged and valid.

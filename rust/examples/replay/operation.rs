@@ -34,7 +34,7 @@ operations! {
     10 Settle
     11 SettleDeal
     12 Fields
-    14 Inspect
+    14 Audit
     16 Stream
     17 Pad
     18 Unpad
@@ -59,7 +59,7 @@ impl Operation {
             BookWithTree | CancelWithTree => "acd",
             Collect => "be",
             CollectWithTree => "bce",
-            Build | BuildWithTree | Pad | Unpad | TreeRow => "b",
+            Audit | Build | BuildWithTree | Pad | Unpad | TreeRow => "b",
             TreeFill => "c",
             _ => "",
         }

@@ -63,7 +63,7 @@ pub fn answer(case: &mut Case) -> Answer {
         Operation::Settle => settle_records(c, x, y, a, b),
         Operation::SettleDeal => settle_with_deal(a, None, y, b),
         Operation::Fields => fields(a),
-        Operation::Inspect => inspect(a, x),
+        Operation::Audit => audit(a, b),
         Operation::Stream => stream(a, b),
         Operation::Pad => pad(a, b),
         Operation::Unpad => unpad(x, a, b),
@@ -124,13 +124,9 @@ fn read_entry(entry: &[u8]) -> Answer {
     Written::new(code, &[0]).word(kind).bytes(node).number(offset).number(size).done()
 }
 
-fn inspect(deal: &[u8], place: u64) -> Answer {
-    let (mut state, mut node, mut offset, mut size) = (WORD, [PATTERN; 32], NUMBER, NUMBER);
-    let code = unsafe {
-        let out = node.as_mut_ptr();
-        ffi::vz_inspect(deal.as_ptr(), deal.len(), place, &mut state, out, 32, &mut offset, &mut size)
-    };
-    Written::new(code, &[0]).word(state).bytes(node).number(offset).number(size).done()
+fn audit(deal: &[u8], states: &mut [u8]) -> Answer {
+    let code = unsafe { ffi::vz_audit(deal.as_ptr(), deal.len(), states.as_mut_ptr(), states.len()) };
+    Ok(Line::code(code).bytes(&digest(states)?))
 }
 
 fn tally(deal: &[u8]) -> Answer {

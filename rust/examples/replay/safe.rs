@@ -1,7 +1,7 @@
 //! A case answered by the safe functions.
 use super::{digest, pieces, Answer, Case, Line, Operation};
 use std::fmt::Write;
-use vizhuthamen::{self as vz, Booking, Node, Position, ReadEntry, Refusal, Settled, Slot, Streaming};
+use vizhuthamen::{self as vz, Booking, Node, Position, ReadEntry, Refusal, Settled, Streaming};
 
 fn code(result: Result<(), Refusal>) -> Line {
     Line::code(result.err().map_or(0, Refusal::code))
@@ -24,7 +24,7 @@ pub fn answer(case: Case) -> Answer {
         Operation::Settle => Ok(settled(vz::settle_records(&c, x, y, &a, &b))),
         Operation::SettleDeal => Ok(settled(vz::settle_with_deal(&a, None, y, &b))),
         Operation::Fields => fields(&a),
-        Operation::Inspect => Ok(inspect(&a, x)),
+        Operation::Audit => audit(&a, &mut b),
         Operation::Stream => Ok(stream(&a, &b)),
         Operation::Pad => pad(&a, b),
         Operation::Unpad => unpad(x, &a, b),
@@ -78,14 +78,17 @@ fn read_entry(entry: &[u8]) -> Line {
     }
 }
 
-fn inspect(deal: &[u8], place: u64) -> Line {
-    let result = vz::inspect(deal, place);
-    let line = code(result.map(drop));
-    match result.unwrap_or(Slot::Free) {
-        Slot::Free => line.add(0).add(Node::default()).add(0).add(0),
-        Slot::Standing(entry) => line.add(1).add(entry.commitment).add(entry.offset).add(entry.size),
-        Slot::Kept(entry) => line.add(2).add(entry.commitment).add(entry.offset).add(entry.size),
+/// Where the buffer is long enough, it begins with the numbers of the states that a call without one gives.
+fn audit(deal: &[u8], states: &mut [u8]) -> Answer {
+    let written = vz::audit_into(deal, states);
+    let named = vz::audit(deal).map(|named| named.into_iter().map(|state| state as u8).collect::<Vec<u8>>());
+    match (&named, written) {
+        (Ok(numbers), Ok(())) if states.starts_with(numbers) => {}
+        (Ok(_), Err(Refusal::OUTPUT)) => {}
+        (Err(refusal), Err(other)) if *refusal == other => {}
+        _ => return Err(format!("audit answers {named:?}, audit_into {written:?} and {states:?}").into()),
     }
+    Ok(code(written).bytes(&digest(states)?))
 }
 
 fn tally(deal: &[u8]) -> Line {

@@ -138,6 +138,7 @@ pub enum Command {
     Cancel { deal: Stream, at: At, house: Option<u64>, commitment: Option<Vec<u8>>, reopen: bool, access: Access },
     Collect { deal: Stream, new: Stream, number: Option<u64>, force: bool, wait: bool },
     List { deal: Stream },
+    Audit { deal: Stream },
     Tally { deal: Stream },
     Find { deal: Stream, commitment: Vec<u8>, output: Output },
     FindRaw { deal: Stream, raw: Stream, output: Output },
@@ -543,6 +544,7 @@ fn operands_of(name: &str, words: &[OsString], options: &Options) -> Result<Comm
             Command::Collect { deal, new, number, force: options.has("force"), wait: options.wait() }
         }
         ("list", [deal]) => Command::List { deal: stream(deal)? },
+        ("audit", [deal]) => Command::Audit { deal: stream(deal)? },
         ("tally", [deal]) => Command::Tally { deal: stream(deal)? },
         ("find", [deal, node]) => {
             let instead = |file| format!("a plain file is found by: vizhuthamen find {} --raw {file}", shown(deal));
@@ -623,7 +625,7 @@ fn standard_inputs(command: &Command) -> usize {
         Command::Extract(extracting) => &[&extracting.deal],
         Command::Close(Closing { deal, .. }) => &[deal],
         Command::Cancel { deal, .. } | Command::Collect { deal, .. } => &[deal],
-        Command::List { deal } | Command::Tally { deal } => &[deal],
+        Command::List { deal } | Command::Audit { deal } | Command::Tally { deal } => &[deal],
         Command::Find { deal, .. } | Command::Build { deal, .. } => &[deal],
         Command::FindRaw { deal, raw, .. } => &[deal, raw],
         Command::Prove { deal, file, .. } => &[deal, file],
@@ -752,6 +754,7 @@ mod tests {
         assert_eq!(parsed("stream --raw=-"), stream(Stream::Standard, true, None, false));
         assert_eq!(parsed("stream f --state s --progress"), stream(file("f"), false, place(false), true));
         assert_eq!(parsed("stream --resume --state s --raw f"), stream(file("f"), true, place(true), false));
+        assert_eq!(parsed("audit d"), run(Command::Audit { deal: file("d") }));
         let pad = Command::Pad { raw: file("r"), output: output(Some(Stream::Standard)) };
         assert_eq!(parsed("pad r -o -"), Ok(Request::Run { command: pad, json: false }));
         let unpad = Command::Unpad { raw_length: 127, segment: file("s"), output: output(None) };
@@ -1013,6 +1016,9 @@ mod tests {
             "find d abc",
             "list d --output f",
             "list --all d",
+            "audit",
+            "audit d e",
+            "audit d --no-wait",
             "tally",
             "tally d e",
             "build d 256 --output",

@@ -1,4 +1,5 @@
 //! The commands: each reads its files, asks the library, and gives an answer.
+mod audit;
 mod book;
 mod cancel;
 mod close;
@@ -7,6 +8,7 @@ mod extract;
 mod fsck;
 mod house;
 mod list;
+mod listing;
 mod locate;
 mod number;
 mod owner;
@@ -55,6 +57,7 @@ pub fn run(command: Command) -> Result<Answer, Failure> {
         }
         Command::Collect { deal, new, number, force, wait } => collect::collect(&deal, &new, number, force, wait),
         Command::List { deal } => list::list(&deal),
+        Command::Audit { deal } => audit::audit(&deal),
         Command::Tally { deal } => tally(&deal),
         Command::Find { deal, commitment, output } => find(&deal, &commitment, output),
         Command::FindRaw { deal, raw, output } => locate::find_raw(&deal, &raw, output),
@@ -87,13 +90,13 @@ fn refused(refusal: Refusal, deal: &Content) -> Answer {
             answer.with_note(note)
         }
         (Refusal::STRAY_BITS, _) => {
-            answer.with_note(format!("what is wrong, and where, is shown by: vizhuthamen fsck {}", deal.name))
+            answer.with_note(format!("what is wrong, and where, is shown by: vizhuthamen fsck {}", deal.operand()))
         }
         (Refusal::PLACE, Ok(numbers)) => {
             let (first, last) = (numbers.start, deal.bytes.len() - survey::ENTRY);
             let places = format!("an entry place here is a multiple of 64 from {first} to {last}");
             let slots = format!("slots 0 to {}", numbers.entries - 1);
-            answer.with_note(format!("{places} ({slots}); they are shown by: vizhuthamen list {}", deal.name))
+            answer.with_note(format!("{places} ({slots}); they are shown by: vizhuthamen list {}", deal.operand()))
         }
         (Refusal::NO_SLOT | Refusal::NO_PLACE, _) => room::told(answer, deal),
         _ => answer,
@@ -441,8 +444,8 @@ mod tests {
         let places = [(0, 768), (3, 960), (4, 1024), (1 << 58, u64::MAX), (u64::MAX, u64::MAX)];
         for (slot, place) in places {
             assert_eq!(place_in(&deal, At::Slot(slot)), place);
-            let judged = vizhuthamen::inspect(&deal, place);
-            assert_eq!(judged.is_ok(), slot < 4, "{judged:?}");
+            let refusal = vizhuthamen::build(&deal, None, 0, place).unwrap_err();
+            assert_eq!(refusal != Refusal::PLACE, slot < 4, "{refusal:?}");
         }
         assert_eq!(place_in(&deal, At::Place(7)), 7);
         assert_eq!(place_in(&deal[..1000], At::Slot(1)), 0);

@@ -113,6 +113,8 @@ pub struct Viewed {
     pub known: Option<Known>,
     /// The table of its owners, or why it cannot be read; its names.
     table: Option<(Home, Result<Option<OwnerTable>, Failure>)>,
+    /// Its manifest, true or not, or why it cannot be read.
+    pub manifest: Result<Option<Manifest>, Failure>,
 }
 
 impl Viewed {
@@ -126,10 +128,10 @@ impl Viewed {
 pub fn read_viewed(stream: &Stream) -> Result<Viewed, Failure> {
     match stream {
         Stream::File(path) if path.is_file() => {
-            let View { content, known, table, home } = store::view(path)?;
-            Ok(Viewed { content, known, table: Some((home, table)) })
+            let View { content, known, table, manifest, home } = store::view(path)?;
+            Ok(Viewed { content, known, table: Some((home, table)), manifest })
         }
-        _ => read(stream).map(|content| Viewed { content, known: None, table: None }),
+        _ => read(stream).map(|content| Viewed { content, known: None, table: None, manifest: Ok(None) }),
     }
 }
 

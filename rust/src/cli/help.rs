@@ -303,7 +303,7 @@ kept; with --number it has that one. It is the caller's, and others have no perm
 DEAL. DEAL is read under its lock, which other readers share, until NEW is there; with --no-wait nobody is waited
 for, nothing is done and the exit status is 75.
 
-Code 20: two standing entries overlap. They are printed; `fsck` and `list` show which of them are kept, and
+Code 20: two standing entries overlap. They are printed; `fsck` shows which of them are kept, and
 `cancel` takes those away that are to go. A slot that is damaged, or whose entry does not stand, would be left
 out: where there is one, nothing is written and the exit status is 65, see fsck and repair. --force leaves it out.",
     },
@@ -312,16 +312,33 @@ out: where there is one, nothing is written and the exit status is 65, see fsck 
         operands: &["DEAL"],
         options: &[],
         summary: "list the index of a deal as a table",
-        text: "Lists every slot of the index: slot, entry place, state, owner, offset, size, commitment. The state is
-  blank     all its bytes are zero
-  damaged   its checksum is wrong
-  valid     its checksum is right, but its size or its offset is not allowed
-  standing  an entry stands, but its commitment is not that of the bytes at its offset
-  kept      an entry stands, and its commitment is that of the bytes at its offset
-A slot that is blank, damaged or valid holds no standing entry and is free for booking. The owner of a standing
-entry is 1, 2 or nobody, with the byte of DEAL.owners where it is not 0 then; ? where that table is not there, or has
-another length. With --json `owner` is 1, 2, or 0 for nobody, and `owner_byte` is there where the byte is another
-one.",
+        text: "Lists every slot of the index: slot, entry place, state, owner, offset, size, commitment, and the names that the
+manifest has for it, where there is one (see pack). The state is the first of these that applies:
+  blank             all its bytes are zero
+  damaged           its checksum is wrong
+  not standing      its checksum is right, but its size or its offset is not allowed
+  overlapping       an entry stands, and overlaps one that stands in a lower slot
+  wrong commitment  an entry stands, but its commitment is not that of the bytes at its offset
+  kept              an entry stands, and its commitment is that of the bytes at its offset
+In the first three no entry stands, and the slot is free for booking. Whether an overlapping entry is kept, and which
+slot it overlaps, is shown by `fsck`; with --json the slot is `overlaps`.
+
+The owner of a standing entry is 1, 2 or nobody, with the byte of DEAL.owners where it is not 0 then; ? where that
+table is not there, or has another length. With --json `owner` is 1, 2, or 0 for nobody, and `owner_byte` is there
+where the byte is another one.",
+    },
+    Topic {
+        name: "audit",
+        operands: &["DEAL"],
+        options: &[],
+        summary: "judge every slot of a deal that another program may have made",
+        text: "Prints the table of `list`, and how many slots are in each of its states. Exit status 0: every slot is blank or
+kept, as in a deal that only `book` and `pack`, `cancel` and `collect` have changed. Exit status 65: some are not.
+`fsck` says what is wrong with each, `repair` mends what is certain, and `salvage` writes out the segments that are
+whole, which can be booked into a new deal. Code 11: DEAL has stray bits, which `fsck` names. Nothing is changed.
+
+A deal that is taken over has no DEAL.vz, no DEAL.owners and no manifest yet: `number` keeps its number, and `owner`
+says whose its entries are, before it is booked into.",
     },
     Topic {
         name: "tally",
@@ -493,7 +510,7 @@ pub const GROUPS: &[(&str, &[&str])] = &[
     ("Files and their proofs", &["pack", "extract", "close", "prove", "verify"]),
     ("Records", &["build", "check", "settle", "settle-deal", "show"]),
     ("Deals and segments", &["new", "number", "owner", "book", "cancel", "collect", "list", "tally", "find"]),
-    ("Deals that are damaged", &["fsck", "repair", "salvage"]),
+    ("Deals that are damaged, or of others", &["audit", "fsck", "repair", "salvage"]),
     ("Bytes", &["commit", "stream", "pad", "unpad"]),
     ("This program", &["help", "completions"]),
 ];

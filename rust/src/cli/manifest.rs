@@ -177,6 +177,14 @@ impl Manifest {
         self.files.iter().find(|file| file.names.contains(name))
     }
 
+    /// The line of what a slot holds, or held before it was damaged: of its place, or else of the same segment, which the
+    /// other house may have listed. The manifest is up to date.
+    pub fn line_of(&self, slot: &Slot) -> Option<&Listed> {
+        let same =
+            |file: &&Listed| slot.standing().is_some_and(|entry| (entry.commitment, entry.size) == file.segment());
+        self.files.iter().find(|file| file.place == slot.place).or_else(|| self.files.iter().find(same))
+    }
+
     /// Adds a file, or its names to the line of the same segment.
     pub fn add(&mut self, file: Listed) {
         match self.files.iter_mut().find(|other| other.segment() == file.segment()) {
@@ -339,6 +347,26 @@ mod tests {
         assert_eq!((renewed.files.len(), renewed.files[0].place, renewed.files[0].entry.offset), (1, 832, 128));
         cancel(&mut deal, None, &mut table, 1, 832).unwrap();
         assert_eq!(renewed.renewed(&deal).unwrap().manifest, Manifest::default());
+    }
+
+    /// By its place, and else by its segment; of a damaged slot the line of what it held, and of a blank one none.
+    #[test]
+    fn a_slot_has_the_line_of_what_it_holds() {
+        let (mut deal, manifest) = packed(2);
+        let mut table = [2, 1, 0, 0];
+        book(&mut deal, None, &mut table, 2, &[2; 100]).unwrap(); // house 1's, booked by the other too
+        let lines = |deal: &[u8]| -> Vec<Option<u64>> {
+            let manifest = manifest.renewed(deal).unwrap().manifest;
+            let place = |slot: &Slot| manifest.line_of(slot).map(|file| file.place);
+            survey::slots(deal).unwrap().iter().map(place).collect()
+        };
+        assert_eq!(lines(&deal), [Some(768), Some(832), Some(832), None]);
+        deal[768] ^= 1;
+        assert_eq!(lines(&deal), [Some(768), Some(832), Some(832), None]);
+        deal[832..896].fill(0);
+        assert_eq!(lines(&deal), [Some(768), None, Some(896), None]);
+        book(&mut deal, None, &mut [0; 4], 1, &[9; 100]).unwrap(); // in the place of what was damaged
+        assert_eq!(lines(&deal), [None, None, Some(896), None]);
     }
 
     #[test]

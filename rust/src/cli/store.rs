@@ -9,9 +9,9 @@
 //! them in their places. One file is put there by a rename. Several are put there together or not at all: a journal that names them
 //! is put in place first, and whoever opens the deal next ends what the journal says.
 //!
-//! **Beside a deal** lie what is known of it (`sidecar`) and the table of its owners (`owners`), which changes
-//! together with the deal or alone. All three are read under the lock, or without it as they were at one moment
-//! (`view`). So does its manifest (`cli::manifest`), which changes with the deal and is read under the lock alone.
+//! **Beside a deal** lie what is known of it (`sidecar`), the table of its owners (`owners`), which changes together
+//! with the deal or alone, and its manifest (`cli::manifest`), which changes with the deal. All are read under the
+//! lock, or without it as they were at one moment (`view`).
 //!
 //! **Names** that a change needs for a moment are those of the deal with a number (`names`). Whoever holds the deal's lock may remove
 //! them, so that they never pile up; a file aside that is written without a deal's lock is locked itself for as long as it is in use.

@@ -1,7 +1,7 @@
 //! What the slots of a deal hold, whatever the deal's bytes are. The library is asked of each slot and of each area alone, so that stray
 //! bits in one place hide nothing elsewhere, and each area is hashed once however many entries name it.
 use std::collections::{BTreeSet, HashMap};
-use vizhuthamen::{Entry, IndexNumbers, Node, ReadEntry, Refusal, MAX_DEAL};
+use vizhuthamen::{Entry, IndexNumbers, Node, ReadEntry, Refusal, SlotState, MAX_DEAL};
 
 /// The bytes of a node, and of an entry.
 const NODE: usize = 32;
@@ -54,6 +54,17 @@ impl Slot {
         match self.state {
             State::Standing { entry, .. } => Some(entry),
             _ => None,
+        }
+    }
+
+    /// The state that the library's audit gives the slot where it overlaps none.
+    pub fn alone(&self) -> SlotState {
+        match self.state {
+            State::Blank => SlotState::Blank,
+            State::Damaged => SlotState::Damaged,
+            State::Valid(_) => SlotState::NotStanding,
+            State::Standing { kept: false, .. } => SlotState::WrongCommitment,
+            State::Standing { kept: true, .. } => SlotState::Kept,
         }
     }
 
@@ -253,7 +264,7 @@ impl Tree {
 #[cfg(test)]
 mod tests {
     use super::*;
-    use vizhuthamen::{book, commitment, inspect, make_entry};
+    use vizhuthamen::{audit, book, commitment, make_entry};
 
     /// Bytes that look random, without stray bits; others for every seed.
     pub fn noise(seed: u64, length: usize) -> Vec<u8> {
@@ -270,13 +281,19 @@ mod tests {
         bytes
     }
 
-    /// The state as the library's own routine on the whole deal gives it.
-    fn inspected(deal: &[u8], slot: &Slot) -> bool {
-        match (inspect(deal, slot.place).unwrap(), slot.state) {
-            (vizhuthamen::Slot::Free, State::Blank | State::Damaged | State::Valid(_)) => true,
-            (vizhuthamen::Slot::Standing(entry), State::Standing { entry: own, kept: false, .. }) => entry == own,
-            (vizhuthamen::Slot::Kept(entry), State::Standing { entry: own, kept: true, .. }) => entry == own,
-            _ => false,
+    /// Asserts that every slot is in the state that the library's audit gives it. One that overlaps a lower slot may be
+    /// kept or not: it is what it is alone where the others are blank.
+    fn assert_audited(deal: &[u8]) {
+        for (slot, state) in survey(deal).unwrap().slots.iter().zip(audit(deal).unwrap()) {
+            assert_eq!(
+                if slot.overlaps().is_some() { SlotState::Overlapping } else { slot.alone() },
+                state,
+                "{slot:?}"
+            );
+            let mut others = deal.to_vec();
+            others[deal.len() - 256..slot.place as usize].fill(0);
+            others[slot.place as usize + ENTRY..].fill(0);
+            assert_eq!(slot.alone(), audit(&others).unwrap()[slot.number as usize], "{slot:?}");
         }
     }
 
@@ -299,11 +316,10 @@ mod tests {
                     deal[1920 + 64 * slot..][..64].copy_from_slice(&make_entry(&[1; 32], offset, *size).unwrap());
                 }
                 deal[1792 + 64] ^= (j % 2) as u8;
-                for slot in survey(&deal).unwrap().slots {
-                    assert!(inspected(&deal, &slot), "{offset} {pair:?} {slot:?}");
-                    kept += usize::from(slot.kept().is_some());
-                    standing += usize::from(slot.standing().is_some());
-                }
+                assert_audited(&deal);
+                let slots = survey(&deal).unwrap().slots;
+                kept += slots.iter().filter(|slot| slot.kept().is_some()).count();
+                standing += slots.iter().filter(|slot| slot.standing().is_some()).count();
             }
         }
         assert!(kept > 20 && standing > kept + 20, "{kept} {standing}");

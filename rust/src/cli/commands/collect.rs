@@ -14,7 +14,7 @@ use super::super::survey::{self, area, Slot};
 use super::super::table::{table, Column};
 use super::fsck::wrong_slot;
 use super::house::wrong_table;
-use super::list::{slot_members, state};
+use super::listing::slot_members;
 use super::{path_of, refused, text, unsound};
 use std::cmp::Reverse;
 use std::fs;
@@ -117,8 +117,8 @@ fn refused_collecting(refusal: Refusal, source: &Source, entries: usize) -> Resu
         }
     }
     Ok(Answer::refused(refusal).with_text(lines, vec![("wrong", Json::List(list))]).with_note(format!(
-        "which of them are kept is shown by: vizhuthamen fsck {name}, vizhuthamen list {name}; those that are to go are \
-         cancelled: vizhuthamen cancel {name} PLACE"
+        "which of them are kept is shown by: vizhuthamen fsck {name}; those that are to go are cancelled: vizhuthamen \
+         cancel {name} PLACE"
     )))
 }
 
@@ -207,7 +207,8 @@ fn move_members(moved: &Move) -> Json {
 /// Adds the new deal's size and number, where the entries were moved, and the slots that were left out.
 fn told(answer: Answer, moves: &[Move], left: &[Slot], size: usize, number: Option<u64>) -> Answer {
     let rows: Vec<Vec<String>> = moves.iter().map(move_row).collect();
-    let left = left.iter().map(|slot| Json::Object(slot_members(slot, state(slot), &Owners::Nowhere))).collect();
+    let left =
+        left.iter().map(|slot| Json::Object(slot_members(slot, slot.alone().words(), &Owners::Nowhere))).collect();
     let mut members = vec![("size", Json::Number(size as u64))];
     members.extend(number.map(|number| ("number", Json::Number(number))));
     members.push(("moved", Json::List(moves.iter().map(move_members).collect())));

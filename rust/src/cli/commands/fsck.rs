@@ -8,7 +8,7 @@ use super::super::owners::Owners;
 use super::super::progress::Progress;
 use super::super::store::names::shown;
 use super::super::survey::{self, area, Slot, State, Stray, Survey};
-use super::list::{slot_members, state};
+use super::listing::slot_members;
 use super::{refused, text};
 use std::path::Path;
 use vizhuthamen::{Node, Refusal};
@@ -165,7 +165,7 @@ impl Wrong {
             self.odd.push(Json::Object(vec![
                 ("slot", Json::Number(*number)),
                 ("place", Json::Number(*place)),
-                ("state", text(state(slot))),
+                ("state", text(slot.alone())),
                 ("owner_byte", Json::Number(u64::from(byte))),
             ]));
         }

@@ -9,7 +9,7 @@ use super::super::progress::Progress;
 use super::super::store::names::shown;
 use super::super::survey::{Slot, State};
 use super::fsck::{disagreeing, file_name, read};
-use super::list::{slot_members, state};
+use super::listing::slot_members;
 use super::text;
 use std::fs;
 use std::path::{Path, PathBuf};
@@ -37,8 +37,9 @@ pub fn salvage(deal: &Stream, folder: &Path, wait: bool) -> Result<Answer, Failu
                 files.push(Json::Object([members, vec![("file", file_name(&path))]].concat()));
             }
             None => {
-                lines.push_str(&format!("slot {number} (place {place}{whose}): {}, not written\n", state(slot)));
-                left.push(Json::Object(slot_members(slot, state(slot), &read.owners)));
+                let state = slot.alone();
+                lines.push_str(&format!("slot {number} (place {place}{whose}): {state}, not written\n"));
+                left.push(Json::Object(slot_members(slot, state.words(), &read.owners)));
             }
         }
     }

@@ -1,0 +1,4 @@
+pub mod Audit
+pub mod SlotStateLaws
+pub mod AuditLaws
+pub mod Gathered
