@@ -1,13 +1,14 @@
 # The command line and the libraries for programs in other languages, and their installation.
 #
-#   make                                    target/lib: the static and the shared library; target/cli: the command line with its man page
-#                                           and completions. Where the proved archive is not there yet, tools/levels makes it (the
-#                                           Rattle kit, gcc and binutils are needed)
-#   make install [PREFIX=DIR] [DESTDIR=DIR] all of these, header, pkg-config file and Python package, below PREFIX (/usr/local); what is
-#                                           written goes below DESTDIR, and names no DESTDIR in it
+#   make                                    target/lib: the static and the shared library, and the WebAssembly modules; target/cli: the
+#                                           command line with its man page and completions. Where the proved archive is not there yet,
+#                                           tools/levels makes it (the Rattle kit, gcc and binutils are needed)
+#   make install [PREFIX=DIR] [DESTDIR=DIR] all of these, header, pkg-config file, Python package and JavaScript package, below PREFIX
+#                                           (/usr/local); what is written goes below DESTDIR, and names no DESTDIR in it
 #
-# BINDIR, MANDIR, BASHDIR, ZSHDIR, FISHDIR, INCLUDEDIR, LIBDIR and PYTHONDIR name other folders than PREFIX gives. Without cargo there is no
-# command line; without python3 there is no PYTHONDIR, and no package is written.
+# BINDIR, MANDIR, BASHDIR, ZSHDIR, FISHDIR, INCLUDEDIR, LIBDIR, PYTHONDIR and JAVASCRIPTDIR name other folders than PREFIX gives. Without
+# cargo there is no command line; without python3 there is no PYTHONDIR, and no package is written; without wasm-opt (Debian's package
+# binaryen) there are no WebAssembly modules and no JavaScript package.
 PREFIX = /usr/local
 BINDIR = $(PREFIX)/bin
 MANDIR = $(PREFIX)/share/man
@@ -17,6 +18,7 @@ FISHDIR = $(PREFIX)/share/fish/vendor_completions.d
 INCLUDEDIR = $(PREFIX)/include
 LIBDIR = $(PREFIX)/lib
 PYTHONDIR = $(shell python3 -c 'import sysconfig as s; print(s.get_path("purelib", "posix_prefix", {"base": "$(PREFIX)"}))')
+JAVASCRIPTDIR = $(PREFIX)/share/javascript/vizhuthamen
 
 header = include/vizhuthamen.h
 version := $(shell sed -n 's/^\#define VZ_VERSION "\(.*\)"/\1/p' $(header))
@@ -28,6 +30,9 @@ out = target/lib
 proved = target/levels/libvizhuthamen.a
 modules = $(wildcard python/vizhuthamen/*)
 CARGO := $(shell command -v cargo)
+WASM_OPT := $(shell command -v wasm-opt)
+wasm = vizhuthamen.wasm vizhuthamen-simd.wasm
+javascript = javascript/vizhuthamen.mjs javascript/vizhuthamen.d.mts
 cli = target/cli
 program = $(cli)/release/vizhuthamen
 texts = $(addprefix $(cli)/,vizhuthamen.1 vizhuthamen.bash vizhuthamen.zsh vizhuthamen.fish)
@@ -35,7 +40,8 @@ texts = $(addprefix $(cli)/,vizhuthamen.1 vizhuthamen.bash vizhuthamen.zsh vizhu
 .PHONY: all install
 .DELETE_ON_ERROR:
 
-all: $(out)/libvizhuthamen.a $(out)/$(shared) $(if $(CARGO),$(program) $(texts))
+all: $(out)/libvizhuthamen.a $(out)/$(shared) $(if $(CARGO),$(program) $(texts)) $(if $(WASM_OPT),$(wasm:%=$(out)/%))
+	@$(if $(WASM_OPT),,echo "make: no WebAssembly modules: wasm-opt is not there (Debian's package binaryen)")
 
 $(proved): $(shell find crates -name '*.rt')
 	tools/levels
@@ -59,6 +65,13 @@ $(out)/$(shared): $(out)/libvizhuthamen.a $(out)/exported
 	    -Wl,-z,defs,-z,now,-z,relro,-z,noexecstack -o $@
 	ln -sf $(shared) $(out)/$(soname)
 	ln -sf $(soname) $(out)/$(plain)
+
+$(wasm:%=target/targets/%) &: $(proved) tools/targets tools/kit.bash
+	tools/targets
+
+$(wasm:%=$(out)/%): $(out)/%: target/targets/%
+	mkdir -p $(out)
+	cp $< $@
 
 # The archive that chooses a level is linked in; a folder of its own, since tests link others.
 $(program): $(proved) $(shell find rust/src -name '*.rs') rust/Cargo.toml rust/Cargo.lock rust/build.rs
@@ -88,3 +101,6 @@ install: all
 	    install -D -m 644 $(cli)/vizhuthamen.fish '$(DESTDIR)$(FISHDIR)/vizhuthamen.fish'; }
 	[ -z '$(PYTHONDIR)' ] || { install -d '$(DESTDIR)$(PYTHONDIR)/vizhuthamen' && \
 	    install -m 644 $(modules) '$(DESTDIR)$(PYTHONDIR)/vizhuthamen'; }
+	[ -z '$(WASM_OPT)' ] || { install -d '$(DESTDIR)$(JAVASCRIPTDIR)' && \
+	    install -m 644 $(javascript) $(wasm:%=$(out)/%) '$(DESTDIR)$(JAVASCRIPTDIR)' && \
+	    sed 's|@VERSION@|$(version)|' javascript/package.json.in > '$(DESTDIR)$(JAVASCRIPTDIR)/package.json'; }

@@ -14,6 +14,7 @@ import subprocess
 import sys
 import time
 from collections import Counter
+from concurrent.futures import ThreadPoolExecutor
 from pathlib import Path
 
 import audit_cases
@@ -53,7 +54,7 @@ class Difference(Exception):
 
 
 class Comparison:
-    """Feeds batches to the replay program and counts what was compared."""
+    """Feeds batches to the replay program, while the model answers them, and counts what was compared."""
 
     def __init__(self, command):
         self.command = command
@@ -61,8 +62,10 @@ class Comparison:
 
     def batch(self, calls):
         calls = [c for c in calls if c[0] in ROUTINES]
-        expected = [answer(c) for c in calls]
-        ran = subprocess.run(self.command, input=b"".join(map(encode, calls)), capture_output=True)
+        with ThreadPoolExecutor(1) as beside:
+            running = beside.submit(subprocess.run, self.command, input=b"".join(map(encode, calls)), capture_output=True)
+            expected = [answer(c) for c in calls]
+        ran = running.result()
         got = ran.stdout.decode(errors="replace").splitlines(keepends=True)
         for i, call in enumerate(calls):
             if i >= len(got) or got[i] != expected[i]:

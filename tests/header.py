@@ -45,3 +45,12 @@ def defined(name):
     """What a name is defined as: a number, or a text."""
     value = re.search(rf"^#define {name} (?:UINT64_C\()?([^)\s]+)", TEXT, re.MULTILINE)[1]
     return value.strip('"') if value.startswith('"') else int(value)
+
+
+LENGTHS = "MAX_DEAL", "MAX_RAW", "MAX_RECORD", "MAX_STREAM", "MAX_TABLE", "STREAM_STATE"
+
+
+def stated():
+    """All of it, for programs in other languages."""
+    return {"routines": routines(), "codes": codes(), "lengths": {name: defined(f"VZ_{name}") for name in LENGTHS},
+            "version": defined("VZ_VERSION")}

@@ -1,10 +1,12 @@
-"""Installs all below a prefix, looks at what is there, and runs programs in C, Rust and Python with it, and the command line.
+"""Installs all below a prefix, looks at what is there, and runs programs in C, Rust, Python and JavaScript with it, and
+the command line.
 
 Run from anywhere, after cargo build --release --examples: python3 tests/install_test.py
 
 The shared library has the header's functions for others and no other name, each proved one as a choice of levels. The C smoke program
-is linked with the shared and the static library by what pkg-config says. The three programs of examples/ check records of
-vectors/vectors.json, and must say the same. The command line stands alone, chooses a level when it starts, and its man page and
+is linked with the shared and the static library by what pkg-config says. The programs of examples/ check records of
+vectors/vectors.json, and must say the same. The JavaScript package is found by its name, and its module beside it; without wasm-opt or node
+it is left out, which is said. The command line stands alone, chooses a level when it starts, and its man page and
 completions, which lie where man and the shells look for them, are those that it prints.
 """
 import json
@@ -25,6 +27,8 @@ SONAME = "libvizhuthamen.so." + VERSION.rsplit(".", 1)[0]
 TEXTS = {"share/man/man1/vizhuthamen.1": ("help", "--man"), "share/bash-completion/completions/vizhuthamen": ("completions", "bash"),
          "share/zsh/site-functions/_vizhuthamen": ("completions", "zsh"),
          "share/fish/vendor_completions.d/vizhuthamen.fish": ("completions", "fish")}
+JAVASCRIPT = "share/javascript/vizhuthamen"
+SCRIPT = "package.json", "vizhuthamen-simd.wasm", "vizhuthamen.d.mts", "vizhuthamen.mjs", "vizhuthamen.wasm"
 CHECKED = ("no-fault", "p4", "p7", "p7-other-node", "fault-size", "fault-form", "fault-number", "fault-path-bits", "fault-segment-path",
            "fault-entry-path", "cut", "other-commitment")
 
@@ -49,7 +53,8 @@ def expected_files():
     package = Path(sysconfig.get_path("purelib", "posix_prefix", {"base": ""})).relative_to("/") / "vizhuthamen"
     modules = [str(package / path.name) for path in (ROOT / "python" / "vizhuthamen").iterdir() if path.is_file()]
     libraries = ["libvizhuthamen.a", "libvizhuthamen.so", SONAME, f"libvizhuthamen.so.{VERSION}", "pkgconfig/vizhuthamen.pc"]
-    return sorted(["bin/vizhuthamen", *TEXTS, "include/vizhuthamen.h", *(f"lib/{name}" for name in libraries), *modules]), package.parent
+    script = [f"{JAVASCRIPT}/{name}" for name in SCRIPT] if shutil.which("wasm-opt") else []
+    return sorted(["bin/vizhuthamen", *TEXTS, "include/vizhuthamen.h", *(f"lib/{name}" for name in libraries), *modules, *script]), package.parent
 
 
 def install(folder):
@@ -120,10 +125,29 @@ def smoke(prefix):
     return len(answers.splitlines())
 
 
+def javascript(prefix):
+    """Whether the JavaScript package is there and can be run: a program that knows its name alone, and that loads what lies beside it."""
+    missing = [tool for tool in ("wasm-opt", "node") if not shutil.which(tool)]
+    if missing:
+        print(f"install_test: the JavaScript package skipped: there is no {' and no '.join(missing)}")
+        return False
+    program = prefix.root.parent / "program.mjs"
+    (prefix.root.parent / "node_modules").mkdir()
+    (prefix.root.parent / "node_modules" / "vizhuthamen").symlink_to(prefix.root / JAVASCRIPT)
+    program.write_text('import { VERSION, load } from "vizhuthamen";\nconsole.log(VERSION, (await load()).indexNumbers(512).start);\n')
+    if ran("node", program) != f"{VERSION} 256\n":
+        fail("the JavaScript package answers something else")
+    if json.loads((prefix.root / JAVASCRIPT / "package.json").read_text())["version"] != VERSION:
+        fail("the JavaScript package tells another version")
+    return True
+
+
 def examples(prefix):
     """Each program for each record: the code and its meaning, the code as exit status. The Python package finds its library itself."""
     programs = [[prefix.compiled("examples/check.c", "check")], [ROOT / "rust/target/release/examples/check"],
                 [sys.executable, ROOT / "examples/check.py"]]
+    if javascript(prefix):
+        programs.append(["node", ROOT / "examples/check.mjs"])
     for source in (ROOT / "examples").iterdir():
         if len(source.read_text().splitlines()) > 15:
             fail(f"{source} has more than fifteen lines")
@@ -162,9 +186,9 @@ def command_line(prefix):
 
 
 def licence():
-    """One licence, by its name in LICENSE, the crate, the Python package and the README."""
+    """One licence, by its name in LICENSE, the crate, the packages and the README."""
     texts = {"LICENSE": "SPDX-License-Identifier: 0BSD", "rust/Cargo.toml": 'license = "0BSD"', "README.md": "(0BSD)",
-             "python/vizhuthamen/__init__.py": '__license__ = "0BSD"'}
+             "python/vizhuthamen/__init__.py": '__license__ = "0BSD"', "javascript/package.json.in": '"license": "0BSD"'}
     for name, part in texts.items():
         if part not in (ROOT / name).read_text():
             fail(f"{name} does not say: {part}")
