@@ -1,14 +1,15 @@
 # The command line and the libraries for programs in other languages, and their installation.
 #
 #   make                                    target/lib: the static and the shared library, and the WebAssembly modules; target/cli: the
-#                                           command line with its man page and completions. Where the proved archive is not there yet,
-#                                           tools/levels makes it (the Rattle kit, gcc and binutils are needed)
+#                                           command line with its man page and completions; target/page: the page that checks proofs.
+#                                           Where the proved archive is not there yet, tools/levels makes it (the Rattle kit, gcc and
+#                                           binutils are needed)
 #   make install [PREFIX=DIR] [DESTDIR=DIR] all of these, header, pkg-config file, Python package and JavaScript package, below PREFIX
 #                                           (/usr/local); what is written goes below DESTDIR, and names no DESTDIR in it
 #
-# BINDIR, MANDIR, BASHDIR, ZSHDIR, FISHDIR, INCLUDEDIR, LIBDIR, PYTHONDIR and JAVASCRIPTDIR name other folders than PREFIX gives. Without
-# cargo there is no command line; without python3 there is no PYTHONDIR, and no package is written; without wasm-opt (Debian's package
-# binaryen) there are no WebAssembly modules and no JavaScript package.
+# BINDIR, MANDIR, BASHDIR, ZSHDIR, FISHDIR, INCLUDEDIR, LIBDIR, PYTHONDIR, JAVASCRIPTDIR and PAGEDIR name other folders than PREFIX gives.
+# Without cargo there is no command line; without python3 there is no PYTHONDIR, and no package is written; without wasm-opt (Debian's
+# package binaryen) there are no WebAssembly modules and no JavaScript package; without either of these two there is no page.
 PREFIX = /usr/local
 BINDIR = $(PREFIX)/bin
 MANDIR = $(PREFIX)/share/man
@@ -19,6 +20,7 @@ INCLUDEDIR = $(PREFIX)/include
 LIBDIR = $(PREFIX)/lib
 PYTHONDIR = $(shell python3 -c 'import sysconfig as s; print(s.get_path("purelib", "posix_prefix", {"base": "$(PREFIX)"}))')
 JAVASCRIPTDIR = $(PREFIX)/share/javascript/vizhuthamen
+PAGEDIR = $(PREFIX)/share/vizhuthamen
 
 header = include/vizhuthamen.h
 version := $(shell sed -n 's/^\#define VZ_VERSION "\(.*\)"/\1/p' $(header))
@@ -33,6 +35,8 @@ CARGO := $(shell command -v cargo)
 WASM_OPT := $(shell command -v wasm-opt)
 wasm = vizhuthamen.wasm vizhuthamen-simd.wasm
 javascript = javascript/vizhuthamen.mjs javascript/vizhuthamen.d.mts
+PYTHON := $(shell command -v python3)
+page = $(if $(WASM_OPT),$(if $(PYTHON),target/page/vizhuthamen.html))
 cli = target/cli
 program = $(cli)/release/vizhuthamen
 texts = $(addprefix $(cli)/,vizhuthamen.1 vizhuthamen.bash vizhuthamen.zsh vizhuthamen.fish)
@@ -40,7 +44,7 @@ texts = $(addprefix $(cli)/,vizhuthamen.1 vizhuthamen.bash vizhuthamen.zsh vizhu
 .PHONY: all install
 .DELETE_ON_ERROR:
 
-all: $(out)/libvizhuthamen.a $(out)/$(shared) $(if $(CARGO),$(program) $(texts)) $(if $(WASM_OPT),$(wasm:%=$(out)/%))
+all: $(out)/libvizhuthamen.a $(out)/$(shared) $(if $(CARGO),$(program) $(texts)) $(if $(WASM_OPT),$(wasm:%=$(out)/%)) $(page)
 	@$(if $(WASM_OPT),,echo "make: no WebAssembly modules: wasm-opt is not there (Debian's package binaryen)")
 
 $(proved): $(shell find crates -name '*.rt')
@@ -73,6 +77,9 @@ $(wasm:%=$(out)/%): $(out)/%: target/targets/%
 	mkdir -p $(out)
 	cp $< $@
 
+target/page/vizhuthamen.html: $(wasm:%=$(out)/%) javascript/vizhuthamen.mjs tools/page $(shell find page -type f)
+	tools/page
+
 # The archive that chooses a level is linked in; a folder of its own, since tests link others.
 $(program): $(proved) $(shell find rust/src -name '*.rs') rust/Cargo.toml rust/Cargo.lock rust/build.rs
 	VIZHUTHAMEN_LIB='$(CURDIR)/$(dir $(proved))' $(CARGO) build --release --offline --quiet --bins \
@@ -104,3 +111,4 @@ install: all
 	[ -z '$(WASM_OPT)' ] || { install -d '$(DESTDIR)$(JAVASCRIPTDIR)' && \
 	    install -m 644 $(javascript) $(wasm:%=$(out)/%) '$(DESTDIR)$(JAVASCRIPTDIR)' && \
 	    sed 's|@VERSION@|$(version)|' javascript/package.json.in > '$(DESTDIR)$(JAVASCRIPTDIR)/package.json'; }
+	[ -z '$(page)' ] || install -D -m 644 $(page) '$(DESTDIR)$(PAGEDIR)/vizhuthamen.html'

@@ -27,6 +27,7 @@ SONAME = "libvizhuthamen.so." + VERSION.rsplit(".", 1)[0]
 TEXTS = {"share/man/man1/vizhuthamen.1": ("help", "--man"), "share/bash-completion/completions/vizhuthamen": ("completions", "bash"),
          "share/zsh/site-functions/_vizhuthamen": ("completions", "zsh"),
          "share/fish/vendor_completions.d/vizhuthamen.fish": ("completions", "fish")}
+PAGE = "share/vizhuthamen/vizhuthamen.html"
 JAVASCRIPT = "share/javascript/vizhuthamen"
 SCRIPT = "package.json", "vizhuthamen-simd.wasm", "vizhuthamen.d.mts", "vizhuthamen.mjs", "vizhuthamen.wasm"
 CHECKED = ("no-fault", "p4", "p7", "p7-other-node", "fault-size", "fault-form", "fault-number", "fault-path-bits", "fault-segment-path",
@@ -53,7 +54,7 @@ def expected_files():
     package = Path(sysconfig.get_path("purelib", "posix_prefix", {"base": ""})).relative_to("/") / "vizhuthamen"
     modules = [str(package / path.name) for path in (ROOT / "python" / "vizhuthamen").iterdir() if path.is_file()]
     libraries = ["libvizhuthamen.a", "libvizhuthamen.so", SONAME, f"libvizhuthamen.so.{VERSION}", "pkgconfig/vizhuthamen.pc"]
-    script = [f"{JAVASCRIPT}/{name}" for name in SCRIPT] if shutil.which("wasm-opt") else []
+    script = [PAGE, *(f"{JAVASCRIPT}/{name}" for name in SCRIPT)] if shutil.which("wasm-opt") else []
     return sorted(["bin/vizhuthamen", *TEXTS, "include/vizhuthamen.h", *(f"lib/{name}" for name in libraries), *modules, *script]), package.parent
 
 
