@@ -174,16 +174,19 @@ def large_areas():
     deal, areas = halves()
     slots = standing(deal, *((SLOT_KEPT, *row) for row in areas))
     yield audited(deal, slots | {127: (SLOT_OVERLAPPING, own_entry(deal, areas[-1][0], 128))})
-    yield audited(deal, {i: (SLOT_WRONG, MODEL.entry(own_entry(deal, offset, size // 2)[:32], offset, size))
-                         for i, (offset, size) in enumerate(areas)})
+    yield audited(deal, {127: (SLOT_NOT_STANDING, NOBODYS)} | {
+        i: (SLOT_WRONG, MODEL.entry(own_entry(deal, offset, size // 2)[:32], offset, size)) for i, (offset, size) in enumerate(areas)})
 
 
 def far_areas():
-    """An area at the end of a large one, and the same far offset twice."""
-    for d in (1 << k + 1 for k in (12, 16, 20)):
-        deal = bytes(d)
-        yield audited(deal, standing(deal, (SLOT_KEPT, 0, d // 2), (SLOT_OVERLAPPING, d // 2 - 128, 128)))
-        yield audited(deal, standing(deal, (SLOT_KEPT, 0, 128), (SLOT_KEPT, d // 4, 128), (SLOT_OVERLAPPING, d // 4, 128)))
+    """An area at the end of a large one, and a kept one in the last slot; the same far offset twice."""
+    for k in (12, 16, 20, 22, 23):
+        deal = bytes(2 << k)
+        last = {entries_of(len(deal)) - 1: (SLOT_KEPT, own_entry(deal, 1 << k, 128))}
+        yield audited(deal, standing(deal, (SLOT_KEPT, 0, 1 << k), (SLOT_OVERLAPPING, (1 << k) - 128, 128)) | last)
+        if k <= 20:
+            far = 1 << k - 1
+            yield audited(deal, standing(deal, (SLOT_KEPT, 0, 128), (SLOT_KEPT, far, 128), (SLOT_OVERLAPPING, far, 128)))
 
 
 def far_slots(d, overlapped, places):
