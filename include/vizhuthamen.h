@@ -1,16 +1,16 @@
 /*
  * Vizhuthamen: verifiable data aggregation (FRC-0058), proved.
  *
- * Every function but the last two answers one of the codes below, for any bytes and numbers. Lent memory is a pointer
- * and a length; a pointer may be dangling only where its length is 0, and is never NULL. Memory that is written must
- * not overlap any other argument.
+ * Every function but the last two answers one of the codes below, for any bytes and numbers; vz_playback may answer
+ * VZ_WRONG_LINE too, which is none. Lent memory is a pointer and a length; a pointer may be dangling only where its
+ * length is 0, and is never NULL. Memory that is written must not overlap any other argument.
  *
  * An output that has one fixed length is refused with 12, before all else, where it has another; a table of owners is
  * refused with 23 right after 2, a second deal with 12 after that, a tree with 12 right after 11. Outputs are written
  * with code 0 (numbers also with 15 in the bookings, strings with 17 in the settlings) and left as they were with every
- * other code. A stream's state is written by vz_stream_take with every code but 12.
+ * other code. A stream's state is written by vz_stream_take with every code but 12; vz_playback says what it writes.
  *
- * docs/FORMAT.md has the index, the entry and the record byte by byte.
+ * docs/FORMAT.md has the index, the entry, the record and the log byte by byte.
  */
 #ifndef VIZHUTHAMEN_H
 #define VIZHUTHAMEN_H
@@ -24,8 +24,8 @@ extern "C" {
 
 /* The version of this header, as text and as a number: 10000 x first + 100 x second + third. While the first is 0, the
  * second rises where a program has to be changed or compiled anew. */
-#define VZ_VERSION "0.4.0"
-#define VZ_VERSION_NUMBER 400
+#define VZ_VERSION "0.5.0"
+#define VZ_VERSION_NUMBER 500
 
 /* Lengths in bytes. */
 #define VZ_MAX_DEAL 16777216                /* the largest deal that is lent, 2^24; so too run and message */
@@ -34,13 +34,20 @@ extern "C" {
 #define VZ_MAX_RAW 8323072                  /* the longest raw archive; its segment has 2^23 */
 #define VZ_MAX_STREAM UINT64_C(68719476736) /* the most that a stream takes, 2^36; so too the size of a deal */
 #define VZ_STREAM_STATE 1072                /* a stream's state */
+#define VZ_BOOKING_LINE 61                  /* a line of a log for a booking, with its tag and its length */
+#define VZ_CANCELLING_LINE 13               /* a line of a log for a cancellation, with its tag and its length */
+#define VZ_ROW 57                           /* a row of a ledger */
+#define VZ_ROWS 7296                        /* the rows of a ledger: VZ_MAX_TABLE of them */
+
+/* What vz_playback answers for a line whose answers the rules do not give: a number past all codes. */
+#define VZ_WRONG_LINE 256
 
 /* Every code: its number, its name, its meaning. */
 #define VZ_CODES(code)                                                                                               \
   code(0, VZ_OK, "done, accepted, or both records the same")                                                         \
   code(1, VZ_COMMITMENT_LENGTH, "a commitment is not 32 bytes long")                                                 \
   code(2, VZ_SIZE, "a deal, run, stream, message, raw archive or entry size is not allowed")                         \
-  code(3, VZ_FORM, "the record's tags, order, lengths or end are wrong")                                             \
+  code(3, VZ_FORM, "the tags, order, lengths or end of a record are wrong, or a log is malformed")                   \
   code(4, VZ_SEGMENT_SIZE, "segment size not allowed for this deal size")                                            \
   code(5, VZ_OFFSET, "offset not a multiple of the segment's area, or the area ends beyond the index start")         \
   code(6, VZ_PLACE, "entry place not a multiple of 64, or outside the index area")                                   \
@@ -177,6 +184,33 @@ uint32_t vz_cancel(uint8_t *deal, size_t deal_len, uint8_t *table, size_t table_
  * other length, 12 for a second deal of any other length, 11, 20. */
 uint32_t vz_collect(const uint8_t *deal, size_t deal_len, const uint8_t *table, size_t table_len, uint8_t *second,
                     size_t second_len, uint8_t *second_table, size_t second_table_len);
+
+/* A log has a line for every booking and every cancellation in a deal whose code gets one, in their order. A line is a
+ * field, as those of a record are: a tag of one byte, the length of its content in two bytes, and the content. Numbers
+ * are little-endian.
+ *
+ *   tag 1, length 58   a booking that was answered 0, 13, 14, 15 or 22: house, 1 byte; commitment of the segment's
+ *                      area, 32; size, 8; code, 1; offset, 8; place, 8. The last two are 0 but with 0 and 15.
+ *   tag 2, length 10   a cancellation that was answered 0 or 16: house, 1; place, 8; code, 1
+ *
+ * Calls with other codes get no line. A log begins with an all-zero deal, and a collection ends it. It is malformed
+ * where a tag, a length or its end is wrong, a house is neither 1 nor 2, a segment's size is not allowed in the deal,
+ * or a code is none of its tag's. */
+
+/* Plays a log back, without the deal: on an empty ledger of rows for a deal of this size, 512 to 2^24, every line is
+ * judged in turn by the rules of vz_book and vz_cancel. Commitments are taken as they are; a booking is answered 15
+ * where the house has a row of equal size and commitment. rows: VZ_ROWS bytes. The answer is
+ *
+ *   0               where the rules give the answers of every line. *count rows are written, by rising place, each of
+ *                   VZ_ROW bytes: house, 1; commitment, 32; size, 8; offset, 8; place, 8. Zeros follow to the end.
+ *   VZ_WRONG_LINE   where they do not. *line is the number, from 1, of the first such line; *code, *offset and *place
+ *                   are what the rules give for it. With a cancellation these are its code and zeros.
+ *   a code          of these: 12, 2, 3 for a log that is malformed anywhere, which is judged before any line is played.
+ *
+ * Nothing else is written. A log of all such calls from an all-zero deal on, which they alone have changed, is answered
+ * 0, and its rows are the deal's standing entries, if no two different segments have one commitment and size. */
+uint32_t vz_playback(uint64_t size, const uint8_t *log, size_t log_len, uint64_t *line, uint32_t *code,
+                     uint64_t *offset, uint64_t *place, uint64_t *count, uint8_t *rows, size_t rows_len);
 
 /* A record names its deal by the deal's number, any 64 bits. A deal's bytes do not hold it: building, checking and
  * settling take it from the caller. */

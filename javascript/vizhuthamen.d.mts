@@ -15,6 +15,16 @@ export const MAX_RAW: number;
 export const MAX_STREAM: number;
 /** The length of a stream's state, in bytes. */
 export const STREAM_STATE: number;
+/** The bytes of a line of a log for a booking: tag 1, a length of two bytes, and the content of 58. */
+export const BOOKING_LINE: number;
+/** The bytes of a line of a log for a cancellation: tag 2, a length of two bytes, and the content of 10. */
+export const CANCELLING_LINE: number;
+/** The bytes of a row of a ledger. */
+export const ROW: number;
+/** The bytes of the rows of a ledger for the largest deal, which has 128 slots. */
+export const ROWS: number;
+/** What the library answers where a line's answers are not those that the rules give: a number past all codes. */
+export const WRONG_LINE: number;
 /** The raw bytes of a part of a raw archive that is taken by parts: 2^11 blocks of 127. */
 export const RAW_PART: number;
 /** The largest number of raw bytes whose commitment can be worked out. Their segment has 2^36 bytes. */
@@ -112,6 +122,50 @@ export interface Booking {
   readonly position: Position;
 }
 
+/** A line of a log, for a booking that was answered 0, 13, 14, 15 or 22: the house, the commitment of the segment's area, the segment's
+ * size, and the answers, whose numbers are 0 but with 0 and 15. */
+export interface BookingLine {
+  readonly kind: "booking";
+  readonly house: number;
+  readonly commitment: Uint8Array;
+  readonly size: bigint;
+  readonly code: number;
+  readonly offset: bigint;
+  readonly place: bigint;
+}
+
+/** A line of a log, for a cancellation that was answered 0 or 16: the house, the entry place, and the code. */
+export interface CancellingLine {
+  readonly kind: "cancelling";
+  readonly house: number;
+  readonly place: bigint;
+  readonly code: number;
+}
+
+export type Line = BookingLine | CancellingLine;
+
+/** What the rules give for a line: a code, and for a booking with 0 or 15 the two numbers beside it, which are 0 otherwise. */
+export interface Answers {
+  readonly code: number;
+  readonly offset: number;
+  readonly place: number;
+}
+
+/** A row of a ledger, of a segment that was booked, and not cancelled since. */
+export interface LedgerRow {
+  readonly house: number;
+  readonly commitment: Uint8Array;
+  readonly size: number;
+  readonly offset: number;
+  readonly place: number;
+}
+
+/** What playing back a log says: the rules give the answers of every line, and these are the rows after the last one, by rising entry
+ * place; or they do not give those of the line with this number, from 1, but these, and give those of every line before it. */
+export type Playback =
+  | { readonly kind: "confirmed"; readonly rows: readonly LedgerRow[] }
+  | { readonly kind: "wrongLine"; readonly line: number; readonly ruling: Answers };
+
 /** The answer of a settling: no string differs; or two different 64-byte strings are shown (code 17), of the first record and the
  * second, or of the record and the deal. They have one node hash, unless a tree that is not the deal's was in hand. */
 export type Settled =
@@ -203,6 +257,11 @@ export interface Vizhuthamen {
    * table, as it was, for its new slot, with zeros after them. The deal itself and its table stay. Refusals: 2, 23 for a table of another
    * length, 12, 11, 20; with a tree 12 after 11. The tree is one for the second deal, and is left filled. */
   collect(deal: Uint8Array, table: Uint8Array, second: Uint8Array, secondTable: Uint8Array, options?: WithTree): void;
+  /** Plays a log back on an empty ledger for a deal of that size: every line in turn, by the rules of booking and cancelling, up to the
+   * first one whose answers they do not give. Commitments are taken as they are; a booking is answered 15 where the house has a row of
+   * equal size and commitment. Refusals: 2 for a size that no lent deal has, 3 for a log that is malformed anywhere, which is told before
+   * any line is played (`lines` says where). */
+  playback(size: Word, log: Uint8Array): Playback;
   /** Builds the record of the entry at a place, for the deal of this number, into the first bytes of an output: its length. Refusals: 2,
    * 11, 6, 16, 12; with a tree 12 after 11 too, for its length. */
   buildInto(deal: Uint8Array, number: Word, place: Word, output: Uint8Array, options?: WithTree): number;
@@ -246,6 +305,30 @@ export interface Vizhuthamen {
  * is all zeros. A slot's byte is 1 or 2 for the house that owns the entry there, and any other one for nobody; it counts only where an
  * entry stands. Booking sets it, cancelling clears it, and collecting writes a second table. */
 export function tableLength(size: Word): number;
+/** Lines of a log. */
+export const line: {
+  /** The line for a booking of a segment with this commitment (that of its area) and this size, as `book` answered it, or with the refusal
+   * that it threw; undefined where its code gets no line. */
+  booking(house: number, commitment: Uint8Array, size: Word, answer: Booking | Refusal): BookingLine | undefined;
+  /** The line for a cancellation, which was done or has thrown a refusal; undefined where its code gets no line. */
+  cancelling(house: number, place: Word, refusal?: Refusal): CancellingLine | undefined;
+  /** The bytes of a line in a log. Refusals: 1 for a commitment of another length. */
+  encode(made: Line): Uint8Array;
+};
+
+/** Where a log is malformed, and why: the number of the line, from 1, the byte at which it starts, and what is wrong with it, in words.
+ * Playing it back is refused with 3. */
+export class Malformed extends Error {
+  constructor(line: number, at: number, fault: string);
+  readonly line: number;
+  readonly at: number;
+  readonly fault: string;
+}
+
+/** The lines of a log for a deal of that size, in turn; Malformed is thrown at the first place where it is malformed. For a size that a
+ * lent deal has, a log without such a place is one that playback does not refuse. */
+export function lines(size: Word, log: Uint8Array): IterableIterator<Line>;
+
 /** The length of the tree of a deal of that many bytes. */
 export function treeLength(size: Word): number;
 /** The length of the segment of so many raw bytes, 128 / 127 of them and rounded up; undefined where there may not be so many. */

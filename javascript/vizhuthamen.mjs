@@ -12,14 +12,16 @@
 //
 // Every function of what `load` gives is a call of one function of the module, or of one of two where a tree may be in hand; the names
 // are those of the Rust crate. A refusal is thrown, as a Refusal, which has the code and its meaning in words. The answers with a code
-// that is not 0 and yet carry values (15 of a booking, 17 of a settling) are the kinds "alreadyKept" and "collision".
+// that is not 0 and yet carry values (15 of a booking, 17 of a settling) are the kinds "alreadyKept" and "collision"; a log that is played
+// back is "confirmed", or has a "wrongLine".
 //
 // Bytes are Uint8Arrays. What is written, a deal that is booked into among it, is changed in place, and with a refusal stays as it was;
 // it must not overlap another argument (RangeError). Any other kind of memory is a TypeError.
 //
 // A number that goes in is a number or a BigInt, exact or refused (RangeError): deal numbers have 64 bits, and a number is exact up to
 // 2^53 - 1 alone. A number that comes out is a number where the library bounds it (2^36 at most: sizes, offsets and places of what was
-// booked or found, lengths, counts), and a BigInt where it may be any of 64 bits: offset and size that an entry's bytes say.
+// booked or found, lengths, counts), and a BigInt where it may be any of 64 bits: offset and size that an entry's bytes say, and size,
+// offset and place that a line of a log says.
 //
 // Each call copies what it is lent into the module's memory, and what was written back; nothing is kept there from call to call. That
 // memory grows to what the largest call needs, some 16 MiB for each deal or tree lent, and is given back with the object.
@@ -29,7 +31,7 @@
 // ---- what the library says of itself
 
 /** The version of this file, and of the library that it is for. */
-export const VERSION = "0.4.0";
+export const VERSION = "0.5.0";
 /** The largest deal that is lent, in bytes; so too run and message. */
 export const MAX_DEAL = 2 ** 24;
 /** The longest table of owners, in bytes: that of the largest deal. */
@@ -42,6 +44,16 @@ export const MAX_RAW = 8323072;
 export const MAX_STREAM = 2 ** 36;
 /** The length of a stream's state, in bytes. */
 export const STREAM_STATE = 1072;
+/** The bytes of a line of a log for a booking: tag 1, a length of two bytes, and the content of 58. */
+export const BOOKING_LINE = 61;
+/** The bytes of a line of a log for a cancellation: tag 2, a length of two bytes, and the content of 10. */
+export const CANCELLING_LINE = 13;
+/** The bytes of a row of a ledger. */
+export const ROW = 57;
+/** The bytes of the rows of a ledger for the largest deal, which has 128 slots. */
+export const ROWS = 128 * ROW;
+/** What the library answers where a line's answers are not those that the rules give: a number past all codes. */
+export const WRONG_LINE = 256;
 /** The raw bytes of a part of a raw archive that is taken by parts: 2^11 blocks of 127. */
 export const RAW_PART = 127 * 2 ** 11;
 /** The largest number of raw bytes whose commitment can be worked out. Their segment has 2^36 bytes. */
@@ -52,7 +64,7 @@ const CODES = [
   [0, "OK", "done, accepted, or both records the same"],
   [1, "COMMITMENT_LENGTH", "a commitment is not 32 bytes long"],
   [2, "SIZE", "a deal, run, stream, message, raw archive or entry size is not allowed"],
-  [3, "FORM", "the record's tags, order, lengths or end are wrong"],
+  [3, "FORM", "the tags, order, lengths or end of a record are wrong, or a log is malformed"],
   [4, "SEGMENT_SIZE", "segment size not allowed for this deal size"],
   [5, "OFFSET", "offset not a multiple of the segment's area, or the area ends beyond the index start"],
   [6, "PLACE", "entry place not a multiple of 64, or outside the index area"],
@@ -95,6 +107,7 @@ const FUNCTIONS = {
   vz_book: "out out u8 in u64* u64*",
   vz_cancel: "out out u8 u64",
   vz_collect: "in in out out",
+  vz_playback: "u64 in u64* u32* u64* u64* u64* out",
   vz_build: "in u64 u64 out u64*",
   vz_check: "in u64 u64 in",
   vz_settle_records: "in u64 u64 in in out out",
@@ -346,6 +359,115 @@ function deals(library) {
         ? library.call("vz_collect", deal, table, second, secondTable)
         : library.call("vz_collect_with_tree", deal, table, second, tree, secondTable);
       accepted(code);
+    },
+  };
+}
+
+// ---- logs
+
+// Of the lines for a booking and for a cancellation: the tag, how many bytes the line has, and the codes that get one.
+const LINES = {
+  booking: { tag: 1, length: BOOKING_LINE, codes: [0, 13, 14, 15, 22] },
+  cancelling: { tag: 2, length: CANCELLING_LINE, codes: [0, 16] },
+};
+
+const codeOf = (answer) => (answer instanceof Refusal ? answer.code : answer?.kind === "alreadyKept" ? Refusal.ALREADY_KEPT : 0);
+
+/** Lines of a log: what a call gets, and the bytes of it. */
+export const line = Object.freeze({
+  booking(house, commitment, size, answer) {
+    const position = answer instanceof Refusal ? { offset: 0, place: 0 } : answer.position, code = codeOf(answer);
+    const answers = { code, offset: word(position.offset, 64), place: word(position.place, 64) };
+    return LINES.booking.codes.includes(code) ? { kind: "booking", house, commitment, size: word(size, 64), ...answers } : undefined;
+  },
+  cancelling(house, place, refusal) {
+    const code = codeOf(refusal);
+    return LINES.cancelling.codes.includes(code) ? { kind: "cancelling", house, place: word(place, 64), code } : undefined;
+  },
+  encode(made) {
+    const { tag, length } = LINES[made.kind], bytes = new Uint8Array(length), view = new DataView(bytes.buffer);
+    const put = (at, value) => view.setBigUint64(at, word(value, 64), true);
+    bytes.set([tag, length - 3, 0, Number(word(made.house, 8))]);
+    if (made.kind === "cancelling") {
+      put(4, made.place);
+    } else {
+      if (memory(made.commitment).length !== 32) throw new Refusal(Refusal.COMMITMENT_LENGTH);
+      bytes.set(made.commitment, 4);
+      put(36, made.size);
+      put(45, made.offset);
+      put(53, made.place);
+    }
+    bytes[made.kind === "cancelling" ? 12 : 44] = Number(word(made.code, 8));
+    return bytes;
+  },
+});
+
+/** Where a log is malformed, and why: the number of the line, from 1, the byte at which it starts, and what is wrong with it, in words. */
+export class Malformed extends Error {
+  constructor(line, at, fault) {
+    super(`line ${line}, at byte ${at}: ${fault}`);
+    this.name = "Malformed";
+    this.line = line;
+    this.at = at;
+    this.fault = fault;
+  }
+}
+
+// The line whose bytes these are, and which is of this kind.
+function readLine(kind, bytes) {
+  const view = new DataView(bytes.buffer, bytes.byteOffset, bytes.length), number = (at) => view.getBigUint64(at, true);
+  const house = bytes[3];
+  if (kind === "cancelling") return { kind, house, place: number(4), code: bytes[12] };
+  const commitment = new Uint8Array(bytes.subarray(4, 36));
+  return { kind, house, commitment, size: number(36), code: bytes[44], offset: number(45), place: number(53) };
+}
+
+// What is wrong with the tag, the length or the end of a line at the start of these bytes.
+function formFault(kind, bytes) {
+  if (kind === undefined) return `tag ${bytes[0]} is neither 1 nor 2`;
+  const { length } = LINES[kind], stated = bytes[1] + 256 * bytes[2];
+  if (bytes.length >= 3 && stated !== length - 3) return `${stated} bytes are not the length of its tag`;
+  return bytes.length < length ? "the log ends within it" : undefined;
+}
+
+// What keeps a line from standing in the log of a deal of that size.
+function lineFault(size, { kind, house, size: segment, code }) {
+  if (house !== 1 && house !== 2) return `house ${house} is neither 1 nor 2`;
+  if (kind === "booking" && (segment < 1n || segment > size / 2n)) return `segment size ${segment} is not allowed for the deal's`;
+  return LINES[kind].codes.includes(code) ? undefined : `code ${code} is none that gets a line`;
+}
+
+function* readLines(size, log) {
+  for (let at = 0, number = 1; at < log.length; number++) {
+    const rest = log.subarray(at), kind = Object.keys(LINES).find((each) => LINES[each].tag === rest[0]);
+    const fault = formFault(kind, rest), read = fault === undefined ? readLine(kind, rest.subarray(0, LINES[kind].length)) : undefined;
+    const wrong = fault ?? lineFault(size, read);
+    if (wrong !== undefined) throw new Malformed(number, at, wrong);
+    yield read;
+    at += LINES[kind].length;
+  }
+}
+
+/** The lines of a log for a deal of that size, in turn; Malformed is thrown at the first place where it is malformed. */
+export function lines(size, log) {
+  return readLines(word(size, 64), memory(log));
+}
+
+function playbacks(library) {
+  const row = (bytes) => {
+    const view = new DataView(bytes.buffer, bytes.byteOffset, ROW), number = (at) => Number(view.getBigUint64(at, true));
+    return { house: bytes[0], commitment: bytes.slice(1, 33), size: number(33), offset: number(41), place: number(49) };
+  };
+  return {
+    playback(size, log) {
+      const rows = new Uint8Array(ROWS);
+      const [answer, line, code, offset, place, count] = library.call("vz_playback", size, log, rows);
+      if (answer === WRONG_LINE) {
+        return { kind: "wrongLine", line: Number(line), ruling: { code, offset: Number(offset), place: Number(place) } };
+      }
+      accepted(answer);
+      const starts = Array.from({ length: Number(count) }, (_, i) => ROW * i);
+      return { kind: "confirmed", rows: starts.map((at) => row(rows.subarray(at, at + ROW))) };
     },
   };
 }
@@ -701,6 +823,7 @@ export async function load(source = own()) {
     ...entries(library),
     ...audits(library),
     ...deals(library),
+    ...playbacks(library),
     ...trees(library),
     ...records(library),
     ...recordFields(library),

@@ -1,9 +1,9 @@
 """Calls of the library's routines, random and adversarial."""
-from model import (MAX_RAW, area, filled, height, index_numbers, le, node_place, pad, power, segment_bit,
-                   segment_length)
+from model import (MAX_RAW, Booking, Cancelling, Ledger, area, filled, height, index_numbers, le, node_place, pad, power,
+                   segment_bit, segment_length)
 from operations import (AUDIT, BOOK, BUILD, CANCEL, CHECK, COLLECT, COMMITMENT, FIELDS, FILL, FIND, MAKE, MODEL, NAMES,
-                        NUMBERS, PAD, PLAIN_FORM, READ, ROW, SETTLE, SETTLE_DEAL, SETTLE_TREE, SHA256, STREAM, UNPAD,
-                        Case)
+                        NUMBERS, PAD, PLAIN_FORM, PLAYBACK, READ, ROW, SETTLE, SETTLE_DEAL, SETTLE_TREE, SHA256, STREAM,
+                        UNPAD, Case)
 
 RAW_LENGTHS = (1, 2, 31, 32, 63, 64, 126, 127, 128, 254, 255, 381, 508, 1016)
 TOTALS = (0, 1, 31, 32, 33, 63, 64, 65, 96, 127, 128, 256, 1000, 1024, 2048, 4064, 4096)
@@ -444,6 +444,9 @@ def small_case(rng, op):
         return op, maybe_strayed(rng, data), cuts(rng, len(data))
     if op == ROW:
         return row_case(rng)
+    if op == PLAYBACK:
+        d = rng.choice((512, 1024, 1024, 2048, 4096, 1 << 20))
+        return changed_log(rng, ledger_day(rng, d, rng.randrange(20)), d)
     return padding_case(rng, op)
 
 
@@ -455,6 +458,55 @@ def row_case(rng):
         below = rng.choice((below, below[:-1], below[:-32], below + bytes(1), below + bytes(32), below + bytes(64), below[:-64]))
         above = rng.choice((above, above[:-1], above[:-32], above + bytes(1), above + bytes(16), above + bytes(32), above + above))
     return ROW, below, above
+
+
+def log_of(lines):
+    return b"".join(line.to_bytes() for line in lines)
+
+
+def ledger_day(rng, d, steps):
+    """The lines of a day, as the ledger's rules answer its calls: few segments, so that some are booked again, and any places of the index."""
+    ledger, lines = Ledger(d), []
+    segments = [(rng.choice((node(rng), rng.randbytes(32))), segment_size(rng, d)) for _ in range(rng.randrange(1, 9))]
+    segments += [(segments[0][0], segment_size(rng, d)), (node(rng), segments[0][1]), (node(rng), 128), (node(rng), 1)]
+    for _ in range(steps):
+        house = rng.choice((1, 2))
+        if rng.randrange(4):
+            commitment, size = rng.choice(segments) if rng.randrange(3) else (node(rng), rng.choice((1, 128, segment_size(rng, d))))
+            lines.append(Booking(house, commitment, size, *ledger.book(house, commitment, size)))
+        else:
+            place = rng.choice(list(ledger.rows))
+            lines.append(Cancelling(house, place, ledger.cancel(house, place)[0]))
+    return lines
+
+
+def other_line(rng, line, d):
+    """The line with another value in one of its fields: any, or one that a day has."""
+    name = rng.choice(line._fields)
+    values = {"house": (1, 2, rng.randrange(256)), "commitment": (bytes(32), node(rng), rng.randbytes(32)),
+              "size": (segment_size(rng, d), line[2], rng.choice((0, d // 2, d // 2 + 1)), any_number(rng)),
+              "code": (0, 13, 14, 15, 16, 22, rng.randrange(256)), "offset": (0, 128, 256, 512, any_number(rng)),
+              "place": (0, d - 256, d - 192, d - 64, d, any_number(rng))}
+    return line._replace(**{name: rng.choice(values[name])})
+
+
+def changed_log(rng, lines, d):
+    """The log of a day with one change, or none: in a field, in a byte, in the order or number of lines, at the end, in the deal's size."""
+    lines, kind = list(lines), rng.randrange(9)
+    at = rng.randrange(len(lines)) if lines else 0
+    if lines and kind in (0, 1, 2):
+        lines[at] = other_line(rng, lines[at], d)
+    elif lines and kind == 3:
+        lines.insert(rng.randrange(len(lines)), lines.pop(at))
+    elif lines and kind == 4:
+        lines = [*lines[:at], *lines[at + rng.choice((0, 1)):], *rng.choice(((), (lines[at],)))]
+    log = log_of(lines)
+    if log and kind == 5:
+        at = rng.randrange(len(log))
+        log = log[:at] + bytes([log[at] ^ 1 << rng.randrange(8)]) + log[at + 1:]
+    elif kind == 6:
+        log = log[: rng.randrange(len(log) + 1)] + rng.choice((b"", b"\0", rng.randbytes(rng.randrange(70))))
+    return Case(PLAYBACK, log, x=deal_size(rng, bytes(d)) if kind == 7 and d <= 4096 else d)
 
 
 def segment_for(rng, data):
@@ -506,7 +558,7 @@ def deal_case(rng, op, data):
 
 
 def case(rng, op, sizes):
-    if op in (SHA256, COMMITMENT, NUMBERS, MAKE, READ, STREAM, PAD, UNPAD, ROW):
+    if op in (SHA256, COMMITMENT, NUMBERS, MAKE, READ, STREAM, PAD, UNPAD, ROW, PLAYBACK):
         return small_case(rng, op)
     made = Case(*deal_case(rng, PLAIN_FORM.get(op, op), odd_deal(rng, sizes)))
     if op == FILL or op in PLAIN_FORM:

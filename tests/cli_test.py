@@ -25,8 +25,8 @@ from model import MAX_RAW, MAX_RAW_STREAM, Model, area, filled, index_numbers, p
 ROOT = Path(__file__).resolve().parent.parent
 BINARY = Path(os.environ.get("VIZHUTHAMEN", ROOT / "rust" / "target" / "release" / "vizhuthamen"))
 COMMANDS = ("new", "number", "owner", "commit", "stream", "pad", "unpad", "book", "pack", "extract", "close", "cancel", "collect", "list",
-            "audit", "tally", "find", "build", "check", "settle", "settle-deal", "show", "fsck", "repair", "salvage", "prove", "verify", "help",
-            "completions")
+            "audit", "tally", "find", "build", "check", "settle", "settle-deal", "playback", "log", "show", "fsck", "repair", "salvage", "prove",
+            "verify", "help", "completions")
 MODEL = Model()
 NUMBER = 0xfedcba9876543210  # of the deals here, and another one
 OTHER = NUMBER + 1
@@ -1666,7 +1666,7 @@ class Usage(Calls):
                       "verify PROOF FILE [--commitment COMMITMENT] [--number N] [--size SIZE]",
                       "pack FILE... --deal DEAL [OPTIONS]",
                       "extract DEAL [NAME...] [--force] [--no-wait] [--to FOLDER]",
-                      "close DEAL [OPTIONS]",
+                      "close DEAL [OPTIONS]", "playback SIZE LOG", "log LOG",
                       "stream [--raw] FILE [--state FILE] [--resume] [--progress]"):
             first = self.answer(usage.split()[0], "--help").splitlines()[0]
             self.assertEqual(first, f"Usage: vizhuthamen {usage} [--json]")
@@ -1683,7 +1683,9 @@ class Usage(Calls):
                  ("owner", "d", 1, "--instead-of", 3), ("owner", "d", "x"), ("book", "d", "s", "--house", "x"),
                  ("new", "d", "512", "--number", ""),
                  ("build", "d", str(1 << 64)), ("build", "d", "256", "-o", "-", "--json"), ("new", "-", "512"), ("book", "-", "s"),
-                 ("list", ""), ("audit",), ("audit", "d", "e"), ("audit", "d", "--output", "f"), ("audit", "d", "--no-wait"))
+                 ("list", ""), ("audit",), ("audit", "d", "e"), ("audit", "d", "--output", "f"), ("audit", "d", "--no-wait"),
+                 ("playback", "l"), ("playback", "l", "512"), ("playback", "512", ""), ("playback", "512", "l", "--log", "m"), ("log",),
+                 ("log", "l", "m"), ("book", "d", "s", "--log", "-"), ("collect", "d", "n", "--log", "l"))
         for words in calls:
             self.failed(USAGE, *words)
         self.assertEqual(self.files(), [])
@@ -1723,7 +1725,7 @@ class Usage(Calls):
         words = [*COMMANDS, "deal", "record", "empty", "missing", ".", "-", "--json", "--output", "made", "--", "0", "512", "1024",
                  "--force", "--no-wait", "--new-owner", "--segment", "--raw", "--commitment", "--place", "--number",
                  "--instead-of", "--house", "--state", "--resume", "--progress", "--slot", "--man", "bash", "--cid", "--size",
-                 "--deal", "--records", "--to", "--reopen",
+                 "--deal", "--records", "--to", "--reopen", "--log", "log",
                  str(places[0]), "00" * 32, "ff", "", "\udcff", "--help", MODEL.commitment(deal)[1].hex()]
         for _ in range(400):
             call = [self.rng.choice(COMMANDS), *self.rng.choices(words, k=self.rng.randrange(5))]
@@ -1745,7 +1747,7 @@ class Usage(Calls):
             for words in (("show", "file"), ("list", "file"), ("audit", "file"), ("tally", "file"), ("commit", "file"), ("stream", "file"),
                           ("stream", "--raw", "file"), ("settle-deal", "file", "file", "--number", "7"),
                           ("pad", "file"), ("unpad", raw_length, "file"), ("fsck", "file"),
-                          ("owner", "file"),
+                          ("owner", "file"), ("log", "file"), ("playback", "1024", "file"),
                           *((("collect", "file", "new"), ("salvage", "file", "out"), ("owner", "file", "1"), ("cancel", "file", "832"),
                              ("repair", "file")) if i % 8 == 0 else ())):
                 ran = subprocess.run([self.program, *words], capture_output=True, cwd=self.folder)

@@ -23,11 +23,14 @@ import change_cases
 import edge_cases
 import house_cases
 import number_cases
+import playback_cases
+import playback_days
+import playback_edge_cases
 import tree_cases
 from cases import cases, deal, deal_number, node, paddings, place, run, spoil, strayed, streams, table
 from model import MAX_RAW, area, index_numbers, owners
 from operations import (AUDIT, BOOK, BOOK_TREE, BUILD, BUILD_TREE, CANCEL, CANCEL_TREE, CHECK, COLLECT, COLLECT_TREE,
-                        COMMITMENT, FIELDS, FILL, FIND, MAKE, MODEL, NAMES, NUMBERS, PAD, READ, ROW, SETTLE,
+                        COMMITMENT, FIELDS, FILL, FIND, MAKE, MODEL, NAMES, NUMBERS, PAD, PLAYBACK, READ, ROW, SETTLE,
                         SETTLE_DEAL, SETTLE_TREE, SHA256, STREAM, TALLY, UNPAD, Case, answer, encode)
 from vectors import large_deals
 
@@ -45,12 +48,20 @@ CODES = {SHA256: {0}, COMMITMENT: {0, 2, 11}, NUMBERS: {0, 2}, MAKE: {0, 1, 8}, 
          BOOK_TREE: {0, 2, 4, 11, 12, 13, 14, 15, 22, 23},
          BUILD_TREE: {0, 2, 6, 11, 12, 16}, SETTLE_TREE: {0, *range(2, 13), 17, 19, 21}, CANCEL: {0, 2, 6, 11, 16, 23},
          CANCEL_TREE: {0, 2, 6, 11, 12, 16, 23}, COLLECT: {0, 2, 11, 12, 20, 23}, COLLECT_TREE: {0, 2, 11, 12, 20, 23},
-         ROW: {0, 12}}
+         ROW: {0, 12}, PLAYBACK: {0, 2, 3, *(256 + ruled for ruled in (0, 6, 14, 15, 16, 22))}}
 ENOUGH = 50_000
 
 
 class Difference(Exception):
     pass
+
+
+def code_of(op, line):
+    """The code that an answer's line begins with; of a wrong line of a log 256 and the code that the rules give for it."""
+    first, second, third, *_ = (*line.split(), "", "")
+    if op == PLAYBACK:
+        return 256 + int(third) if first == "1" else int(second)
+    return int(first)
 
 
 class Comparison:
@@ -71,7 +82,7 @@ class Comparison:
             if i >= len(got) or got[i] != expected[i]:
                 error = ran.stderr.decode(errors="replace").strip()
                 self.differs(call, got[i] if i < len(got) else f"no answer, exit status {ran.returncode}: {error}", expected[i])
-            self.counts[call[0]][int(expected[i].split()[0])] += 1
+            self.counts[call[0]][code_of(call[0], expected[i])] += 1
         if ran.returncode or len(got) != len(calls):
             raise Difference(f"the replay program ended with {ran.returncode} after {len(got)} answers to {len(calls)} calls:\n"
                              + ran.stderr.decode(errors="replace"))
@@ -259,6 +270,20 @@ def audit_batches(rng, options):
         yield "audits: every size, large areas and far slots", cases(audit_edge_cases.large())
 
 
+def playback_batches(rng, options):
+    cases = lambda judged: [each.case for each in judged]
+    yield "logs: days, changed in every answer; every fault of form; rules; many slots", cases(playback_cases.judged())
+    yield "logs: edges", cases(playback_edge_cases.judged())
+    yield "logs: every byte of a line", playback_cases.changed_bytes()
+    yield "logs: lines left out, doubled, moved, exchanged", playback_cases.changed_lines()
+    yield "logs: days in deals, with random changes", playback_days.deal_days(rng, min(150, options.count))
+    yield "logs: days of the ledger, with random changes", playback_days.ledger_days(rng, min(200, options.count))
+    if options.large:
+        yield "logs: lines past two bytes", cases((*playback_cases.longest(), *playback_edge_cases.past_the_store()))
+        yield "logs: a day in 2^20 bytes", playback_days.deal_days(rng, 2, (1 << 20,), 30)
+        yield "logs: a day in 2^24 bytes that fills both quotas", playback_days.filled_deal(rng)
+
+
 def batches(options):
     yield "records of deals up to 2^36 bytes", large_deals(random.Random(f"{options.seed}/records"))
     yield "records with long paths", long_records(random.Random(f"{options.seed}/paths"))
@@ -273,6 +298,7 @@ def batches(options):
     yield "numbers: two records", number_cases.pairs(rng)
     yield from house_batches(random.Random(f"{options.seed}/houses"))
     yield from audit_batches(random.Random(f"{options.seed}/audits"), options)
+    yield from playback_batches(random.Random(f"{options.seed}/logs"), options)
     yield "booking, cancelling, collecting: one rule decides", edge_cases.stored(random.Random(f"{options.seed}/edges"))
     rng = random.Random(f"{options.seed}/trees")
     yield "trees: the refusals in their order", tree_cases.orders(rng)

@@ -9,7 +9,9 @@ writes is run once for every call of it and every way in which that call can go 
            all later ones that write fail;
   pause    the process is stopped before the call, another one books into the same deal, and the first goes on.
 
-So are streams that keep their state: whatever goes wrong, going on from the state gives the answer of an unbroken run.
+So are streams that keep their state: whatever goes wrong, going on from the state gives the answer of an unbroken run. Calls with a log
+(--log) add their lines with the deal or not at all, and whenever a call has ended or was recovered, playback confirms the log, and its rows
+are the deal's entries.
 
 All of it is done with unnamed files and without them (`plain`), as on a system that has none. Then processes are killed at random
 moments, and 2 to 8 processes of two houses book into one deal at once, undisturbed, and, with some bookings cancelled again, while others
@@ -33,6 +35,7 @@ from collections import Counter
 from concurrent.futures import ProcessPoolExecutor
 from pathlib import Path
 
+import logs
 import proofs
 from cases import node
 from model import MAX_RAW, Model, area, filled, pad, segment_length
@@ -50,7 +53,9 @@ SIGNALS = (signal.SIGINT, signal.SIGTERM, signal.SIGHUP)
 PLAIN = set("""_ITM_deregisterTMCloneTable _ITM_registerTMCloneTable __cxa_finalize __cxa_thread_atexit_impl __errno_location __gmon_start__
 __libc_start_main __tls_get_addr __xpg_strerror_r abort bcmp calloc clock_gettime clock_nanosleep closedir dirfd dl_iterate_phdr dlsym free getauxval
 getenv getrandom gettid isatty malloc memcpy memmove memset memchr memcmp mmap64 mprotect munmap pause poll posix_memalign realloc
-sched_getaffinity sched_yield sigaction sigaltstack signal sigpending strlen syscall sysconf getpid nanosleep""".split())
+sched_getaffinity sched_yield sigaction sigaltstack signal sigpending strlen syscall sysconf getpid geteuid nanosleep""".split())
+
+ELSEWHERE = "elsewhere/"  # what a name begins with that is no file of the folder, but of one on another file system where there is one
 
 
 class Wrong(Exception):
@@ -80,16 +85,16 @@ def check_names(shim):
 
 
 class Place:
-    """A folder, and calls of the program in it."""
+    """A folder and another one elsewhere, and calls of the program in the first."""
 
-    def __init__(self, folder, shim):
-        self.folder, self.shim = folder, shim
+    def __init__(self, folder, outside, shim):
+        self.folder, self.outside, self.shim = folder, outside, shim
 
     def path(self, name):
-        return self.folder / name
+        return self.outside / name.removeprefix(ELSEWHERE) if name.startswith(ELSEWHERE) else self.folder / name
 
     def clean(self):
-        for path in self.folder.iterdir():
+        for path in (*self.folder.iterdir(), *self.outside.iterdir()):
             shutil.rmtree(path) if path.is_dir() else path.unlink()
 
     def put(self, files):
@@ -99,7 +104,8 @@ class Place:
 
     def state(self):
         """All files: names and bytes."""
-        return {p.name: p.read_bytes() for p in self.folder.iterdir()}
+        elsewhere = {ELSEWHERE + p.name: p.read_bytes() for p in self.outside.iterdir()}
+        return {**{p.name: p.read_bytes() for p in self.folder.iterdir()}, **elsewhere}
 
     def start(self, words, fault=None, plain=False, **options):
         environment = {"PATH": os.environ.get("PATH", "")}
@@ -107,7 +113,8 @@ class Place:
             environment["LD_PRELOAD"] = str(self.shim)
             environment["FAULT_PLAIN"] = str(int(plain))
         environment.update(fault or {})
-        return subprocess.Popen([BINARY, *map(str, words)], cwd=self.folder, env=environment, stdin=subprocess.DEVNULL,
+        words = [self.path(word) if word.startswith(ELSEWHERE) else word for word in map(str, words)]
+        return subprocess.Popen([BINARY, *words], cwd=self.folder, env=environment, stdin=subprocess.DEVNULL,
                                 stdout=subprocess.PIPE, stderr=subprocess.PIPE, **options)
 
     def run(self, words, **options):
@@ -129,8 +136,9 @@ class Place:
 
 
 def check_flushed(names):
-    """A file is flushed to the disk after its last write and before it gets its name, and the folder is flushed after that."""
-    naming = ("linkat", "rename", "renameat2")
+    """A file is flushed to the disk after its last write and before it gets its name, and the folder is flushed after that; so is a log before
+    the journal goes."""
+    naming = ("linkat", "rename", "renameat2", "unlink")
     written = flushed = named = 0
     for at, name in enumerate(names, 1):
         if name in naming:
@@ -147,11 +155,12 @@ def fault(at, what):
 
 class Scene:
     """A command, the files before it, what it does to files, its exit statuses (done, and run once more afterwards), and the deal that it
-    makes, if it makes one, with the number that is to be kept of that. A deal that is made has its table, and its manifest where it gets one, whenever it is there."""
+    makes, if it makes one, with the number that is to be kept of that; the log that it adds lines to. A deal that is made has its table, and its
+    manifest where it gets one, whenever it is there."""
 
-    def __init__(self, name, words, before, effect, again, made=None, number=None):
+    def __init__(self, name, words, before, effect, again, made=None, number=None, status=0, log=None):
         self.name, self.words, self.before, self.effect, self.again = name, words, before, effect, again
-        self.made, self.number = made, number
+        self.made, self.number, self.status, self.log = made, number, status, log
         self.after = effect(before)
         # Files that the command makes or changes.
         self.changed = [n for n in self.after if before.get(n) != self.after[n]]
@@ -159,7 +168,8 @@ class Scene:
     def whole(self, state):
         """Every file that the command changes is the old one or the new one, and every other is as it was."""
         for name in self.changed:
-            check(state.get(name) in (self.before.get(name), self.after[name]), self.name, "torn:", name)
+            grown = name == self.log and self.after[name].startswith(state.get(name, b"")) and state.get(name, b"").startswith(self.before.get(name, b""))
+            check(grown or state.get(name) in (self.before.get(name), self.after[name]), self.name, "torn:", name)
         for name, data in self.before.items():
             check(name in state and (name in self.changed or state[name] == data), self.name, "lost:", name)
         check(self.made not in state or self.made + ".owners" in state, self.name, "a deal without its table")
@@ -200,6 +210,20 @@ def booked(files, segment, house, name="deal"):
     return with_deal(files, *MODEL.book(*both(files, name), house, segment)[3:], name)
 
 
+def with_line(files, code, deal, table, line, log):
+    """The files after a call with a log that the model has answered: the deal and its table where it changed them, and one line more."""
+    files = with_deal(files, deal, table) if code == 0 else files
+    return {**files, log: files.get(log, b"") + line}
+
+
+def book_logged(files, segment, house, log="log"):
+    return with_line(files, *logs.book(*both(files), house, segment), log)
+
+
+def cancel_logged(files, house, place, log="log"):
+    return with_line(files, *logs.cancel(*both(files), house, place), log)
+
+
 def entry(deal, place):
     """What the entry at a place says, as a manifest has it."""
     offset, size = (int.from_bytes(deal[place + at : place + at + 8], "little") for at in (32, 40))
@@ -214,15 +238,19 @@ def manifest(lines):
     return f'{{\n"form":"vizhuthamen manifest",\n"version":1,\n"files":[{files}]\n}}\n'.encode()
 
 
-def packed(files, names, house):
-    """The files with these packed into the deal for a house, by falling area and then by name, and listed in a manifest where there is none."""
-    (deal, table), lines = both(files), []
+def packed(files, names, house, log=None):
+    """The files with these packed into the deal for a house, by falling area and then by name, and listed in a manifest where there is none;
+    with a log, which gets a line for each."""
+    (deal, table), lines, log_lines = both(files), [], b""
     for name in sorted(names, key=lambda name: (-area(segment_length(len(files[name]))), name)):
         raw = files[name]
-        _, _, place, deal, table = MODEL.book(deal, table, house, pad(raw, bytes(segment_length(len(raw))))[2])
+        _, deal, table, line = logs.book(deal, table, house, pad(raw, bytes(segment_length(len(raw))))[2])
+        place = int.from_bytes(line[-8:], "little")
         digest = hashlib.sha256(raw).hexdigest()
         lines.append({"names": [name], "length": len(raw), "sha256": digest, **entry(deal, place)})
-    return {**with_deal(files, deal, table), "deal.manifest.json": manifest(lines)}
+        log_lines += line
+    files = {**with_deal(files, deal, table), "deal.manifest.json": manifest(lines)}
+    return {**files, log: files.get(log, b"") + log_lines} if log else files
 
 
 def still_listed(files, deal, name="deal"):
@@ -251,6 +279,7 @@ def scenes(rng):
     words, files = ("cancel", "deal", 768, "--house", 1), {"deal": new, "deal.owners": owned_new}
     yield Scene("cancel", words, {**files, "deal.vz": sidecar(new)}, cancel, (0, 16))
     yield Scene("cancel, nothing known", words, files, cancel, (0, 16))
+    yield from logged_scenes(rng, first, segment)
     give = lambda files: {**files, "deal.owners": b"\2" + both(files)[1][1:]}
     yield Scene("owner", ("owner", "deal", 2, 768, "--instead-of", 1), files, give, (0,))
     yield Scene("owner, no table", ("owner", "deal", 2, 768), {"deal": old}, give, (0,))
@@ -290,12 +319,64 @@ def scenes(rng):
     yield Scene("proof", ("prove", "deal", "--segment", "file", "-o", "proof"), before, proof, (0, 0))
 
 
+def logged_scenes(rng, first, segment):
+    """Calls with a log: a line is added with the deal, alone by a call that is refused, to a log that is made, and to one elsewhere."""
+    empty = {"deal": bytes(1024), "deal.owners": bytes(4), "deal.vz": sidecar(bytes(1024)), "segment": segment, "first": first}
+    book = lambda log: lambda files: book_logged(files, segment, 2, log)
+    words = "book", "deal", "segment", "--house", 2, "--log"
+    one = book_logged(empty, first, 1)
+    yield Scene("book, logged", (*words, "log"), one, book("log"), (0, 15), log="log")
+    yield Scene("book, log made", (*words, "log"), empty, book("log"), (0, 15), log="log")
+    elsewhere = book_logged(empty, first, 1, ELSEWHERE + "log")
+    yield Scene("book, log elsewhere", (*words, ELSEWHERE + "log"), elsewhere, book(ELSEWHERE + "log"), (0, 15), log=ELSEWHERE + "log")
+    yield Scene("book, log made elsewhere", (*words, ELSEWHERE + "log"), empty, book(ELSEWHERE + "log"), (0, 15), log=ELSEWHERE + "log")
+    again = lambda files: book_logged(files, first, 1)
+    yield Scene("book again, logged", ("book", "deal", "first", "--house", 1, "--log", "log"), one, again, (15,), status=15, log="log")
+    nothing = lambda files: cancel_logged(files, 2, 768)
+    yield Scene("cancel nothing, logged", ("cancel", "deal", 768, "--house", 2, "--log", "log"), one, nothing, (16,), status=16, log="log")
+    raw = {"a": rng.randbytes(200), "b": rng.randbytes(100)}
+    pack = lambda files: packed(files, raw, 2, "log")
+    yield Scene("pack, logged", ("pack", "a", "b", "--deal", "deal", "--house", 2, "--log", "log"), {**one, **raw}, pack, (0,), log="log")
+
+    def cancel(files):
+        after = cancel_logged(files, 2, 832)
+        return still_listed(after, after["deal"]) if after["deal"] != files["deal"] else after
+
+    yield Scene("cancel, listed, logged", ("cancel", "deal", 832, "--house", 2, "--log", "log"), pack({**one, **raw}), cancel, (0, 16), log="log")
+
+
 class Faults:
     def __init__(self, place, counts):
         self.place, self.counts = place, counts
 
+    def confirmed(self, scene):
+        """Playback confirms the log, and its rows are the deal's entries."""
+        status, out, err = self.place.run(("playback", 1024, scene.log, "--json"))
+        check(status == 0, scene.name, "playback:", status, out, err)
+        names = "place", "house", "offset", "size", "commitment"
+        rows = [tuple(row[name] for name in names) for row in json.loads(out)["rows"]]
+        check(rows == logs.rows(*both(self.place.state())), scene.name, "the log is not the deal's:", rows)
+
+    def after_logged(self, scene, plain):
+        """What was begun is ended, whole or not at all; then the command once more, undisturbed, which adds its own line."""
+        status, _, err = self.place.run(("fsck", "deal"), plain=plain)
+        check(status == 0, scene.name, "fsck:", status, err)
+        state = self.place.state()
+        if scene.log in state:
+            self.confirmed(scene)
+        scene.together(state)
+        # What a kill has left aside goes with the next call that writes.
+        state = {name: data for name, data in state.items() if name not in scene.litter(state)}
+        status, _, err = self.place.run(scene.words, plain=plain)
+        check(status in scene.again, scene.name, "run again:", status, err)
+        now = self.place.state()
+        check(now == scene.effect(state), scene.name, "after running again:", *sorted(now))
+        self.confirmed(scene)
+
     def after(self, scene, plain):
         """The command once more, undisturbed: its end is the whole new state, and nothing is left."""
+        if scene.log:
+            return self.after_logged(scene, plain)
         status, _, err = self.place.run(scene.words, plain=plain)
         check(status in scene.again, scene.name, "run again:", status, err)
         state, after = self.place.state(), scene.after
@@ -347,7 +428,7 @@ class Faults:
         for at in range(1, len(self.place.calls_of(scene, plain)) + 1):
             self.place.put(scene.before)
             status, *_ = self.place.run(scene.words, fault=fault(at, f"kill {int(signal.SIGHUP)}"), plain=plain, **ignoring)
-            check(status == 0 and self.place.state() == scene.after, scene.name, at, "stopped by an ignored signal:", status)
+            check(status == scene.status and self.place.state() == scene.after, scene.name, at, "stopped by an ignored signal:", status)
             self.counts["signals"] += 1
 
     def errors(self, scene, plain, numbers):
@@ -363,15 +444,15 @@ class Faults:
                 here = (scene.name, at, name, what, status, out, err)
                 # A repair that cannot read the table mends the deal, and says what is left.
                 unread = scene.name == "repair" and status == DATA and b"deal.owners: " in out
-                check(status in (0, IO) or unread, *here)
-                check(status == 0 or unread or err.startswith(b"vizhuthamen: ") and err.count(b"\n") == 1, *here)
+                check(status in (scene.status, IO) or unread, *here)
+                check(status == scene.status or unread or err.startswith(b"vizhuthamen: ") and err.count(b"\n") == 1, *here)
                 state = self.place.state()
                 scene.whole(state)
                 scene.tidy(state)
                 made = all(state.get(n) == scene.after[n] for n in scene.changed)
                 # A size that is not beside a new deal is noted; a number that is not is an error.
                 noted = scene.made and scene.number is None and b"could not be written" in err
-                check(made or status != 0 and not unread or noted, *here)
+                check(made or status != scene.status and not unread or noted, *here)
                 check(b"nothing is changed" not in err or not made, *here)
                 # A name that could not be removed, or a change that the next call ends, may be left for that.
                 check(not scene.litter(state) or name == "unlink" or b"next call" in err, *here, *scene.litter(state))
@@ -390,7 +471,7 @@ class Faults:
                 state = self.place.state()
                 scene.whole(state)
                 made = all(state.get(n) == scene.after[n] for n in scene.changed)
-                check(status == IO or status == 0 and made, scene.name, at, name, number, status, err)
+                check(status == IO or status == scene.status and made, scene.name, at, name, number, status, err)
                 check(b"nothing is changed" not in err or not made, scene.name, at, name, number, err)
                 self.counts["errors"] += 1
                 self.after(scene, plain)
@@ -425,9 +506,10 @@ class Faults:
 
     def pauses(self, scene, plain, other):
         """Stopped before each call while another process books; all files are then as if one call had come after the other."""
-        words = ("book", "deal", "other", "--no-wait", "--house", 1)
+        words = ("book", "deal", "other", "--no-wait", "--house", 1, *(("--log", scene.log) if scene.log else ()))
         before = {**scene.before, "other": other}
-        ends = (booked(scene.effect(before), other, 1), scene.effect(booked(before, other, 1)))
+        booking = lambda files: book_logged(files, other, 1, scene.log) if scene.log else booked(files, other, 1)
+        ends = (booking(scene.effect(before)), scene.effect(booking(before)))
         for at in range(1, len(self.place.calls_of(scene, plain)) + 1):
             self.place.put(before)
             call = self.stopped(scene.words, at, plain, scene.name)
@@ -435,15 +517,17 @@ class Faults:
             check(status in (0, BUSY), scene.name, at, status, err)
             call.send_signal(signal.SIGCONT)
             mine, err = call.communicate(timeout=60)
-            check(call.returncode == 0, scene.name, at, call.returncode, err)
+            check(call.returncode == scene.status, scene.name, at, call.returncode, err)
             if status == BUSY:
                 status, out, err = self.place.run(words, plain=plain)
                 check(status == 0, scene.name, at, status, err)
             state = self.place.state()
             check(state in ends, scene.name, at, "lost or left:", *sorted(state))
             accounted(state, {told(out): (other, 1)})
-            if scene.words[0] == "book":
+            if scene.words[0] == "book" and scene.status == 0:
                 accounted(state, {told(mine): (before["segment"], 2)})
+            if scene.log:
+                self.confirmed(scene)
             self.counts["pauses"] += 1
 
     def stopped(self, words, at, plain, name):
@@ -500,6 +584,66 @@ class Faults:
                 out, err = reading.communicate(timeout=60)
                 check(reading.returncode == 0 and out in lists, scene.name, at, stop, "listed meanwhile:", out, err)
                 self.counts["pauses"] += 1
+
+    def log_readers(self, scene, plain):
+        """A log is played back while a call that adds to it is stopped before each of its calls: it is the old log or the new one."""
+        reader = "playback", 1024, scene.log
+        played = []
+        for files in (scene.before, scene.after):
+            self.place.put(files)
+            played.append(self.place.run(reader)[:2])
+        check(played[0] != played[1] and played[1][0] == 0, scene.name, "played back:", *played)
+        for at in range(1, len(self.place.calls_of(scene, plain)) + 1):
+            self.place.put(scene.before)
+            call = self.stopped(scene.words, at, plain, scene.name)
+            reading = self.place.start(reader, plain=plain)
+            try:
+                reading.wait(timeout=0.1)
+            except subprocess.TimeoutExpired:
+                pass  # it waits for the change
+            call.send_signal(signal.SIGCONT)
+            call.communicate(timeout=60)
+            out, err = reading.communicate(timeout=60)
+            check((reading.returncode, out) in played, scene.name, at, "played back:", reading.returncode, out, err)
+            self.counts["pauses"] += 1
+
+    def decided(self, scene, plain):
+        """The state of a call that was killed right after its journal was in place, with the log as it was."""
+        for at in range(1, len(self.place.calls_of(scene, plain)) + 1):
+            self.place.put(scene.before)
+            self.place.run(scene.words, fault=fault(at, "kill 9"), plain=plain)
+            state = self.place.state()
+            if ".deal.vz-journal" in state:
+                check(state.get(scene.log) == scene.before.get(scene.log), scene.name, "a line before its journal")
+                # Both can be moved where the log lies below the deal's folder.
+                name = str(self.place.path(scene.log)) if scene.log.startswith(ELSEWHERE) else scene.log
+                check(name.encode().hex() in state[".deal.vz-journal"].decode().split(), scene.name, "another name in the journal")
+                return state
+        raise Wrong(f"{scene.name}: no journal was seen")
+
+    def torn_logs(self, scene, plain):
+        """A kill or a power failure has left any part of the new lines, or zeros in their place: the next call completes them. What another
+        hand has left there is not touched, and the change waits until the log is brought back."""
+        begun, old = self.decided(scene, plain), scene.before.get(scene.log, b"")
+        line = scene.after[scene.log][len(old):]
+        torn = [old + line[:cut] + zeros for cut in range(len(line) + 1) for zeros in (b"", bytes(len(line) - cut))]
+        for log in torn:
+            self.place.put({**begun, scene.log: log})
+            status, _, err = self.place.run(("fsck", "deal"), plain=plain)
+            check(status == 0 and scene.together(self.place.state()), scene.name, log.hex(), status, err)
+            self.confirmed(scene)
+            self.counts["torn logs"] += 1
+        foreign = [old + logs.cancelling(1, 704, 16), old + line[:5] + b"\xff", old + bytes(len(line) + 1), old + b"\3", *((old[:-1], None) if old else ())]
+        for log in foreign:
+            self.place.put({**begun, scene.log: log} if log is not None else {name: data for name, data in begun.items() if name != scene.log})
+            before = self.place.state()
+            for words in (("fsck", "deal"), ("list", "deal"), scene.words):
+                status, _, err = self.place.run(words, plain=plain)
+                check(status == IO and b"unfinished change" in err and b"take the line that begins with `log` out of" in err, scene.name, status, err)
+            check(self.place.state() == before, scene.name, "a log of another hand was touched")
+            self.place.path(scene.log).write_bytes(old)
+            self.after(scene, plain)
+            self.counts["torn logs"] += 1
 
     def paused_makers(self, scene, plain):
         """Stopped before each call while another process makes the same deal: one of them does, and the deal has its table."""
@@ -669,8 +813,10 @@ def accounted(files, bookings):
 class Races:
     def __init__(self, place, counts, rng):
         self.place, self.counts, self.rng = place, counts, rng
+        self.log = ()
 
-    def prepare(self, size, bookings):
+    def prepare(self, size, bookings, log=()):
+        self.log = log
         segments = {f"s{i}": b"".join(node(self.rng) for _ in range(self.rng.choice((4, 8, 16, 32)))) for i in range(bookings)}
         self.place.clean()
         for name, data in segments.items():
@@ -683,12 +829,19 @@ class Races:
         return 1 + int(name[1:]) % 2
 
     def book(self, name):
-        return "book", "deal", name, "--house", self.house(name)
+        return "book", "deal", name, "--house", self.house(name), *self.log
 
     def end(self, segments, answers):
-        """The deal keeps the segments that were answered, where they were told to be, and no others, and the table their houses."""
+        """The deal keeps the segments that were answered, where they were told to be, and no others, and the table their houses; playback
+        confirms the log, with these as its rows."""
         state = self.place.state()
-        check(sorted(state) == sorted([*segments, "deal", "deal.owners", "deal.vz"]), "left:", *sorted(state))
+        check(sorted(state) == sorted([*segments, "deal", "deal.owners", "deal.vz", *self.log[1:]]), "left:", *sorted(state))
+        if self.log:
+            status, out, err = self.place.run(("playback", len(state["deal"]), self.log[1], "--json"))
+            check(status == 0, "playback:", status, out, err)
+            rows = [(row["place"], row["house"], row["offset"]) for row in json.loads(out)["rows"]]
+            check(rows == sorted((place, self.house(name), offset) for name, (offset, place) in answers.items()), "the log is not the deal's:", rows)
+            self.counts["raced lines"] += json.loads(out)["lines"]
         check(len(set(answers.values())) == len(answers), "a place was told twice:", answers)
         accounted(state, {where: (segments[name], self.house(name)) for name, where in answers.items()})
         check(MODEL.tally(state["deal"])[3] == len(answers), "a cancelled booking is there")
@@ -696,8 +849,8 @@ class Races:
         check(self.place.run(("fsck", "deal"))[0] == 0, "fsck")
 
     def undisturbed(self, processes, bookings, size, plain):
-        """Processes book different segments at once."""
-        segments = self.prepare(size, bookings)
+        """Processes book different segments at once; where their number is even, with a log."""
+        segments = self.prepare(size, bookings, () if processes % 2 else ("--log", "log"))
         names, answers = list(segments), {}
         while names:
             batch, names = names[:processes], names[processes:]
@@ -732,15 +885,16 @@ class Races:
             return where
         commitment = MODEL.tree(filled(segment))[-1][0].hex()
         # One that was killed may have been done: then nothing of the house stands there (16), or another booking does by now (65).
-        words = "cancel", "deal", where[1], "--commitment", commitment, "--house", self.house(name)
+        words = "cancel", "deal", where[1], "--commitment", commitment, "--house", self.house(name), *self.log
         self.answered(words, (0, 16, DATA), rng, plain)
         with self.lock:
             self.counts["raced cancellations"] += 1
         return None
 
     def disturbed(self, processes, bookings, size, plain):
-        """The same with workers that repeat a call until it is answered, while calls are killed at random moments."""
-        segments = self.prepare(size, bookings)
+        """The same with workers that repeat a call until it is answered, while calls are killed at random moments; where their number is odd,
+        with a log."""
+        segments = self.prepare(size, bookings, ("--log", "log") if processes % 2 else ())
         queue, answers, failures, self.lock = list(segments), {}, [], threading.Lock()
         seeds = [self.rng.random() for _ in range(processes)]
 
@@ -842,8 +996,9 @@ def work(job):
     """One part of the test, in a folder of its own. Gives its counts and what it says."""
     kind, name, plain, options = job
     rng = random.Random(f"{options.seed}/{kind}/{name}/{plain}")
-    with tempfile.TemporaryDirectory(prefix="vizhuthamen-faults-", dir=options.folder) as folder:
-        place = Place(Path(folder) / "place", options.shim)
+    made = [tempfile.TemporaryDirectory(prefix="vizhuthamen-faults-", dir=folder) for folder in (options.folder, options.outside)]
+    with made[0] as folder, made[1] as outside:
+        place = Place(Path(folder) / "place", Path(outside), options.shim)
         place.folder.mkdir()
         try:
             kinds = {"race": race, "resume": resume, "large": large, "disturb": disturb}
@@ -867,7 +1022,8 @@ def disturb(place, rng, name, plain, options):
     every = options.large or (scene.name, plain) in EVERY_ERROR
     faults.errors(scene, plain, ERRORS if every else (errno.ENOSPC, errno.EIO))
     faults.breakdowns(scene, plain, BREAKDOWNS if options.large else BREAKDOWNS[:2] if plain else BREAKDOWNS[1:])
-    if scene.name in ("book, nothing known", "repair", "pack") or scene.name == "cancel, nothing known" and options.large:
+    recovered = "book, nothing known", "repair", "pack", "book, log made elsewhere", "cancel, listed, logged", "book again, logged"
+    if scene.name in recovered or scene.name == "cancel, nothing known" and options.large:
         faults.recoveries(scene, plain, options.large)
     if scene.name in ("book", "cancel"):
         faults.readers(scene, plain)
@@ -879,6 +1035,10 @@ def disturb(place, rng, name, plain, options):
         faults.abandoned_makers(scene)
     if scene.name == "output, replaced":
         faults.paused_outputs(scene, plain, rng.randbytes(1000))
+    if scene.name in ("book, logged", "book again, logged"):
+        faults.log_readers(scene, plain)
+    if scene.name in ("book, logged", "book, log made", "book, log elsewhere", "cancel nothing, logged"):
+        faults.torn_logs(scene, plain)
     if scene.words[0] in ("book", "cancel", "number", "owner", "collect", "pack") and "deal.owners" in scene.before:
         faults.pauses(scene, plain, b"".join(node(rng) for _ in range(4)))
     mode = ("", ", no unnamed files", ", no unnamed files, no rename to a free name")[plain]
@@ -946,15 +1106,17 @@ def large(place, rng, name, plain, options):
 
 
 # With unnamed files (0), without them (1), and without a rename to a free name too (2). At the gate a cancellation and
-# a number, which change files as a booking does, a collection, which makes a deal as `new` does, and a proof, which is an
-# output, are run in some of these ways.
+# a number, which change files as a booking does, a collection, which makes a deal as `new` does, a proof, which is an
+# output, and calls with a log are run in some of these ways.
 WAYS = {"book, nothing known": (0, 1, 2), "collect": (0, 1, 2), "new": (0, 1, 2), "new, numbered": (0, 1, 2),
         "output": (0, 1, 2), "proof": (0, 1, 2)}
 WAYS_AT_THE_GATE = {**WAYS, "cancel": (0,), "cancel, nothing known": (1,), "number": (1,),
                     "number, nothing known": (0,), "collect": (0, 1), "new, numbered": (1, 2), "proof": (0,),
-                    "cancel, listed": (0,), "collect, listed": (1,), "close": (1,)}
-# Commands and ways that get every error at the gate: one file, several files, a new deal.
-EVERY_ERROR = (("book", 0), ("book, nothing known", 1), ("collect", 1))
+                    "cancel, listed": (0,), "collect, listed": (1,), "close": (1,), "book, logged": (0,), "book, log made": (1,),
+                    "book, log elsewhere": (), "book, log made elsewhere": (0,), "book again, logged": (1,), "cancel nothing, logged": (0,),
+                    "pack, logged": (1,), "cancel, listed, logged": (0,)}
+# Commands and ways that get every error at the gate: one file, several files, a new deal, a log.
+EVERY_ERROR = (("book", 0), ("book, nothing known", 1), ("collect", 1), ("book, log made", 1))
 
 
 def jobs(options):
@@ -994,6 +1156,10 @@ def arguments():
     options = parser.parse_args()
     if not options.folder and os.access("/dev/shm", os.W_OK):
         options.folder = "/dev/shm"
+    # Another file system, where there is one.
+    folders = [Path(tempfile.gettempdir()), ROOT / "target", Path("/dev/shm")]
+    others = [folder for folder in folders if folder.is_dir() and folder.stat().st_dev != Path(options.folder or folders[0]).stat().st_dev]
+    options.outside = str((others or folders)[0])
     return options
 
 

@@ -1,15 +1,21 @@
-"""Reads the examples of docs/FORMAT.md and compares them with the independent model and with the library, through the Python package.
+"""Reads the examples of docs/FORMAT.md and compares them with the independent model and with the library, through the Python package;
+the log also with the one that the command line writes (VIZHUTHAMEN names another binary).
 
 Run from anywhere, after make: python3 tests/format_test.py. Every table of the document is read; one that is not known ends the run.
 """
 import hashlib
 import json
 import re
+import subprocess
 import sys
+import tempfile
+from pathlib import Path
 
+import logs
 import proofs
+from cli_test import BINARY
 from header import ROOT, defined
-from model import MAX_RAW, area, index_numbers, pad, segment_length, unpad
+from model import BOOKING, CANCELLING, CONTENT, LOGGED, MAX_RAW, area, index_numbers, pad, segment_length, unpad
 from operations import MODEL
 from vectors_test import data, vz
 
@@ -151,6 +157,67 @@ def way_table(rows):
     same("entry way", [(told(row[2]), int(row[3])) for row in rows], entry)
 
 
+# The example's day: which house books which segment, or cancels which place.
+DAY = (1, SEGMENTS[0]), (1, SEGMENTS[0]), (2, SEGMENTS[1]), (2, SEGMENTS[0]), (2, 256)
+
+
+def day():
+    """The lines of the example's day, by the model, and the deal and the table at its end."""
+    deal, table, lines = bytes(SIZE), bytes(4), []
+    for house, what in DAY:
+        call = logs.cancel if isinstance(what, int) else logs.book
+        _, deal, table, line = call(deal, table, house, what)
+        lines.append(line)
+    return lines, deal, table
+
+
+def written_day():
+    """The log that the command line writes on that day."""
+    with tempfile.TemporaryDirectory(prefix="vizhuthamen-format-") as folder:
+        run = lambda *words: subprocess.run([BINARY, *map(str, words)], cwd=folder, capture_output=True, timeout=60)
+        run("new", "deal", SIZE)
+        for house, what in DAY:
+            (Path(folder) / "segment").write_bytes(b"" if isinstance(what, int) else what)
+            words = ("cancel", "deal", what) if isinstance(what, int) else ("book", "deal", "segment")
+            run(*words, "--house", house, "--log", "log")
+        return (Path(folder) / "log").read_bytes()
+
+
+def line_kinds(rows):
+    """The two kinds of lines: tags, lengths, and the codes that get one."""
+    stated = [(int(tag), int(length), tuple(map(int, codes.split(", ")))) for tag, _, length, codes in rows]
+    same("the kinds of lines", stated, [(tag, CONTENT[tag], LOGGED[tag]) for tag in (BOOKING, CANCELLING)])
+    same("the lengths of lines", [3 + length for _, length, _ in stated], [vz.BOOKING_LINE, vz.CANCELLING_LINE])
+
+
+def booking_line(rows):
+    same("a line of a booking", laid_out(rows), day()[0][2])
+
+
+def cancelling_line(rows):
+    same("a line of a cancellation", laid_out(rows), day()[0][4])
+
+
+def log_table(rows):
+    """The whole log: of the model's day, and of the command line's; each row's words say its line, its house and its code."""
+    lines, deal, table = day()
+    same("the log", laid_out(rows), b"".join(lines), written_day())
+    same("the deal at the end of the day", (deal, table), housed()[1])
+    for number, ((_, _, what, cell), line) in enumerate(zip(rows, lines), 1):
+        code = line[44] if line[0] == BOOKING else line[12]
+        same(f"'{what}'", re.fullmatch(r"line (\d), house (\d) .*, code (\d+)", what).groups(), (str(number), str(line[3]), str(code)))
+
+
+def rows_table(rows):
+    """The rows after the last line: by the model and the library, and as the deal's entries."""
+    log = b"".join(day()[0])
+    stated = [(*map(int, row[:4]), told(row[4]).hex()) for row in rows]
+    (kind, code), _, played = MODEL.playback(SIZE, log)
+    same("the model's playback", (kind, code), (0, 0))
+    told_rows = lambda rows: [(row.place, row.house, row.offset, row.size, bytes(row.commitment).hex()) for row in rows]
+    same("the rows", stated, told_rows(played), told_rows(vz.playback(SIZE, log).rows), logs.rows(*housed()[0]))
+
+
 def raw_table(rows):
     for cell, segment in rows:
         raw = told(cell)
@@ -212,6 +279,11 @@ TABLES = {
     ("at", "bytes", "the record", f"in the example, of place {PLACE} and number {NUMBER}"): record_table,
     ("code", "the check refuses with it where"): check_table,
     ("position", "segment path, from the commitment", "entry path, from the entry's node hash", "position"): way_table,
+    ("tag", "a line of", "length", "codes that get one"): line_kinds,
+    ("at", "bytes", "a line of a booking", "in the example, line 3"): booking_line,
+    ("at", "bytes", "a line of a cancellation", "in the example, line 5"): cancelling_line,
+    ("at", "bytes", "the log", "in the example"): log_table,
+    ("place", "house", "offset", "size", "commitment of the row"): rows_table,
     ("raw bytes", "segment"): raw_table,
     ("at", "bytes", "the piece CID", "of 128 zero bytes"): cid_table,
     ("zero bytes", "their piece CID"): zeros_table,

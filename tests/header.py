@@ -47,7 +47,8 @@ def defined(name):
     return value.strip('"') if value.startswith('"') else int(value)
 
 
-LENGTHS = "MAX_DEAL", "MAX_RAW", "MAX_RECORD", "MAX_STREAM", "MAX_TABLE", "STREAM_STATE"
+LENGTHS = ("BOOKING_LINE", "CANCELLING_LINE", "MAX_DEAL", "MAX_RAW", "MAX_RECORD", "MAX_STREAM", "MAX_TABLE", "ROW", "ROWS",
+           "STREAM_STATE")
 
 
 def stated():

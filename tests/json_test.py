@@ -10,6 +10,7 @@ import re
 import subprocess
 import unittest
 
+import logs
 import proofs
 from cli_test import BINARY, BUSY, COMMANDS, DATA, IO, MODEL, NOT_PROVED, ROOT, USAGE, Calls
 from faults_test import entry, manifest
@@ -63,6 +64,10 @@ class Outcomes(Calls):
         self.put("proof", proofs.text(proof).encode())
         self.put("lie", proofs.text(proofs.sealed({**proof, "offset": "128"})).encode())
         self.put("segment", self.segment())
+        commitments = [deal[place : place + 32] for place in self.places]
+        log = self.put("log", logs.booking(1, commitments[0], 256, 0, 0, 768) + logs.booking(1, commitments[1], 128, 0, 256, 832))
+        self.put("cut-log", log[:-1])
+        self.put("wrong-log", log + log[:61])
         self.put("raw", b"raw" * 50)
         self.put("padded", pad(b"raw" * 50, bytes(segment_length(150)))[2])
         self.put("short", bytes(1000))
@@ -146,6 +151,7 @@ class Outcomes(Calls):
                 "audit": ("deal",), "tally": ("deal",),
                 "find": ("deal", self.commitment), "build": ("deal", place), "check": (self.root, 1024, "record", *number),
                 "settle": (self.root, 1024, "record", "record", *number), "settle-deal": ("deal", "record"), "show": ("record",),
+                "playback": (1024, "log"), "log": ("log",),
                 "prove": ("deal", "--segment", "kept", "--output", "proved"), "verify": ("proof", "kept"), "fsck": ("deal",), "repair": ("deal",), "salvage": ("deal", "out"), "help": ("book",), "completions": ("bash",),
                 "extract": ("deal", "--to", "extracted"), "pack": ("raw", "--deal", "deal", "--house", 2), "close": ("deal",)}
 
@@ -199,10 +205,28 @@ class Answers(Outcomes):
         self.outcome(0, "cancel", "deal", "--slot", 1)
         for command in COMMANDS:
             self.assertTrue(self.outcome(0, command, "--help")["text"].startswith(f"Usage: vizhuthamen {command} "))
+        self.logs()
         for words in ((), ("help",)):
             self.outcome(0, *words, "--help")
         self.assertEqual(list(self.outcome(0, "--version")), ["code", "meaning", "command", "text", "hints"])
         self.outcome(0, "help", "--man")
+
+    def logs(self):
+        """Calls that add lines, in a deal of their own; what playback says of them, and of wrong lines of both kinds."""
+        self.outcome(0, "new", "logged", 512)
+        log = "--log", "logged.log"
+        self.put("letter", b"letter")
+        words = [(0, "book", "logged", "segment", "--house", 1), (15, "book", "logged", "segment", "--house", 1), (0, "pack", "letter", "--deal", "logged", "--house", 2),
+                 (14, "book", "logged", "--raw", "raw", "--house", 2), (16, "cancel", "logged", 320, "--house", 1), (0, "cancel", "logged", 320, "--house", 2)]
+        for lines, call in enumerate(words, 1):
+            told = self.outcome(*call, *log)
+            self.assertEqual((told["log"], told["lines"]), ("logged.log", lines))
+        self.assertEqual(self.outcome(0, "playback", 512, "logged.log")["lines"], 6)
+        self.outcome(0, "log", "logged.log", "--cid")
+        wrong = self.outcome(DATA, "playback", 1024, "wrong-log", "--cid")
+        self.assertEqual((wrong["line"], wrong["answers"][1]["code"]), (3, 15))
+        self.put("wrong-log", logs.cancelling(1, 768, 0))
+        self.outcome(DATA, "playback", 1024, "wrong-log")
 
     def test_what_is_wrong_with_deals(self):
         for name in ("damaged", "cut-deal"):
@@ -309,6 +333,7 @@ class Refusals(Outcomes):
                  (2, "repair", "short"), (1, "repair", "deal", "--commitment", "00"), (2, "salvage", "short", "out"),
                  (2, "pack", "raw", "--deal", "short"), (2, "pack", "raw", "--deal", "made", "--size", 1000), (2, "close", "short"),
                  (22, "pack", "raw", "--deal", "deal"), (23, "pack", "raw", "--deal", "deal", "--house", 3), (23, "pack", "raw", "--deal", "made", "--house", 0),
+                 (2, "playback", 1000, "log"), (3, "playback", 1024, "cut-log"), (3, "log", "cut-log"), (DATA, "playback", 1024, "wrong-log"),
                  (23, "pack", "raw", "--deal", "short", "--house", 3), (11, "pack", "raw", "--deal", "stray"), (11, "close", "stray"), (2, "extract", "short")]
         self.put("short.manifest.json", manifest([]))
         for words in codes:
@@ -385,7 +410,7 @@ class Failures(Outcomes):
         self.assertIn("vizhuthamen find deal --raw raw", self.outcome(USAGE, "find", "deal", "raw")["hints"][0])
 
     def test_missing_files_and_folders(self):
-        files = {"deal", "segment", "raw", "padded", "record"}
+        files = {"deal", "segment", "raw", "padded", "record", "log"}
         for command, words in self.calls().items():
             for i, word in enumerate(words):
                 if word in files and command != "pack":
@@ -409,6 +434,9 @@ class Failures(Outcomes):
             self.assertIn(f"cannot write {name}", self.outcome(IO, "prove", "deal", "--segment", "kept", "-o", name)["error"])
         for name in ("deal", "kept"):
             self.outcome(USAGE, "prove", "deal", "--segment", "kept", "-o", name)
+        for name in ("/dev/full", "folder", "no/such/file"):
+            self.assertIn(f"cannot add a line to {name}", self.outcome(IO, "book", "deal", "segment", "--house", 2, "--log", name)["error"])
+        self.outcome(USAGE, "book", "deal", "segment", "--house", 2, "--log", "deal.owners")
         for words in (("new", "deal", 1024, "--number", NUMBER), ("collect", "deal", "raw"), ("stream", "deal", "--state", "raw")):
             self.assertEqual(self.outcome(IO, *words)["hints"], ["give another name"])
 
@@ -418,6 +446,8 @@ class Failures(Outcomes):
                 self.outcome(DATA, command, *("cut-deal" if word == "deal" else word for word in words))
         self.outcome(DATA, "verify", "record", "kept")
         self.assertEqual(self.outcome(DATA, "verify", "kept", "proof")["hints"], ["proof is one: the proof comes first, and then the file"])
+        for log in ("cut-log", "wrong-log", "new-log", "record"):
+            self.outcome(DATA, "book", "deal", "segment", "--house", 2, "--log", log)
         self.outcome(DATA, "number", "short")
         self.outcome(DATA, "number", "deal", 7)
         self.outcome(DATA, "build", "deal", 768, "--number", 7)
@@ -433,6 +463,9 @@ class Failures(Outcomes):
                 self.outcome(BUSY, command, *self.calls()[command], "--no-wait")
             self.outcome(BUSY, "number", "deal", 7, "--no-wait")
             self.outcome(BUSY, "owner", "deal", 1, "--no-wait")
+        with open(self.path("log"), "rb") as file:
+            fcntl.flock(file, fcntl.LOCK_EX)
+            self.outcome(BUSY, "book", "deal", "segment", "--house", 2, "--log", "log", "--no-wait")
 
     def test_a_full_or_closed_standard_output(self):
         """Nothing can be read there: the exit status and standard error say so, of answers and of failures."""

@@ -1,4 +1,4 @@
-"""The vectors for other implementations: the calls of vector_deals.py and vector_records.py with the answers of the model.
+"""The vectors for other implementations: the calls of vector_deals.py, vector_logs.py and vector_records.py with the answers of the model.
 
 tests/vectors.py writes them to vectors/vectors.json, whose README says how to use them; tests/vectors_test.py replays them through the
 library.
@@ -9,10 +9,11 @@ import json
 import header
 import model
 import vector_deals
+import vector_logs
 import vector_records
 from model import index_numbers, pad, unpad
-from operations import MODEL, pieces
-from vector_parts import form
+from operations import MODEL, ROWS, pieces
+from vector_parts import Data, form, joined, zeros
 
 LONG = 2048  # outputs from here on are told by their SHA-256
 
@@ -25,8 +26,8 @@ def given(value):
 
 
 def told(value):
-    """An output: as an input, but for long bytes, which are told by their SHA-256."""
-    if isinstance(value, bytes) and len(value) >= LONG:
+    """An output: as an input, but for long bytes without a form of their own, which are told by their SHA-256."""
+    if isinstance(value, bytes) and len(value) >= LONG and not isinstance(value, Data):
         return {"sha256": hashlib.sha256(value).hexdigest(), "length": len(value)}
     return given(value)
 
@@ -69,6 +70,17 @@ def streamed(data, lengths):
     return code, {"taken": codes, **({"node": node, "count": count} if code == 0 else {})}
 
 
+def played_back(size, log, rows):
+    """256 for a wrong line, which is no code."""
+    if len(rows) != ROWS:
+        return 12, {}
+    (kind, number), ruling, held = MODEL.playback(size, log)
+    if kind:
+        return 256, {"line": number, **dict(zip(("code", "offset", "place"), ruling))}
+    data = b"".join(row.to_bytes() for row in held)
+    return number, {"count": len(held), "rows": joined(data, zeros(ROWS - len(data)))} if number == 0 else {}
+
+
 strings = named("left", "right", written=(0, 17))
 EXPECTED = {
     "sha256": lambda message: named("digest")(model.sha256(message)),
@@ -92,6 +104,7 @@ EXPECTED = {
         MODEL.collect(deal, table, second, second_table)),
     "collect_with_tree": lambda deal, table, second, tree, second_table: named("second", "tree", "second_table")(
         MODEL.collect_with_tree(deal, table, second, tree, second_table)),
+    "playback": played_back,
     "build": built,
     "build_with_tree": lambda deal, tree, number, place, record: built(deal, number, place, record, tree),
     "check": lambda commitment, size, number, record: (MODEL.check(commitment, size, number, record), {}),
@@ -115,7 +128,7 @@ HEAD = {
 def written():
     """The text of vectors/vectors.json, a case on each line."""
     cases = []
-    calls = (call for group in vector_deals.GROUPS + vector_records.GROUPS for call in group())
+    calls = (call for group in vector_deals.GROUPS + vector_logs.GROUPS + vector_records.GROUPS for call in group())
     for routine, name, how, inputs in calls:
         code, outputs = EXPECTED[routine](**inputs)
         cases.append({"name": name, "routine": routine, "how": how, "inputs": {each: given(value) for each, value in inputs.items()},

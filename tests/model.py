@@ -5,6 +5,7 @@ replaced by weak ones (see `weak`), so that code 17 can be seen to occur.
 """
 import hashlib
 from itertools import combinations
+from typing import NamedTuple
 
 ZERO32, ZERO64 = bytes(32), bytes(64)
 
@@ -164,6 +165,133 @@ def node_in(tree, d, offset, size):
     """The node over the bytes at an offset, as it stands in the tree buffer."""
     at = node_place(d, height(size), offset // size)
     return tree[at : at + 32]
+
+
+# ---- the clerks' log: a field for each call that gets a line
+
+BOOKING, CANCELLING = 1, 2  # the tags
+CONTENT = {BOOKING: 58, CANCELLING: 10}  # the lengths of their contents
+LOGGED = {BOOKING: (0, 13, 14, 15, 22), CANCELLING: (0, 16)}  # the codes of the calls that get a line
+
+
+class Booking(NamedTuple):
+    """A line for a booking: whose it is, the segment, and the answers."""
+    house: int
+    commitment: bytes
+    size: int
+    code: int
+    offset: int = 0
+    place: int = 0
+
+    def to_bytes(self):
+        content = bytes([self.house]) + self.commitment + le(self.size) + bytes([self.code]) + le(self.offset) + le(self.place)
+        return field(BOOKING, content)
+
+
+class Cancelling(NamedTuple):
+    """A line for a cancellation: whose it is, the entry place, and the answer."""
+    house: int
+    place: int
+    code: int
+
+    def to_bytes(self):
+        return field(CANCELLING, bytes([self.house]) + le(self.place) + bytes([self.code]))
+
+
+def field(tag, content):
+    return bytes([tag]) + le(len(content), 2) + content
+
+
+def line_of(tag, content):
+    """The line that a field's content says."""
+    number = lambda at: int.from_bytes(content[at : at + 8], "little")
+    if tag == BOOKING:
+        return Booking(content[0], content[1:33], number(33), content[41], number(42), number(50))
+    return Cancelling(content[0], number(1), content[9])
+
+
+def line_allowed(d, tag, line):
+    """Whether the house, the size and the code of a line may stand in the log of a deal of d bytes."""
+    sized = tag == CANCELLING or 1 <= line.size <= d // 2
+    return line.house in (1, 2) and sized and line.code in LOGGED[tag]
+
+
+def log_lines(d, log):
+    """The lines of a log for a deal of d bytes; None where it is malformed."""
+    at, lines = 0, []
+    while at < len(log):
+        tag, n = log[at], int.from_bytes(log[at + 1 : at + 3], "little")
+        content = log[at + 3 : at + 3 + n]
+        if CONTENT.get(tag) != n or len(content) != n:
+            return None
+        line = line_of(tag, content)
+        if not line_allowed(d, tag, line):
+            return None
+        lines.append(line)
+        at += 3 + n
+    return lines
+
+
+class Row(NamedTuple):
+    """A row of a ledger."""
+    house: int
+    commitment: bytes
+    size: int
+    offset: int
+    place: int
+
+    def to_bytes(self):
+        return bytes([self.house]) + self.commitment + le(self.size) + le(self.offset) + le(self.place)
+
+
+class Ledger:
+    """What stands in the slots of a deal of d bytes by a log alone: rows by their entry places."""
+
+    def __init__(self, d):
+        _, n, self.start = index_numbers(d)
+        self.rows = dict.fromkeys(range(self.start, d, 64))
+
+    def held(self):
+        """The rows by rising place."""
+        return [row for row in self.rows.values() if row]
+
+    def lowest_offset(self, a):
+        """The lowest multiple of the area that ends by the index start and overlaps no row's area; None where there is none."""
+        used = [(row.offset, row.offset + area(row.size)) for row in self.held()]
+        free = (o for o in range(0, self.start - a + 1, a) if all(end <= o or o + a <= first for first, end in used))
+        return next(free, None)
+
+    def book(self, house, commitment, size):
+        """Code, offset, place."""
+        own = [row for row in self.held() if row.house == house]
+        for row in own:
+            if (row.size, row.commitment) == (size, commitment):
+                return 15, row.offset, row.place
+        if 2 * len(own) >= len(self.rows):
+            return 22, 0, 0
+        free = [place for place, row in self.rows.items() if row is None]
+        if not free:
+            return 13, 0, 0
+        offset = self.lowest_offset(area(size))
+        if offset is None:
+            return 14, 0, 0
+        self.rows[free[0]] = Row(house, commitment, size, offset, free[0])
+        return 0, offset, free[0]
+
+    def cancel(self, house, place):
+        """The code, and zeros."""
+        if place not in self.rows:
+            return 6, 0, 0
+        if self.rows[place] is None or self.rows[place].house != house:
+            return 16, 0, 0
+        self.rows[place] = None
+        return 0, 0, 0
+
+    def play(self, line):
+        """What the rules give for a line, and what it says."""
+        if isinstance(line, Booking):
+            return self.book(line.house, line.commitment, line.size), (line.code, line.offset, line.place)
+        return self.cancel(line.house, line.place), (line.code, 0, 0)
 
 
 class Model:
@@ -488,6 +616,22 @@ class Model:
         """Code; the second deal, its tree buffer and its table afterwards."""
         code, after, table = self.collect(deal, table, second, second_table, tree)
         return code, after, self.fill(after, tree)[1] if code == 0 else tree, table
+
+    # ---- a log played back
+    def playback(self, d, log):
+        """What is said, the kind first: 0 and a code, or 1 and the number of a line; what the rules give for that line (code, offset,
+        place); the rows."""
+        if not self.lent_allowed(d):
+            return (0, 2), (0, 0, 0), []
+        lines = log_lines(d, log)
+        if lines is None:
+            return (0, 3), (0, 0, 0), []
+        ledger = Ledger(d)
+        for number, line in enumerate(lines, 1):
+            ruling, said = ledger.play(line)
+            if ruling != said:
+                return (1, number), ruling, []
+        return (0, 0), (0, 0, 0), ledger.held()
 
     # ---- records
     @staticmethod

@@ -8,11 +8,14 @@ import audit_cases
 import audit_edge_cases
 import edge_cases
 import house_cases
+import playback_cases
+import playback_days
+import playback_edge_cases
 import refusal_cases
 from cases import sparse_record
 from model import (BLANK, DAMAGED, MAX_RAW, SLOT_BLANK, SLOT_DAMAGED, SLOT_KEPT, SLOT_NOT_STANDING, SLOT_OVERLAPPING, SLOT_WRONG, VALID,
-                   Model, Weak, area, filled, index_numbers, node_in, node_place, owners, pad, segment_length, sha256, stray, unpad, ZERO32,
-                   ZERO64)
+                   Booking, Model, Weak, area, filled, index_numbers, node_in, node_place, owners, pad, segment_length, sha256, stray, unpad,
+                   ZERO32, ZERO64)
 from operations import (BOOK, BOOK_TREE, CANCEL, CANCEL_TREE, CHECK, CHECK_INPUT, COLLECT, COLLECT_TREE, PLAIN_FORM, SETTLE,
                         SETTLE_TREE, answer)
 
@@ -833,6 +836,48 @@ def audited_runs():
     expect("numbers of kept entries", seen >= {0, 1, 2, 3}, True)
 
 
+def played_logs():
+    """The calls of playback_cases.py and playback_edge_cases.py say what is written beside them, and have the rows that are."""
+    m, said = Model(), set()
+    for each in (*playback_cases.judged(), *playback_cases.longest(), *playback_edge_cases.judged(),
+                 *playback_edge_cases.past_the_store()):
+        *got, rows = m.playback(each.case.x, each.case.a)
+        expect(f"playback: {each.what}", got, [each.said, each.ruling])
+        expect(f"rows: {each.what}", rows, (rows if each.rows is None else each.rows) if each.said == (0, 0) else [])
+        said.add((each.said[0], each.ruling[0]) if each.said[0] else each.said)
+    expect("what was said", said, {(0, 0), (0, 2), (0, 3), *((1, code) for code in (0, 6, 14, 15, 16, 22))})
+
+
+def played_days():
+    """The log of a day from an all-zero deal is confirmed, and its rows are the standing entries; calls with other codes have no line."""
+    m, rng, codes, calls = Model(), random.Random(37), set(), 0
+    for i in range(60):
+        clerk, cases = playback_days.deal_day(rng, rng.choice((512, 1024, 2048)), 20, with_tree=i % 2 == 1)
+        log = b"".join(line.to_bytes() for line in clerk.log)
+        expect("a day", m.playback(len(clerk.deal), log), ((0, 0), (0, 0, 0), clerk.standing()))
+        codes.update((type(line).__name__, line.code) for line in clerk.log)
+        calls += len(cases) - len(clerk.log)
+    expect("the codes", codes, {("Booking", 0), ("Booking", 14), ("Booking", 15), ("Booking", 22), ("Cancelling", 0), ("Cancelling", 16)})
+    expect("calls without a line", calls > 50, True)
+
+
+def played_collisions():
+    """Without the claim's premise it fails: two segments with one commitment, of a weak hash, are booked with 0, and the second line is
+    wrong, as is one that was refused with 22."""
+    m = Model(Weak(4))
+    segments = {}
+    for i in range(40):
+        segments.setdefault(m.tree(filled(bytes([i, 1])))[-1][0], []).append(bytes([i, 1]))
+    c, (first, second, third, *_) = next((c, each) for c, each in segments.items() if len(each) > 2)
+    deal, table, lines = bytes(1024), bytes(4), []
+    for each in (first, second, third):
+        code, o, p, deal, table = m.book(deal, table, 1, each)
+        lines.append(Booking(1, c, 2, code, o, p).to_bytes())
+    expect("the codes in the deal", [line[44] for line in lines], [0, 0, 22])
+    expect("the second line", m.playback(1024, b"".join(lines))[:2], ((1, 2), (15, 0, 768)))
+    expect("the third line", m.playback(1024, lines[0] + lines[2])[:2], ((1, 2), (15, 0, 768)))
+
+
 published_values()
 streams()
 paddings()
@@ -873,4 +918,7 @@ audits()
 audited_orders()
 audited_laws()
 audited_runs()
+played_logs()
+played_days()
+played_collisions()
 print(f"model_test: the papers' values hold in the model; with a weak node hash {collisions()} collisions were shown")

@@ -12,13 +12,13 @@ from model import Model, index_numbers, le, pad, sha256, unpad
 # The operations by number, as crates/vectors and rust/examples/replay/operation.rs have them. CHECK_INPUT is of the program check_record,
 # and COMPARE of the code that settling shares (two paths from one position): no routines of their own.
 (SHA256, COMMITMENT, NUMBERS, MAKE, READ, FIND, BOOK, BUILD, CHECK, SETTLE, SETTLE_DEAL, FIELDS, CHECK_INPUT, AUDIT, COMPARE, STREAM, PAD,
- UNPAD, TALLY, FILL, BOOK_TREE, BUILD_TREE, SETTLE_TREE, CANCEL, CANCEL_TREE, COLLECT, COLLECT_TREE, ROW) = range(1, 29)
+ UNPAD, TALLY, FILL, BOOK_TREE, BUILD_TREE, SETTLE_TREE, CANCEL, CANCEL_TREE, COLLECT, COLLECT_TREE, ROW, PLAYBACK) = range(1, 30)
 
 NAMES = {SHA256: "sha256", COMMITMENT: "commitment", NUMBERS: "index_numbers", MAKE: "make_entry", READ: "read_entry", FIND: "find",
          BOOK: "book", BUILD: "build", CHECK: "check", SETTLE: "settle_records", SETTLE_DEAL: "settle_with_deal", FIELDS: "read_field",
          AUDIT: "audit", TALLY: "tally", FILL: "tree_fill", BOOK_TREE: "book_with_tree", BUILD_TREE: "build_with_tree",
          SETTLE_TREE: "settle_with_tree", CANCEL: "cancel", CANCEL_TREE: "cancel_with_tree", COLLECT: "collect",
-         COLLECT_TREE: "collect_with_tree", ROW: "tree_row"}
+         COLLECT_TREE: "collect_with_tree", ROW: "tree_row", PLAYBACK: "playback"}
 
 # The forms that take a tree, in c; their other arguments are those of the plain forms. A table of owners is in d, a second one in e,
 # and a house in y.
@@ -86,6 +86,16 @@ def audited(case):
     """b is the lent buffer before; the buffer afterwards."""
     code, states = MODEL.audit(case.a, case.b)
     return code, digest(states)
+
+
+ROWS = 128 * 57  # the bytes of a ledger's rows
+
+
+def played_back(case):
+    """a is the log, x the deal's size. The kind of the answer, 0 or 1, and the code or the number of the line; what the rules give for
+    that line: code, offset, place; the number of rows, and their bytes, with zeros after them."""
+    verdict, ruling, rows = MODEL.playback(case.x, case.a)
+    return *verdict, *ruling, len(rows), digest(b"".join(row.to_bytes() for row in rows).ljust(ROWS, b"\0"))
 
 
 def tree_filled(case):
@@ -213,6 +223,7 @@ ANSWERS = {
     COLLECT: collected,
     COLLECT_TREE: collected,
     ROW: row_written,
+    PLAYBACK: played_back,
 }
 
 

@@ -18,10 +18,10 @@ sys.path.insert(0, str(ROOT / "python"))
 import vizhuthamen as vz  # noqa: E402
 from vizhuthamen import _library  # noqa: E402
 
-# What the Rust crate has besides: types that are bytes here, an iterator, how many threads may work, and a raw archive by parts, which
-# is no call of one function.
-RUST_ALONE = {"Node", "NotANode", "Fields", "commitment_with_threads", "tree_fill_with_threads", "MAX_RAW_STREAM", "RAW_PART",
-              "RawStreamed", "RawStreaming"}
+# What the Rust crate has besides: types that are bytes or texts here, iterators, how many threads may work, and a raw archive by parts,
+# which is no call of one function.
+RUST_ALONE = {"Node", "NotANode", "Fields", "Lines", "Fault", "commitment_with_threads", "tree_fill_with_threads", "MAX_RAW_STREAM",
+              "RAW_PART", "RawStreamed", "RawStreaming"}
 
 
 class Image(unittest.TestCase):
@@ -49,7 +49,7 @@ class Image(unittest.TestCase):
         self.assertEqual([state.words() for state in vz.SlotState], rust)
 
     def test_lengths_and_version_are_the_headers(self):
-        for name in ("MAX_DEAL", "MAX_RAW", "MAX_RECORD", "MAX_STREAM", "MAX_TABLE", "STREAM_STATE"):
+        for name in (*header.LENGTHS, "WRONG_LINE"):
             self.assertEqual(getattr(vz, name), header.defined(f"VZ_{name}"), name)
         self.assertEqual(vz.version(), header.defined("VZ_VERSION"))
         self.assertEqual(_library.NAME, "libvizhuthamen.so." + vz.version().rsplit(".", 1)[0])
@@ -237,6 +237,59 @@ class Answers(unittest.TestCase):
         with self.assertRaises(vz.Refusal) as caught:
             vz.Streaming(bytes(1071))
         self.assertEqual(caught.exception.code, vz.Refusal.OUTPUT)
+
+    def test_the_log_of_a_day(self):
+        deal, table, log = bytearray(512), bytearray(4), []
+        for house, segment in ((1, b"\1" * 128), (1, b"\1" * 128), (2, b"\1" * 100), (1, b"\2"), (3, b"\2"), (1, b"")):
+            answer, commitment = self.answer(vz.book, deal, table, house, segment), vz.commitment(segment.ljust(128, b"\0"))
+            log.append(vz.BookingLine.of(house, commitment, len(segment), answer))
+        for house, place in ((2, 256), (1, 256), (1, 300), (0, 256)):
+            log.append(vz.CancellingLine.of(house, place, self.answer(vz.cancel, deal, table, house, place)))
+        self.assertEqual([line and line.code for line in log], [0, 15, 0, 14, None, None, 16, 0, None, None])
+        data = b"".join(bytes(line) for line in log if line)
+        self.assertEqual(list(vz.lines(512, data)), [line for line in log if line])
+        row = vz.LedgerRow(2, bytes(deal[320:352]), 100, 128, 320)
+        for lent in (data, bytearray(data), memoryview(data)):
+            self.assertEqual(vz.playback(512, lent), vz.Confirmed([row]))
+        self.assertEqual(vz.playback(512, data[: 61 * 3] + bytes(log[2])), vz.WrongLine(4, vz.Answers(15, 128, 320)))
+        self.assertEqual(vz.playback(512, data + bytes(vz.CancellingLine(1, 300, 16))), vz.WrongLine(7, vz.Answers(6, 0, 0)))
+        self.assertEqual([line.answers() for line in (log[1], log[3], log[6])],
+                         [vz.Answers(15, 0, 256), vz.Answers(14, 0, 0), vz.Answers(16, 0, 0)])
+        self.assertEqual(vz.playback(1 << 24, b""), vz.Confirmed([]))
+        self.assertEqual(self.code(lambda: vz.playback(512, data[1:])), vz.Refusal.FORM)
+        self.assertEqual(self.code(lambda: vz.playback(511, data[1:])), vz.Refusal.SIZE)
+        self.assertRaises(OverflowError, vz.playback, 1 << 64, data)
+
+    def answer(self, call, *arguments):
+        """What the call answers, or raises."""
+        try:
+            return call(*arguments)
+        except vz.Refusal as refusal:
+            return refusal
+
+    def test_where_a_log_is_malformed(self):
+        """In the words of the Rust crate, whose tests have them too."""
+        rust = (ROOT / "rust/src/log.rs").read_text()
+        first, second = bytes(vz.CancellingLine(2, 1792, 16)), bytes(vz.BookingLine(1, b"\7" * 32, 300, 0, 512, 1792))
+        changed = lambda at, data: first + second[:at] + data + second[at + len(data):] + first
+        for log, words in ((changed(0, b"\3"), "line 2, at byte 13: tag 3 is neither 1 nor 2"),
+                           (changed(0, b"\2"), "line 2, at byte 13: 58 bytes are not the length of its tag"),
+                           (changed(2, b"\1"), "line 2, at byte 13: 314 bytes are not the length of its tag"),
+                           (changed(3, b"\0"), "line 2, at byte 13: house 0 is neither 1 nor 2"),
+                           (changed(36, b"\1\10"), "line 2, at byte 13: segment size 2049 is not allowed for the deal's"),
+                           (changed(36, b"\0\0"), "line 2, at byte 13: segment size 0 is not allowed for the deal's"),
+                           (changed(44, b"\20"), "line 2, at byte 13: code 16 is none that gets a line"),
+                           (changed(0, b"")[:73], "line 2, at byte 13: the log ends within it"),
+                           (changed(0, b"")[:14], "line 2, at byte 13: the log ends within it"),
+                           (changed(0, b"") + b"\11", "line 4, at byte 87: tag 9 is neither 1 nor 2")):
+            with self.assertRaises(vz.Malformed) as caught:
+                list(vz.lines(4096, log))
+            self.assertEqual(str(caught.exception), words)
+            self.assertEqual(str(pickle.loads(pickle.dumps(caught.exception))), words)
+            self.assertIn(f'"{words}"', rust)
+        self.assertEqual(len(list(vz.lines(4096, changed(0, b"")))), 3)
+        for other in (vz.BookingLine(1, b"\7" * 31, 300, 0, 0, 0), vz.BookingLine(1, b"\7" * 33, 300, 0, 0, 0)):
+            self.assertRaises(ValueError, bytes, other)
 
     def test_a_library_that_is_not_there(self):
         ran = subprocess.run([sys.executable, "-c", "import vizhuthamen"], capture_output=True, text=True,

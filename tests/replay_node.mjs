@@ -7,7 +7,7 @@
 // as it was, and so does memory that is lent to be written where the code writes none; most of the stack stays unused.
 import { createHash } from "node:crypto";
 import { readFileSync } from "node:fs";
-import { load, Refusal } from "../javascript/vizhuthamen.mjs";
+import { line as logLine, lines as logLines, load, Malformed, Refusal, ROWS } from "../javascript/vizhuthamen.mjs";
 import { watched } from "./watched.mjs";
 
 const PART = 1 << 24; // the longest message that the library's sha256 takes
@@ -41,6 +41,35 @@ function pieces(bytes, lengths) {
   const starts = [0];
   for (const length of lengths) starts.push(starts[starts.length - 1] + length);
   return starts.map((start, i) => bytes.subarray(start, starts[i + 1]));
+}
+
+// The bytes of a ledger's rows, and zeros after them.
+function rowsBytes(rows) {
+  const out = Buffer.alloc(ROWS);
+  for (const [i, { house, commitment, size, offset, place }] of rows.entries()) {
+    out[57 * i] = house;
+    out.set(commitment, 57 * i + 1);
+    for (const [j, value] of [size, offset, place].entries()) out.writeBigUInt64LE(BigInt(value), 57 * i + 33 + 8 * j);
+  }
+  return out;
+}
+
+// The lines that are read one by one are malformed somewhere exactly where the log is refused with 3, and are the log's bytes; the one that
+// playback names does not say what the rules give for it.
+function judgeLines(size, log, refused, { line, ruling }) {
+  const read = [];
+  let end = log.length;
+  try {
+    for (const each of logLines(size, log)) read.push(each);
+  } catch (malformed) {
+    if (!(malformed instanceof Malformed)) throw malformed;
+    end = malformed.at;
+  }
+  const said = ({ code, offset = 0, place, kind }) => [code, ...(kind === "cancelling" ? [0, 0] : [offset, place])].join();
+  const wrong = ruling && said(read[line - 1]) === said(ruling);
+  if (wrong || !Buffer.concat(read.map(logLine.encode)).equals(log.subarray(0, end)) || (end < log.length) !== (refused === Refusal.FORM)) {
+    throw new Error(`playback answers ${refused} and line ${line}; ${read.length} lines are read up to byte ${end}`);
+  }
 }
 
 function answersOf(vz) {
@@ -110,6 +139,13 @@ function answersOf(vz) {
     26: (lent) => collected(lent),
     27: (lent) => collected(lent, lent.c),
     28: ({ a, b }) => [code(() => vz.treeRow(a, b)), digest(b)],
+    29({ a, x }) {
+      const [refused, played] = asked(() => vz.playback(x, a), { kind: "refused" });
+      if (refused !== Refusal.SIZE) judgeLines(x, a, refused, played);
+      const { line, ruling = { code: 0, offset: 0, place: 0 }, rows = [] } = played;
+      const said = played.kind === "wrongLine" ? [1, line] : [0, refused];
+      return [...said, ruling.code, ruling.offset, ruling.place, rows.length, digest(rowsBytes(rows))];
+    },
   };
 }
 

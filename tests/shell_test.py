@@ -77,7 +77,7 @@ def operands():
         usage = re.sub(r"\[--\w+\] |\|--\w+ \w+|\.\.\.", "", usage)
         for i, operand in enumerate(re.match(r"Usage: vizhuthamen \S+((?: \[?[A-Z_]+\]?)*)", usage).group(1).split()):
             before = [command, *["x"] * i]
-            known = operand.strip("[]") in ("DEAL", "NEW", "FILE", "SEGMENT", "RAW", "RECORD", "PROOF", "FOLDER")
+            known = operand.strip("[]") in ("DEAL", "NEW", "FILE", "SEGMENT", "RAW", "RECORD", "PROOF", "LOG", "FOLDER")
             yield f"{' '.join(before)} fol\t", [*before, "folder" if known else "fol"]
 
 

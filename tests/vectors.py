@@ -13,6 +13,8 @@ import change_cases
 import edge_cases
 import house_cases
 import number_cases
+import playback_cases
+import playback_edge_cases
 import refusal_cases
 import tree_cases
 from cases import any_number, case, deal_number, node, other_number, paddings, run, sparse_record, streams
@@ -231,6 +233,8 @@ def all_cases():
     yield from edge_cases.stored(random.Random(23))
     yield from audit_cases.stored(random.Random(24))
     yield from (case for *_, case in audit_edge_cases.small(random.Random(25)))
+    yield from playback_cases.stored(random.Random(26))
+    yield from (each.case for each in playback_edge_cases.judged())
     yield from number_cases.stored(random.Random(21))
     yield from refusal_cases.stored()
     yield COMMITMENT, run(rng, 8192), b"", 0, 0

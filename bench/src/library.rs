@@ -70,6 +70,7 @@ functions! {
     book: (Out, usize, Out, usize, u8, In, usize, Number, Number);
     cancel: (Out, usize, Out, usize, u8, u64);
     collect: (In, usize, In, usize, Out, usize, Out, usize);
+    playback: (u64, In, usize, Number, *mut u32, Number, Number, Number, Out, usize);
     build: (In, usize, u64, u64, Out, usize, Number);
     check: (In, usize, u64, u64, In, usize);
     settle_records: (In, usize, u64, u64, In, usize, In, usize, Out, usize, Out, usize);

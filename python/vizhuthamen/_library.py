@@ -14,7 +14,7 @@ Readable = Union[bytes, bytearray, memoryview]
 Writable = Union[bytearray, memoryview]
 Number = Union[ctypes.c_uint32, ctypes.c_uint64]
 
-NAME = "libvizhuthamen.so.0.4"
+NAME = "libvizhuthamen.so.0.5"
 
 # The functions of vizhuthamen.h: `in` and `out` are memory that is read, and that is written, a pointer and a length each; u8 and u64
 # are numbers; u32* and u64* are numbers that are written.
@@ -35,6 +35,7 @@ FUNCTIONS = {
     "vz_book": "out out u8 in u64* u64*",
     "vz_cancel": "out out u8 u64",
     "vz_collect": "in in out out",
+    "vz_playback": "u64 in u64* u32* u64* u64* u64* out",
     "vz_build": "in u64 u64 out u64*",
     "vz_check": "in u64 u64 in",
     "vz_settle_records": "in u64 u64 in in out out",

@@ -12,6 +12,7 @@ mod gather;
 mod help;
 mod json;
 mod judge;
+mod lines;
 mod man;
 mod manifest;
 mod mend;

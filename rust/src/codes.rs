@@ -28,7 +28,7 @@ macro_rules! refusals {
 refusals! {
     1 COMMITMENT_LENGTH "a commitment is not 32 bytes long"
     2 SIZE "a deal, run, stream, message, raw archive or entry size is not allowed"
-    3 FORM "the record's tags, order, lengths or end are wrong"
+    3 FORM "the tags, order, lengths or end of a record are wrong, or a log is malformed"
     4 SEGMENT_SIZE "segment size not allowed for this deal size"
     5 OFFSET "offset not a multiple of the segment's area, or the area ends beyond the index start"
     6 PLACE "entry place not a multiple of 64, or outside the index area"

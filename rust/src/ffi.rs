@@ -102,6 +102,21 @@ extern "C" {
         second_table_len: usize,
     ) -> u32;
 
+    /// Plays a log back on an empty ledger for a deal of this size. `rows`: [`ROWS`](crate::ROWS) bytes, written with `count`
+    /// where it answers 0. Codes: 12, 2, 3; or [`WRONG_LINE`](crate::WRONG_LINE), with which the four other numbers are written.
+    pub fn vz_playback(
+        size: u64,
+        log: *const u8,
+        log_len: usize,
+        line: *mut u64,
+        code: *mut u32,
+        offset: *mut u64,
+        place: *mut u64,
+        count: *mut u64,
+        rows: *mut u8,
+        rows_len: usize,
+    ) -> u32;
+
     /// Builds the record of the entry at a place, for the deal of this number, into the first bytes of `record`. Codes:
     /// 2, 11, 6, 16, 12.
     pub fn vz_build(

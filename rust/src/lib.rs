@@ -13,7 +13,8 @@
 //! second deal.
 //!
 //! Two houses, 1 and 2, book in one deal; whose entry a slot holds says a table beside the deal ([`table_length`]). What to
-//! make of a deal that another program has made says its [`audit`].
+//! make of a deal that another program has made says its [`audit`]. A log has a [`Line`] for every booking and
+//! cancellation whose answer gets one; [`playback`] says whether the rules give these answers.
 //!
 //! ```
 //! let mut deal = vec![0; 512];
@@ -41,8 +42,10 @@ pub mod ffi;
 mod fr32;
 mod hash;
 pub mod hex;
+mod log;
 mod node;
 mod parts;
+mod playback;
 mod record;
 mod streaming;
 mod tree;
@@ -56,7 +59,9 @@ pub use deal::{
 pub use entry::{index_numbers, make_entry, read_entry, Entry, IndexNumbers, ReadEntry};
 pub use fr32::{pad, pad_into, segment_length, unpad, unpad_into, MAX_RAW};
 pub use hash::{commitment, commitment_with_threads, sha256};
+pub use log::{lines, Answers, Fault, Line, Lines, Malformed, BOOKING_LINE, CANCELLING_LINE};
 pub use node::{Node, NotANode};
+pub use playback::{playback, LedgerRow, Playback, ROW, ROWS, WRONG_LINE};
 pub use record::{
     build, build_into, check, fields, read_field, settle_records, settle_with_deal, Field, Fields, Settled, MAX_RECORD,
 };

@@ -1,5 +1,8 @@
-//! The lengths and the version that include/vizhuthamen.h states are those of the crate.
-use vizhuthamen::{MAX_DEAL, MAX_RAW, MAX_RECORD, MAX_STREAM, MAX_TABLE, STREAM_STATE};
+//! The lengths, the number for a wrong line and the version that include/vizhuthamen.h states are those of the crate.
+use vizhuthamen::{
+    BOOKING_LINE, CANCELLING_LINE, MAX_DEAL, MAX_RAW, MAX_RECORD, MAX_STREAM, MAX_TABLE, ROW, ROWS, STREAM_STATE,
+    WRONG_LINE,
+};
 
 /// What the header defines a name of no arguments as, without the comment after it.
 fn defined(name: &str) -> &'static str {
@@ -11,11 +14,23 @@ fn defined(name: &str) -> &'static str {
 
 #[test]
 fn lengths() {
-    let stated =
-        ["VZ_MAX_DEAL", "VZ_MAX_TABLE", "VZ_MAX_RECORD", "VZ_MAX_RAW", "VZ_MAX_STREAM", "VZ_STREAM_STATE"].map(defined);
-    let here = [MAX_DEAL as u64, MAX_TABLE as u64, MAX_RECORD as u64, MAX_RAW, MAX_STREAM, STREAM_STATE as u64];
+    let lengths = [
+        ("VZ_MAX_DEAL", MAX_DEAL as u64),
+        ("VZ_MAX_TABLE", MAX_TABLE as u64),
+        ("VZ_MAX_RECORD", MAX_RECORD as u64),
+        ("VZ_MAX_RAW", MAX_RAW),
+        ("VZ_MAX_STREAM", MAX_STREAM),
+        ("VZ_STREAM_STATE", STREAM_STATE as u64),
+        ("VZ_BOOKING_LINE", BOOKING_LINE as u64),
+        ("VZ_CANCELLING_LINE", CANCELLING_LINE as u64),
+        ("VZ_ROW", ROW as u64),
+        ("VZ_ROWS", ROWS as u64),
+        ("VZ_WRONG_LINE", u64::from(WRONG_LINE)),
+    ];
     let number = |text: &str| text.trim_start_matches("UINT64_C(").trim_end_matches(')').parse::<u64>();
-    assert_eq!(stated.map(number), here.map(Ok));
+    for (name, length) in lengths {
+        assert_eq!(number(defined(name)), Ok(length), "{name}");
+    }
 }
 
 #[test]

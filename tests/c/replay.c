@@ -36,8 +36,8 @@ typedef struct {
 #define HOUSE (uint8_t)(k->y | UINT64_C(0xa5a5a5a5a5a5a500))
 
 /* The outputs of a call. */
-static uint8_t node[32], entry[64], left[64], right[64], state[VZ_STREAM_STATE];
-static uint64_t first, second, third;
+static uint8_t node[32], entry[64], left[64], right[64], state[VZ_STREAM_STATE], rows[VZ_ROWS];
+static uint64_t first, second, third, fourth;
 static uint32_t word;
 static int written; /* whether the code writes them */
 
@@ -55,7 +55,8 @@ static void outputs_full_of_the_pattern(void) {
   memset(entry, PATTERN, sizeof entry);
   memset(left, PATTERN, sizeof left);
   memset(right, PATTERN, sizeof right);
-  first = second = third = NUMBER;
+  memset(rows, PATTERN, sizeof rows);
+  first = second = third = fourth = NUMBER;
   word = WORD;
 }
 
@@ -182,6 +183,27 @@ static void tally(call *k) {
   number(first);
   number(second);
   number(third);
+}
+
+/* The kind of the answer, 0 or 1, and the code or the number of the line; what the rules give for it; then the rows. */
+static void playback(call *k) {
+  static const uint8_t zeros[VZ_ROWS];
+  uint32_t answer = vz_playback(k->x, LENT(A), &first, &word, &second, &third, &fourth, rows, sizeof rows);
+  written = answer == VZ_WRONG_LINE;
+  if (written)
+    printf("1 %" PRIu64, first);
+  else if (first != NUMBER)
+    die("a line's number was changed by the answer %" PRIu32, answer);
+  else
+    printf("0 %" PRIu32, answer);
+  small(word);
+  number(second);
+  number(third);
+  written = answer == VZ_OK;
+  number(fourth);
+  for (size_t i = 0; i < sizeof rows; i++)
+    if (!written && rows[i] != PATTERN) die("rows were changed by the answer %" PRIu32, answer);
+  shown(written ? rows : zeros, sizeof rows);
 }
 
 static void find(call *k) {
@@ -330,6 +352,7 @@ static const struct {
     [26] = {collect, "be"},
     [27] = {collect_with_tree, "bce"},
     [28] = {tree_row, "b"},
+    [29] = {playback, ""},
 };
 
 /* ---- the cases */

@@ -1,8 +1,8 @@
 /*
  * Every function of include/vizhuthamen.h once, from C: a segment of each of two houses in an all-zero deal of 512
  * bytes (document 01, "Run and compared"), the first one's record built, checked and settled; then the same with the
- * deal's tree in hand; then the first one cancelled, and the deal collected. Prints each code, and fails where an
- * answer is another one.
+ * deal's tree in hand; then the first one cancelled, and the deal collected; then the log of these calls, played back.
+ * Prints each code, and fails where an answer is another one.
  *
  *   rt staticlib vizhuthamen
  *   gcc -Iinclude tests/c/smoke.c target/staticlib/libvizhuthamen.a -o target/smoke
@@ -284,6 +284,71 @@ static void changing_with_tree(void) {
   answer("collect with tree, tree", memcmp(second_tree, filled, 480) == 0, 1);
 }
 
+/* The lines of a log, one behind the other. */
+static uint8_t lines[4 * VZ_BOOKING_LINE];
+static size_t lines_length;
+
+static void put_number(uint64_t value) {
+  for (int i = 0; i < 8; i++) lines[lines_length++] = (uint8_t)(value >> 8 * i);
+}
+
+static void put_booking(uint8_t house, const uint8_t *segment, uint8_t code, uint64_t at, uint64_t entry_place) {
+  const uint8_t head[4] = {1, VZ_BOOKING_LINE - 3, 0, house};
+  memcpy(lines + lines_length, head, 4);
+  vz_commitment(segment, 128, lines + lines_length + 4, 32);
+  lines_length += 36;
+  put_number(128);
+  lines[lines_length++] = code;
+  put_number(at);
+  put_number(entry_place);
+}
+
+static void put_cancelling(uint8_t house, uint64_t entry_place, uint8_t code) {
+  const uint8_t head[4] = {2, VZ_CANCELLING_LINE - 3, 0, house};
+  memcpy(lines + lines_length, head, 4);
+  lines_length += 4;
+  put_number(entry_place);
+  lines[lines_length++] = code;
+}
+
+/* The two bookings, the first one again, and its cancellation: one row is left. */
+static void playing_back(void) {
+  static uint8_t rows[VZ_ROWS + 1], row[VZ_ROW] = {2};
+  uint64_t line = 7, count = 7;
+  uint32_t code = 7;
+  offset = place = 7;
+  memset(rows, 7, sizeof rows);
+  put_booking(1, first_segment, VZ_OK, 0, 256);
+  put_booking(1, first_segment, VZ_ALREADY_KEPT, 0, 256);
+  put_booking(2, second_segment, VZ_OK, 128, 320);
+  put_cancelling(1, 256, VZ_OK);
+  answer("log, length", lines_length, 3 * VZ_BOOKING_LINE + VZ_CANCELLING_LINE);
+#define PLAY(size, length, room) vz_playback(size, lines, length, &line, &code, &offset, &place, &count, rows, room)
+  answer("playback into 7295 bytes", PLAY(511, 1, VZ_ROWS - 1), VZ_OUTPUT);
+  answer("playback into 7297 bytes", PLAY(511, 1, VZ_ROWS + 1), VZ_OUTPUT);
+  answer("playback of a part of a line, 511 bytes", PLAY(511, 1, VZ_ROWS), VZ_SIZE);
+  answer("playback of a part of a line", PLAY(512, 1, VZ_ROWS), VZ_FORM);
+  answer("playback, numbers left as they were", line + code + offset + place + count, 35);
+  answer("playback, rows left as they were", rows[0] + rows[VZ_ROWS - 1], 14);
+  answer("playback", PLAY(512, lines_length, VZ_ROWS), VZ_OK);
+  answer("playback, count", count, 1);
+  memcpy(row + 1, lines + 2 * VZ_BOOKING_LINE + 4, 40); /* commitment and size, as in the line */
+  row[41] = 128;
+  row[49] = 320 % 256;
+  row[50] = 320 / 256;
+  answer("playback, row", memcmp(rows, row, VZ_ROW) == 0, 1);
+  answer("playback, zeros after it", rows[VZ_ROW] + rows[VZ_ROWS - 1], 0);
+  answer("playback, nothing past the rows", rows[VZ_ROWS], 7);
+  answer("playback, a line's numbers left as they were", line + code + offset + place, 28);
+  lines[VZ_BOOKING_LINE + 3] = 2; /* the second line's house: it has no such row */
+  answer("playback of a wrong line", PLAY(512, lines_length, VZ_ROWS), VZ_WRONG_LINE);
+  answer("playback of a wrong line, its number", line, 2);
+  answer("playback of a wrong line, code", code, VZ_OK);
+  answer("playback of a wrong line, offset", offset, 128);
+  answer("playback of a wrong line, place", place, 320);
+  answer("playback of a wrong line, count and rows left as they were", count == 1 && memcmp(rows, row, VZ_ROW) == 0, 1);
+}
+
 int main(void) {
   memset(first_segment, 1, 128);
   memset(second_segment, 2, 128);
@@ -300,5 +365,6 @@ int main(void) {
   settling();
   changing();
   changing_with_tree();
+  playing_back();
   return failures != 0;
 }

@@ -4,10 +4,10 @@ import { execFileSync } from "node:child_process";
 import { test } from "node:test";
 import { fileURLToPath } from "node:url";
 import * as module from "../../javascript/vizhuthamen.mjs";
-import { MODULES, nodes, refused, ROOT } from "./common.mjs";
+import { MODULES, nodes, refused, ROOT, text as fileText } from "./common.mjs";
 
-const { MAX_DEAL, MAX_RAW, MAX_RAW_STREAM, NotAPieceCid, RAW_PART, Refusal } = module;
-const { cid, hex, load, segmentLength, tableLength, treeLength } = module;
+const { Malformed, MAX_DEAL, MAX_RAW, MAX_RAW_STREAM, NotAPieceCid, RAW_PART, Refusal } = module;
+const { cid, hex, line, lines, load, segmentLength, tableLength, treeLength } = module;
 const libraries = await Promise.all(MODULES.map(load));
 const vz = libraries[0];
 
@@ -29,6 +29,82 @@ test("two houses book, cancel and collect", () => {
   deal[128] ^= 1;
   assert.deepEqual(vz.audit(deal), ["blank", "wrong commitment", "kept", "blank"]);
   assert.deepEqual(vz.tally(deal), { blank: 2, damaged: 0, valid: 2 });
+});
+
+/** What a call answers, or the refusal that it throws. */
+function answered(call) {
+  try {
+    return call();
+  } catch (refusal) {
+    assert.ok(refusal instanceof Refusal);
+    return refusal;
+  }
+}
+
+test("the log of a day", () => {
+  const deal = new Uint8Array(512), table = new Uint8Array(4), made = [];
+  for (const [house, length, byte] of [[1, 128, 1], [1, 128, 1], [2, 100, 1], [1, 1, 2], [3, 1, 2], [1, 0, 0]]) {
+    const segment = new Uint8Array(length).fill(byte), area = new Uint8Array(128);
+    area.set(segment);
+    made.push(line.booking(house, vz.commitment(area), length, answered(() => vz.book(deal, table, house, segment))));
+  }
+  for (const [house, place] of [[2, 256], [1, 256], [1, 300], [0, 256]]) {
+    made.push(line.cancelling(house, place, answered(() => vz.cancel(deal, table, house, place))));
+  }
+  assert.deepEqual(made.map((each) => each?.code), [0, 15, 0, 14, undefined, undefined, 16, 0, undefined, undefined]);
+  const kept = made.filter(Boolean), log = Buffer.concat(kept.map(line.encode));
+  assert.equal(log.length, 4 * 61 + 2 * 13);
+  assert.deepEqual([...lines(512, log)], kept);
+  assert.deepEqual([...lines(512n, new Uint8Array(log))], kept);
+  const rows = [{ house: 2, commitment: deal.slice(320, 352), size: 100, offset: 128, place: 320 }];
+  for (const each of libraries) assert.deepEqual(each.playback(512, log), { kind: "confirmed", rows });
+  const twice = Buffer.concat([...kept.slice(0, 3), kept[2]].map(line.encode));
+  assert.deepEqual(vz.playback(512n, twice), { kind: "wrongLine", line: 4, ruling: { code: 15, offset: 128, place: 320 } });
+  assert.deepEqual(vz.playback(MAX_DEAL, new Uint8Array(0)), { kind: "confirmed", rows: [] });
+  refused(Refusal.FORM, () => vz.playback(512, log.subarray(1)));
+  refused(Refusal.SIZE, () => vz.playback(511, log.subarray(1)));
+  assert.throws(() => vz.playback(2n ** 64n, log), RangeError);
+});
+
+test("a line there and back, with numbers of 64 bits", () => {
+  const numbers = { size: 2n ** 63n - 1n, offset: 2n ** 64n - 1n, place: 0x0102030405060708n };
+  const booking = { kind: "booking", house: 2, commitment: nodes(32), code: 22, ...numbers };
+  const cancelling = { kind: "cancelling", house: 1, place: numbers.place, code: 16 };
+  const log = Buffer.concat([booking, cancelling].map(line.encode));
+  assert.deepEqual([...lines(2n ** 64n - 1n, log)], [booking, cancelling]);
+  assert.equal(log.subarray(61).toString("hex"), "020a0001080706050403020110");
+  for (const other of [{ house: 256 }, { code: -1 }, { place: 2n ** 64n }]) {
+    assert.throws(() => line.encode({ ...cancelling, ...other }), RangeError);
+  }
+  refused(Refusal.COMMITMENT_LENGTH, () => line.encode({ ...booking, commitment: nodes(64) }));
+  assert.throws(() => lines(512, "text"), TypeError);
+});
+
+test("where a log is malformed, in the words of the Rust crate", () => {
+  const first = line.encode({ kind: "cancelling", house: 2, place: 1792, code: 16 });
+  const second = line.encode({ kind: "booking", house: 1, commitment: nodes(32), size: 300, code: 0, offset: 512, place: 1792 });
+  const changed = (at, ...bytes) => {
+    const other = Buffer.from(second);
+    other.set(bytes, at);
+    return Buffer.concat([first, other, first]);
+  };
+  for (const [log, words] of [
+    [changed(0, 3), "line 2, at byte 13: tag 3 is neither 1 nor 2"],
+    [changed(0, 2), "line 2, at byte 13: 58 bytes are not the length of its tag"],
+    [changed(2, 1), "line 2, at byte 13: 314 bytes are not the length of its tag"],
+    [changed(3, 0), "line 2, at byte 13: house 0 is neither 1 nor 2"],
+    [changed(36, 1, 8), "line 2, at byte 13: segment size 2049 is not allowed for the deal's"],
+    [changed(36, 0, 0), "line 2, at byte 13: segment size 0 is not allowed for the deal's"],
+    [changed(44, 16), "line 2, at byte 13: code 16 is none that gets a line"],
+    [changed(0).subarray(0, 73), "line 2, at byte 13: the log ends within it"],
+    [changed(0).subarray(0, 14), "line 2, at byte 13: the log ends within it"],
+    [Buffer.concat([changed(0), Buffer.of(9)]), "line 4, at byte 87: tag 9 is neither 1 nor 2"],
+  ]) {
+    assert.throws(() => [...lines(4096, log)], (error) => error instanceof Malformed && error.message === words, words);
+    assert.ok(fileText("rust/src/log.rs").includes(`"${words}"`), words);
+    refused(Refusal.FORM, () => vz.playback(4096, log));
+  }
+  assert.equal([...lines(4096, changed(0))].length, 3);
 });
 
 test("lengths", () => {

@@ -49,11 +49,12 @@ test("the states of an audit are the header's", () => {
 
 test("the lengths and the version are the header's", () => {
   for (const [name, length] of Object.entries(HEADER.lengths)) assert.equal(module[name], length, name);
+  assert.equal(`#define VZ_WRONG_LINE ${module.WRONG_LINE}`, text("include/vizhuthamen.h").match(/^#define VZ_WRONG_LINE .*$/m)[0]);
   assert.equal(module.VERSION, HEADER.version);
 });
 
-// What the Rust crate has besides: types that are bytes, an iterator or texts here, and how many threads may work.
-const RUST_ALONE = ["Node", "NotANode", "Fields", "commitment_with_threads", "tree_fill_with_threads"];
+// What the Rust crate has besides: types that are bytes, iterators or texts here, and how many threads may work.
+const RUST_ALONE = ["Node", "NotANode", "Fields", "Lines", "Fault", "commitment_with_threads", "tree_fill_with_threads"];
 
 test("the names are the Rust crate's", () => {
   const uses = [...text("rust/src/lib.rs").matchAll(/^pub use \w+::(?:\{([^}]*)\}|(\w+));/gm)];
@@ -72,7 +73,7 @@ test("every export is typed, and nothing else", () => {
   assert.deepEqual(members("RawStreaming"), own(vz.rawStreaming()));
   const statics = [...types.matchAll(/^ {2}static readonly (\w+): (\d+);/gm)].map(([, name, number]) => [name, Number(number)]);
   assert.deepEqual(Object.fromEntries(statics), Object.fromEntries(Object.entries(module.Refusal)));
-  for (const name of ["hex", "cid"]) {
+  for (const name of ["hex", "cid", "line"]) {
     const body = types.match(new RegExp(`^export const ${name}: \\{([^]*?)^\\}`, "m"))[1];
     assert.deepEqual(names(body, /^ {2}(\w+)\(/gm), Object.keys(module[name]).sort());
   }

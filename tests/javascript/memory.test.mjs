@@ -2,7 +2,7 @@
 import assert from "node:assert/strict";
 import { test } from "node:test";
 import vm from "node:vm";
-import { load, MAX_DEAL, Refusal, tableLength } from "../../javascript/vizhuthamen.mjs";
+import { line, load, MAX_DEAL, Refusal, tableLength } from "../../javascript/vizhuthamen.mjs";
 import { MODULES, nodes, refused, watchedLoad } from "./common.mjs";
 
 const vz = await load(MODULES[1]);
@@ -35,6 +35,7 @@ const CALLS = {
   book: () => [deal.slice(), table.slice(), 1, segment],
   cancel: () => [deal.slice(), table.slice(), 1, 768],
   collect: () => [deal, table, bytes(1024), bytes(4)],
+  playback: () => [1024, line.encode({ kind: "cancelling", house: 1, place: 768, code: 16 })],
   buildInto: () => [deal, 7n, 768, bytes(500)],
   build: () => [deal, 7n, 768],
   check: () => [commitment, 1024, 7n, record],

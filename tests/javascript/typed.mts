@@ -1,6 +1,7 @@
 // A program that TypeScript accepts by javascript/vizhuthamen.d.mts, and lines that it must not accept.
-import { cid, hex, load, MAX_RECORD, meaning, Refusal, SLOT_STATES, tableLength } from "../../javascript/vizhuthamen.mjs";
+import { cid, hex, line, lines, load, MAX_RECORD, meaning, Refusal, SLOT_STATES, tableLength } from "../../javascript/vizhuthamen.mjs";
 import type { Booking, Field, ReadEntry, Settled, SlotState, Streaming, Vizhuthamen } from "../../javascript/vizhuthamen.mjs";
+import type { Line, Playback } from "../../javascript/vizhuthamen.mjs";
 
 const vz: Vizhuthamen = await load(fetch("vizhuthamen.wasm"));
 const deal = new Uint8Array(512), table = new Uint8Array(tableLength(512));
@@ -13,6 +14,11 @@ const read: ReadEntry = vz.readEntry(vz.makeEntry(new Uint8Array(32), 0, 1n));
 const offset: bigint = read.kind === "valid" ? read.entry.offset : 0n;
 const states: SlotState[] = vz.audit(deal);
 const fields: Field[] = [...vz.fields(record)];
+const made: Line | undefined = line.booking(1, vz.commitment(new Uint8Array(128)), 128, booking);
+const log: Uint8Array = made ? line.encode(made) : new Uint8Array(0);
+const played: Playback = vz.playback(512, log);
+const left: number = played.kind === "confirmed" ? played.rows.length : played.ruling.code;
+for (const each of lines(512n, log)) if (each.kind === "booking") console.log(each.size / 2n, left);
 const stream: Streaming = vz.streaming();
 stream.take(hex.decode("00") ?? cid.decode("b"));
 try {
@@ -28,5 +34,7 @@ vz.sha256("abc");
 vz.build(deal, "2026", place);
 // @ts-expect-error: only a collision has strings
 console.log(settled.left);
+// @ts-expect-error: only a wrong line has a number
+console.log(played.line);
 // @ts-expect-error: no such function
 vz.inspect(deal, place);

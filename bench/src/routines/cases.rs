@@ -1,12 +1,12 @@
 //! Each function of the library on short inputs, and on longer ones where its time grows with them.
-use super::inputs::{Inputs, Kept, HOUSE};
+use super::inputs::{Inputs, Kept, Logs, HOUSE};
 use super::Case;
 use crate::library::Library;
 use crate::peers::Peer;
 use crate::record::{Longest, DEAL_NUMBER, DEAL_SIZE};
 use crate::timing::Work;
 use std::hint::black_box;
-use vizhuthamen::{MAX_RECORD, MAX_TABLE, STREAM_STATE};
+use vizhuthamen::{MAX_DEAL, MAX_RECORD, MAX_TABLE, ROWS, STREAM_STATE};
 
 fn case<'a>(
     function: &'static str,
@@ -36,6 +36,7 @@ pub fn all(inputs: &Inputs) -> Vec<Case<'_>> {
     cases.extend(paddings(&inputs.bytes));
     cases.extend(entries(&inputs.small));
     cases.extend(checks(&inputs.longest, &inputs.small));
+    cases.extend(playbacks(&inputs.logs));
     cases.extend(over_deal(&inputs.small, ", deal of 512 bytes", 50));
     cases.extend(over_deal(&inputs.large, ", deal of 1 MiB", 1));
     cases
@@ -174,6 +175,25 @@ fn checks<'a>(longest: &'a Longest, kept: &'a Kept) -> Vec<Case<'a>> {
                 (library.read_field)(record.as_ptr(), record.len(), 0, &mut tag, &mut start, &mut length, &mut next)
             }
         }),
+    ]
+}
+
+fn playbacks(logs: &Logs) -> Vec<Case<'_>> {
+    let playback = |input, repeats, log: &'_ Vec<u8>| {
+        let (lent, length) = (log.as_ptr(), log.len());
+        call("vz_playback", input, repeats, 0, move |library| {
+            let (mut line, mut code, mut offset, mut place, mut count) = (0, 0, 0, 0, 0);
+            let mut rows = [0; ROWS];
+            let (d, out, room) = (MAX_DEAL as u64, rows.as_mut_ptr(), ROWS);
+            let (l, c, o, p, n) = (&mut line, &mut code, &mut offset, &mut place, &mut count);
+            // SAFETY: the log is live, and all that is written are locals of their own.
+            unsafe { (library.playback)(d, black_box(lent), length, l, c, o, p, n, out, room) }
+        })
+    };
+    vec![
+        playback(", one line", 500, &logs.first),
+        playback(", 128 bookings", 2, &logs.full),
+        playback(", 64 bookings and cancellations", 20, &logs.turns),
     ]
 }
 

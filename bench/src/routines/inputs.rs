@@ -1,13 +1,21 @@
 //! What the measured routines are lent.
 use crate::record::{filled, Longest, DEAL_NUMBER};
-use vizhuthamen::Booking;
+use vizhuthamen::{Booking, Line, Node, MAX_DEAL, MAX_TABLE};
 
-/// Clean nodes, the longest record, and deals of 512 bytes and of 1 MiB that keep one segment of a quarter.
+/// Clean nodes, the longest record, deals of 512 bytes and of 1 MiB that keep one segment of a quarter, and logs.
 pub struct Inputs {
     pub bytes: Vec<u8>,
     pub longest: Longest,
     pub small: Kept,
     pub large: Kept,
+    pub logs: Logs,
+}
+
+/// Logs of a deal of 16 MiB: the first booking; one that fills every slot; one booking and cancelling over and over.
+pub struct Logs {
+    pub first: Vec<u8>,
+    pub full: Vec<u8>,
+    pub turns: Vec<u8>,
 }
 
 /// The house whose segment a deal keeps.
@@ -26,7 +34,31 @@ pub struct Kept {
 
 impl Inputs {
     pub fn new() -> Inputs {
-        Inputs { bytes: filled(1 << 20), longest: Longest::new(), small: Kept::new(512), large: Kept::new(1 << 20) }
+        Inputs {
+            bytes: filled(1 << 20),
+            longest: Longest::new(),
+            small: Kept::new(512),
+            large: Kept::new(1 << 20),
+            logs: Logs::new(),
+        }
+    }
+}
+
+impl Logs {
+    fn new() -> Logs {
+        let start = vizhuthamen::index_numbers(MAX_DEAL as u64).expect("a size of a deal").start;
+        let booked = |slot: u64| Line::Booking {
+            house: 1 + slot as u8 % 2,
+            commitment: Node([slot as u8; 32]),
+            size: 128,
+            code: 0,
+            offset: 128 * slot,
+            place: start + 64 * slot,
+        };
+        let bookings: Vec<Vec<u8>> = (0..MAX_TABLE as u64).map(|slot| booked(slot).to_bytes()).collect();
+        let cancelled = Line::Cancelling { house: 1, place: start, code: 0 }.to_bytes();
+        let turns = [&bookings[0][..], &cancelled].concat().repeat(MAX_TABLE / 2);
+        Logs { first: bookings[0].clone(), full: bookings.concat(), turns }
     }
 }
 

@@ -16,12 +16,13 @@ use Rattle.sizes.specs.Sizes.{segmentSizeAllowed, area, entryCount}
 use Rattle.entries.specs.Entry.{offsetIn, sizeIn}
 use Rattle.lent.specs.LentDeal.{LentDeal, dealSize}
 use Rattle.index.specs.Slots.{slotAt, keptAt}
-use Rattle.room.specs.Decide.{decide, answerTo}
+use Rattle.room.specs.Decide.{answerTo}
 use Rattle.room.specs.declared.Booked.{Booked}
 use Rattle.room.specs.declared.Decision.{Decision}
 use Rattle.room.specs.declared.Decision.the-variants.{Refuse, Already, Place}
 use Rattle.ranges.specs.Ranges.{rangesOf}
 use Rattle.houses.specs.Houses.{houseRules, owned, heldCount, withOwner}
+use Rattle.houses.specs.Deciding.{decideFor}
 use Rattle.booking.specs.Write.{areaBytes, writtenDeal}
 
 -- the rules that are looked at first
@@ -55,12 +56,11 @@ lowestKeeping deal table house segment = lowest (keepsOwn deal table house segme
 abbrev pub heldIn : List ℕ → List ℕ → ℕ → ℕ
 heldIn deal table house = heldCount (rangesOf deal) table house (entryCount (length deal))
 
--- what booking decides: a refusal, or what its room allows (crates/room)
+-- what booking decides: a refusal, or what is decided for the house by the deal's slots (crates/houses)
 unfoldable pub decision : LentDeal → List ℕ → ℕ → List ℕ → Decision
 decision deal table house segment =
     unlessRefused (firstRefusal (bookRules deal table house segment)) Refuse
-    (decide (dealSize deal) (rangesOf (deal .bytes)) (heldIn (deal .bytes) table house) (area (length segment))
-    (lowestKeeping deal table house segment))
+    (decideFor (dealSize deal) (rangesOf (deal .bytes)) table house (area (length segment)) (keepsSegment deal segment))
 
 -- the answer: offset and entry place
 unfoldable pub bookAnswer : LentDeal → List ℕ → ℕ → List ℕ → Booked

@@ -4,17 +4,18 @@
 -- 16" (request (x)).
 use mathlib.Core.Bool.{Bool, _&&_}
 use Prim.Native.Nat.{ℕ}
-use mathlib.Core.List.{List, [], _∷_, _++_}
+use mathlib.Core.List.{List, _∷_, _++_}
 use lib.ListN.{length, replicate}
 use Rattle.rules.specs.Refusals.{Rule, rule, firstRefusal, unlessRefused}
 use Rattle.octets.specs.Splice.{splice}
 use Rattle.stray.specs.StrayBits.{noStrayBits}
-use Rattle.sizes.specs.Sizes.{placeAllowed, dealLevel}
+use Rattle.sizes.specs.Sizes.{dealLevel}
 use Rattle.tree.specs.Renewed.{renewed}
 use Rattle.lent.specs.LentDeal.{LentDeal, treeDeal, dealSize}
 use Rattle.index.specs.Slots.{entryAt, standing}
 use Rattle.index.specs.Written.{slotOf}
 use Rattle.houses.specs.Houses.{houseRules, owned, withOwner}
+use Rattle.houses.specs.Deciding.{placeRules}
 
 -- an entry of the house stands at a place, kept or not
 abbrev pub standsOwn : LentDeal → List ℕ → ℕ → ℕ → Bool
@@ -25,9 +26,7 @@ abbrev pub entryRules : LentDeal → List ℕ → ℕ → ℕ → List Rule
 entryRules deal table house place =
     rule (noStrayBits (deal .bytes)) 11
     ∷ rule (deal .treeSized) 12
-    ∷ rule (placeAllowed (dealSize deal) place) 6
-    ∷ rule (standsOwn deal table house place) 16
-    ∷ []
+    ∷ placeRules (dealSize deal) table house place (standing (dealSize deal) (entryAt (deal .bytes) place))
 
 abbrev pub cancelRules : LentDeal → List ℕ → ℕ → ℕ → List Rule
 cancelRules deal table house place = houseRules (dealSize deal) table house ++ entryRules deal table house place

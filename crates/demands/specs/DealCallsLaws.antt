@@ -53,7 +53,8 @@ by-calls P step [] was p = p
 by-calls P step (call ∷ later) was p = by-calls P step later (afterDealCall call was) (step call was p)
 
 -- the deal is as long as it was
-deal-call-length : (call : DealCall) (was : DealAndTable) → length (afterDealCall call was .deal) ≡ length (was .deal)
+pub deal-call-length : (call : DealCall) (was : DealAndTable)
+    → length (afterDealCall call was .deal) ≡ length (was .deal)
 deal-call-length (onDeal call tree) was =
     after-length call (lentBeside tree (was .deal)) (was .table) ∙ ap length (same-bytes tree (was .deal))
 deal-call-length (collectInto second tree) was =

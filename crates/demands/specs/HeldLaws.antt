@@ -141,7 +141,7 @@ module _ (deal other table owners : List ℕ) (k : ℕ) (same-length : length ot
       (omega arith) f e (λ j a b ne. sym (holds-same house j (omega arith) ne))
       ∙ ap (λ (d : ℕ). suc (heldCount (rangesOf other) owners house (entryCount d))) (sym same-length)
 
-and-none : (b : Bool) → (b && false) ≡ false
+pub and-none : (b : Bool) → (b && false) ≡ false
 and-none true = refl
 and-none false = refl
 

@@ -84,7 +84,7 @@ module _ (deal : LentDeal) (table : List ℕ) (house : ℕ) (segment : List ℕ)
   )
 
 -- house 1 or house 2, and not both
-one-of-two : (x : ℕ) → houseAllowed x ≡ true → one (eqb x 1) + one (eqb x 2) ≡ 1
+pub one-of-two : (x : ℕ) → houseAllowed x ≡ true → one (eqb x 1) + one (eqb x 2) ≡ 1
 one-of-two x e = by-tests (eqb x 1) (eqb x 2) refl refl e
   where
     by-tests : (a b : Bool) → eqb x 1 ≡ a → eqb x 2 ≡ b → (a || b) ≡ true → one a + one b ≡ 1
@@ -93,7 +93,7 @@ one-of-two x e = by-tests (eqb x 1) (eqb x 2) refl refl e
     by-tests false true p q t = refl
     by-tests false false p q t = absurd (true≢false (sym t))
 
-is-house : (x : ℕ) → houseAllowed x ≡ true → (x ≡ 1) ⊎ (x ≡ 2)
+pub is-house : (x : ℕ) → houseAllowed x ≡ true → (x ≡ 1) ⊎ (x ≡ 2)
 is-house x e = by-tests (eqb x 1) (eqb x 2) refl refl e
   where
     by-tests : (a b : Bool) → eqb x 1 ≡ a → eqb x 2 ≡ b → (a || b) ≡ true → (x ≡ 1) ⊎ (x ≡ 2)

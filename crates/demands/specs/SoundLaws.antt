@@ -141,7 +141,7 @@ on-deal-sound : (call : Call) (deal : LentDeal) (table : List ℕ) → Sound (de
 on-deal-sound (bookSegment house segment) deal table s = booked-sound deal table house segment s
 on-deal-sound (cancelPlace house place) deal table s = cancelled-sound deal table house place s
 
-call-sound : (call : DealCall) (was : DealAndTable) → Sound (was .deal) → Sound (afterDealCall call was .deal)
+pub call-sound : (call : DealCall) (was : DealAndTable) → Sound (was .deal) → Sound (afterDealCall call was .deal)
 call-sound (onDeal call tree) was s =
     on-deal-sound call (lentBeside tree (was .deal)) (was .table) (subst Sound (sym (same-bytes tree (was .deal))) s)
 call-sound (collectInto second tree) was s =

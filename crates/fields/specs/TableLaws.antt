@@ -7,7 +7,7 @@ use mathlib.Core.List.{List, [], _∷_, _++_, append-nil}
 use lib.Dec.{eqb, leb}
 use lib.ListN.{length, take, drop, length-append, take-append-drop}
 use lib.Seq.{take-append-seam, drop-append-seam, length-take-le}
-use borrow.Author.Tests.{eqb-true, eq-eqb, leb-true, le-leb}
+use borrow.Author.Tests.{eqb-true, eq-eqb, ne-eqb, leb-true, le-leb}
 use Rattle.rules.specs.Choice.{choose}
 use Rattle.rules.specs.RefusalLaws.{and-left, and-right}
 use Rattle.octets.specs.Bytes.{Bytes, bytes-take, bytes-drop}
@@ -19,12 +19,12 @@ use Rattle.fields.specs.declared.LengthRule.the-variants.{Exactly, Multi
 use Rattle.fields.specs.declared.FieldRule.{FieldRule}
 
 -- what a content that was read is
-record Content (f : FieldRule) (r c rest : List ℕ) : Type 0 where
-  written : r ≡ putField (f .tag) c rest
-  right : lengthAllowed (f .length) (length c) ≡ true
-  short : length c < 65536
-  content-bytes : Bytes c
-  rest-bytes : Bytes rest
+pub record Content (f : FieldRule) (r c rest : List ℕ) : Type 0 where
+  pub written : r ≡ putField (f .tag) c rest
+  pub right : lengthAllowed (f .length) (length c) ≡ true
+  pub short : length c < 65536
+  pub content-bytes : Bytes c
+  pub rest-bytes : Bytes rest
 
 never-taken : {A : Type 0} {c rest : List ℕ} → refused ≡ taken c rest → A
 never-taken e = let z : _≡_ {A = ℕ} 0 1 = cc in absurd (omega arith)
@@ -36,7 +36,7 @@ chosen : (t : Bool) (f : Taken) (c rest : List ℕ) → choose t f refused ≡ t
 chosen true f c rest e = (refl, e)
 chosen false f c rest e = never-taken e
 
-field-means : (f : FieldRule) (r c rest : List ℕ) → Bytes r → takeField f r ≡ taken c rest → Content f r c rest
+pub field-means : (f : FieldRule) (r c rest : List ℕ) → Bytes r → takeField f r ≡ taken c rest → Content f r c rest
 unfolding takeField putField
 field-means f [] c rest h e = never-taken e
 field-means f (x ∷ []) c rest h e = never-taken e
@@ -66,7 +66,8 @@ field-means f (x ∷ y ∷ z ∷ l) c rest h e =
       rest-bytes = subst Bytes fr (bytes-drop n l (h .1 .1 .1));
     }
 
-field-back : (f : FieldRule) (c rest : List ℕ) → lengthAllowed (f .length) (length c) ≡ true → length c < 65536
+-- a field that was written is read
+pub field-back : (f : FieldRule) (c rest : List ℕ) → lengthAllowed (f .length) (length c) ≡ true → length c < 65536
     → takeField f (putField (f .tag) c rest) ≡ taken c rest
 unfolding takeField putField
 field-back f c rest k s =
@@ -74,6 +75,12 @@ field-back f c rest k s =
     let l : leb (length c) (length (c ++ rest)) ≡ true =
     le-leb (length c) (length (c ++ rest)) (simp length-append (omega arith)) in
     rw (n, eq-eqb (f .tag) (f .tag) refl, l, k, take-append-seam c rest, drop-append-seam c rest)
+
+-- but not by a row with another tag
+pub other-tag-refused : (f : FieldRule) (tag : ℕ) (c rest : List ℕ) → (tag ≡ f .tag → ⊥)
+    → takeField f (putField tag c rest) ≡ refused
+unfolding takeField putField
+other-tag-refused f tag c rest h = rw (ne-eqb tag (f .tag) h)
 
 -- contents that a table allows: one for each row, of an allowed length below 2 ^ 16
 abbrev pub Fits : List FieldRule → List (List ℕ) → Type 0

@@ -1,2 +1,3 @@
 pub mod Houses
+pub mod Deciding
 pub mod HousesLaws

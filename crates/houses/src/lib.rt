@@ -12,7 +12,7 @@ ghost use Rattle.houses.specs.Houses as Houses;
 ghost use Rattle.houses.specs.Houses.{houseAllowed, tableSized, houseRules, owned, heldCount, withOwner};
 
 // Whether a number is that of a house.
-fn house_allowed(house: u8) -> bool
+pub fn house_allowed(house: u8) -> bool
     ensures { λ r. ⌜ r ≡ houseAllowed house ⌝ }
 {
     house == 1 || house == 2
@@ -66,7 +66,7 @@ pub fn held_count(ranges: Ranges, table: &[u8], house: u8, slots: usize) -> usiz
 }
 
 // The slot at an entry place of a lent deal.
-fn slot_at(size: u64, place: u64) -> usize
+pub fn slot_at(size: u64, place: u64) -> usize
     requires { ⌜ (lentSizeAllowed size ≡ true) × (placeAllowed size place ≡ true) ⌝ }
     ensures { λ r. ⌜ r ≡ slotOf size place ⌝ }
 {

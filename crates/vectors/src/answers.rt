@@ -4,6 +4,7 @@ use crate::show;
 use entries::EntryKind;
 use fields::Field;
 use paths::Compared;
+use playback::Verdict;
 use room::Booked;
 use settle::Settled;
 use stream::Stream;
@@ -106,6 +107,31 @@ fn tally(deal: &[u8]) {
 fn audit(deal: &[u8], states: &mut [u8]) {
     show::code(audit::audit(deal, states));
     show::digest(states);
+}
+
+// The kind of the answer, 0 or 1, and the code or the number of the line; what the rules give for that line; the rows.
+fn playback(log: &[u8], size: u64) {
+    let played = playback::play_back(size, log);
+    let verdict = played.verdict;
+    match verdict {
+        Verdict::Code(code) => {
+            show::code(0);
+            show::number(code as u64);
+        }
+        Verdict::Line(number) => {
+            show::code(1);
+            show::number(number);
+        }
+    }
+    let ruling = played.ruling;
+    show::number(ruling.code as u64);
+    show::number(ruling.offset);
+    show::number(ruling.place);
+    show::number(played.count as u64);
+    let mut bytes = [0u8; 7296];
+    let rows = played.rows;
+    playback::put_rows(rows, &mut bytes);
+    show::digest(&bytes);
 }
 
 fn find(deal: &[u8], commitment: &[u8]) {
@@ -333,6 +359,10 @@ fn answer_any(operation: u64, a: &mut [u8], b: &mut [u8], c: &mut [u8], x: u64, 
     }
     if operation == 28 {
         fill_row(a, b);
+        return;
+    }
+    if operation == 29 {
+        playback(a, x);
         return;
     }
     answer_with_tree(operation, a, b, c, x, y);

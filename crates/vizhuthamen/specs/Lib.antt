@@ -1,4 +1,5 @@
 pub mod Export
+pub mod PlayedLog
 pub mod StreamCalls
 pub mod CallsCutAnywhere
 pub mod RawArchive

@@ -8,6 +8,7 @@ pub mod index_entries; // index_entries.rt: index numbers and entries
 mod numbers; // numbers.rt: what stands for the kind of an entry
 mod output; // output.rt: what is written to lent outputs
 pub mod padding; // padding.rt: raw archives to segments and back
+pub mod playing; // playing.rt: playing a log back
 pub mod records; // records.rt: building and checking a record, and reading its fields
 pub mod settling; // settling.rt: settling two records, or a record with a deal
 pub mod streaming; // streaming.rt: the commitment of bytes that arrive in pieces

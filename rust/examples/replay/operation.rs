@@ -48,6 +48,7 @@ operations! {
     26 Collect
     27 CollectWithTree
     28 TreeRow
+    29 Playback
 }
 
 impl Operation {

@@ -2,7 +2,7 @@
 //! pattern must stay, and zeros are shown.
 use super::{digest, pieces, Answer, Case, Line, Operation};
 use std::fmt::Write;
-use vizhuthamen::{ffi, STREAM_STATE};
+use vizhuthamen::{ffi, ROWS, STREAM_STATE, WRONG_LINE};
 
 const PATTERN: u8 = 0xa5;
 const NUMBER: u64 = 0xa5a5_a5a5_a5a5_a5a5;
@@ -17,7 +17,12 @@ struct Written {
 
 impl Written {
     fn new(code: u32, writing: &[u32]) -> Written {
-        Written { line: Line::code(code), written: writing.contains(&code), stayed: true }
+        Written::after(Line::code(code), writing.contains(&code))
+    }
+
+    /// What follows in a line that has begun.
+    fn after(line: Line, written: bool) -> Written {
+        Written { line, written, stayed: true }
     }
 
     fn number(self, value: u64) -> Written {
@@ -77,6 +82,7 @@ pub fn answer(case: &mut Case) -> Answer {
         Operation::Collect => collect(a, d, b, None, e),
         Operation::CollectWithTree => collect(a, d, b, Some(c), e),
         Operation::TreeRow => tree_row(a, b),
+        Operation::Playback => playback(x, a),
     }
 }
 
@@ -133,6 +139,26 @@ fn tally(deal: &[u8]) -> Answer {
     let (mut blank, mut damaged, mut valid) = (NUMBER, NUMBER, NUMBER);
     let code = unsafe { ffi::vz_tally(deal.as_ptr(), deal.len(), &mut blank, &mut damaged, &mut valid) };
     Written::new(code, &[0]).number(blank).number(damaged).number(valid).done()
+}
+
+/// With a code the numbers of a line stay as they were, with a wrong line the rows and their number, and with a refusal
+/// all.
+fn playback(size: u64, log: &[u8]) -> Answer {
+    let (mut line, mut code, mut offset, mut place) = (NUMBER, WORD, NUMBER, NUMBER);
+    let (mut count, mut rows) = (NUMBER, [PATTERN; ROWS]);
+    let answer = unsafe {
+        let (out, len) = (rows.as_mut_ptr(), rows.len());
+        let (line, code, offset, place) = (&mut line, &mut code, &mut offset, &mut place);
+        ffi::vz_playback(size, log.as_ptr(), log.len(), line, code, offset, place, &mut count, out, len)
+    };
+    let (wrong, confirmed) = (answer == WRONG_LINE, answer == 0);
+    if !wrong && line != NUMBER || !confirmed && rows != [PATTERN; ROWS] {
+        return Err(format!("an output was changed by the answer {answer}").into());
+    }
+    let said = if wrong { Line::code(1).add(line) } else { Line::code(0).add(answer) };
+    let said = Written::after(said, wrong).word(code).number(offset).number(place).done()?;
+    let said = Written::after(said, confirmed).number(count).done()?;
+    Ok(said.bytes(&digest(if confirmed { &rows } else { &[0; ROWS] })?))
 }
 
 fn find(deal: &[u8], c: &[u8]) -> Answer {

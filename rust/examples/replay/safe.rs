@@ -1,7 +1,10 @@
 //! A case answered by the safe functions.
 use super::{digest, pieces, Answer, Case, Line, Operation};
+use std::error::Error;
 use std::fmt::Write;
-use vizhuthamen::{self as vz, Booking, Node, Position, ReadEntry, Refusal, Settled, Streaming};
+use vizhuthamen::{
+    self as vz, Answers, Booking, LedgerRow, Node, Playback, Position, ReadEntry, Refusal, Settled, Streaming,
+};
 
 fn code(result: Result<(), Refusal>) -> Line {
     Line::code(result.err().map_or(0, Refusal::code))
@@ -38,6 +41,7 @@ pub fn answer(case: Case) -> Answer {
         Operation::Collect => collect(&a, &d, &mut b, None, &mut e),
         Operation::CollectWithTree => collect(&a, &d, &mut b, Some(&mut c), &mut e),
         Operation::TreeRow => tree_row(&a, &mut b),
+        Operation::Playback => playback(x, &a),
     }
 }
 
@@ -89,6 +93,51 @@ fn audit(deal: &[u8], states: &mut [u8]) -> Answer {
         _ => return Err(format!("audit answers {named:?}, audit_into {written:?} and {states:?}").into()),
     }
     Ok(code(written).bytes(&digest(states)?))
+}
+
+/// The rows are shown by their number and the SHA-256 of their bytes, with zeros after them.
+fn playback(size: u64, log: &[u8]) -> Answer {
+    let result = vz::playback(size, log);
+    lines_agree(size, log, &result)?;
+    let (line, ruling, rows) = match result {
+        Ok(Playback::Confirmed(rows)) => (Line::code(0).add(0), Answers { code: 0, offset: 0, place: 0 }, rows),
+        Ok(Playback::WrongLine { line, ruling }) => (Line::code(1).add(line), ruling, vec![]),
+        Err(refusal) => (Line::code(0).add(refusal.code()), Answers { code: 0, offset: 0, place: 0 }, vec![]),
+    };
+    let mut bytes: Vec<u8> = rows.iter().flat_map(row_bytes).collect();
+    bytes.resize(vz::ROWS, 0);
+    let line = line.add(ruling.code).add(ruling.offset).add(ruling.place).add(rows.len());
+    Ok(line.bytes(&digest(&bytes)?))
+}
+
+fn row_bytes(row: &LedgerRow) -> Vec<u8> {
+    let [size, offset, place] = [row.size, row.offset, row.place].map(u64::to_le_bytes);
+    [&[row.house], row.commitment.as_ref(), &size, &offset, &place].concat()
+}
+
+/// The lines that are read one by one are malformed somewhere exactly where the log is refused with 3, and are the log's
+/// bytes; the one that playback names does not say what the rules give for it.
+fn lines_agree(size: u64, log: &[u8], result: &Result<Playback, Refusal>) -> Result<(), Box<dyn Error>> {
+    if *result == Err(Refusal::SIZE) {
+        return Ok(());
+    }
+    let mut reader = vz::lines(size, log);
+    let read: Vec<vz::Line> = reader.by_ref().map_while(Result::ok).collect();
+    let bytes: Vec<u8> = read.iter().flat_map(vz::Line::to_bytes).collect();
+    let agree = match *result {
+        Ok(Playback::WrongLine { line, ruling }) => {
+            read.get(line as usize - 1).is_some_and(|line| line.answers() != ruling) && bytes == log
+        }
+        Ok(Playback::Confirmed(_)) => bytes == log,
+        Err(_) => bytes.len() < log.len() && log.starts_with(&bytes) && reader.at() == bytes.len(),
+    };
+    match agree {
+        true => Ok(()),
+        false => {
+            Err(format!("playback answers {result:?}, and {} lines are read up to byte {}", read.len(), reader.at())
+                .into())
+        }
+    }
 }
 
 fn tally(deal: &[u8]) -> Line {

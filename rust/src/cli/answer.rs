@@ -39,7 +39,7 @@ impl Answer {
         Answer { code: refusal.code(), ..Answer::done(refusal.meaning()) }
     }
 
-    /// A deal is damaged: the exit status in the place of a code.
+    /// A deal is damaged, or a log is wrong: the exit status in the place of a code.
     pub fn damaged(meaning: &'static str) -> Answer {
         Answer { code: u32::from(failure::DATA), ..Answer::done(meaning) }
     }

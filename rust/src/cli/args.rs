@@ -82,7 +82,20 @@ pub struct ToBook {
     pub segment: Stream,
     pub raw: bool,
     pub house: Option<u64>,
+    pub log: Option<PathBuf>,
     pub force: bool,
+    pub reopen: bool,
+    pub access: Access,
+}
+
+/// An entry that is cancelled, by which house, and how: with a commitment only where it is the entry's.
+#[derive(Debug, PartialEq, Eq)]
+pub struct Cancelling {
+    pub deal: Stream,
+    pub at: At,
+    pub house: Option<u64>,
+    pub commitment: Option<Vec<u8>>,
+    pub log: Option<PathBuf>,
     pub reopen: bool,
     pub access: Access,
 }
@@ -96,6 +109,7 @@ pub struct Packing {
     pub number: Option<u64>,
     pub records: Option<PathBuf>,
     pub house: Option<u64>,
+    pub log: Option<PathBuf>,
     pub force: bool,
     pub reopen: bool,
     pub access: Access,
@@ -135,7 +149,7 @@ pub enum Command {
     Extract(Extracting),
     Close(Closing),
     Book(ToBook),
-    Cancel { deal: Stream, at: At, house: Option<u64>, commitment: Option<Vec<u8>>, reopen: bool, access: Access },
+    Cancel(Cancelling),
     Collect { deal: Stream, new: Stream, number: Option<u64>, force: bool, wait: bool },
     List { deal: Stream },
     Audit { deal: Stream },
@@ -146,6 +160,8 @@ pub enum Command {
     Check { commitment: Vec<u8>, size: u64, number: u64, record: Stream },
     Settle { commitment: Vec<u8>, size: u64, number: u64, first: Stream, second: Stream },
     SettleDeal { deal: Stream, number: Option<u64>, record: Stream },
+    Playback { size: u64, log: Stream },
+    Log { log: Stream },
     Show { record: Stream },
     Fsck { deal: Stream, wait: bool },
     Repair { deal: Stream, in_hand: Option<InHand>, at: Option<At>, access: Access },
@@ -266,6 +282,15 @@ impl Options {
         match self.value(name).map(stream).transpose()? {
             Some(Stream::File(path)) => Ok(Some(path)),
             Some(Stream::Standard) => Err(usage(format!("--{name} must be a folder"))),
+            None => Ok(None),
+        }
+    }
+
+    /// The log that gets a line.
+    fn log(&self) -> Result<Option<PathBuf>, Failure> {
+        match self.value("log").map(stream).transpose()? {
+            Some(Stream::File(path)) => Ok(Some(path)),
+            Some(Stream::Standard) => Err(usage("--log must be a file, to which lines are added")),
             None => Ok(None),
         }
     }
@@ -513,8 +538,8 @@ fn operands_of(name: &str, words: &[OsString], options: &Options) -> Result<Comm
         ("book", [deal, words @ ..]) => {
             let (segment, raw) = options.operand_or("raw", words)?;
             let (deal, house, access) = (stream(deal)?, options.house()?, options.access());
-            let (force, reopen) = (options.has("force"), options.has("reopen"));
-            Command::Book(ToBook { deal, segment, raw, house, force, reopen, access })
+            let (log, force, reopen) = (options.log()?, options.has("force"), options.has("reopen"));
+            Command::Book(ToBook { deal, segment, raw, house, log, force, reopen, access })
         }
         ("pack", files) => Command::Pack(packing(files, options)?),
         ("extract", [deal, names @ ..]) => Command::Extract(Extracting {
@@ -531,14 +556,15 @@ fn operands_of(name: &str, words: &[OsString], options: &Options) -> Result<Comm
             force: options.has("force"),
             wait: options.wait(),
         }),
-        ("cancel", [deal, place @ ..]) => Command::Cancel {
+        ("cancel", [deal, place @ ..]) => Command::Cancel(Cancelling {
             deal: stream(deal)?,
             at: options.needed_at(place.first())?,
             house: options.house()?,
             commitment: options.commitment()?,
+            log: options.log()?,
             reopen: options.has("reopen"),
             access: options.access(),
-        },
+        }),
         ("collect", [deal, new]) => {
             let (deal, new, number) = (stream(deal)?, stream(new)?, options.number()?);
             Command::Collect { deal, new, number, force: options.has("force"), wait: options.wait() }
@@ -571,6 +597,8 @@ fn operands_of(name: &str, words: &[OsString], options: &Options) -> Result<Comm
         ("settle-deal", [deal, record]) => {
             Command::SettleDeal { deal: stream(deal)?, number: options.number()?, record: stream(record)? }
         }
+        ("playback", [size, log]) => Command::Playback { size: number(size)?, log: stream(log)? },
+        ("log", [log]) => Command::Log { log: stream(log)? },
         ("show", [record]) => Command::Show { record: stream(record)? },
         ("fsck", [deal]) => Command::Fsck { deal: stream(deal)?, wait: options.wait() },
         ("repair", [deal]) => Command::Repair {
@@ -607,6 +635,7 @@ fn packing(files: &[OsString], options: &Options) -> Result<Packing, Failure> {
         number: options.number()?,
         records: options.folder("records")?,
         house: options.house()?,
+        log: options.log()?,
         force: options.has("force"),
         reopen: options.has("reopen"),
         access: options.access(),
@@ -624,7 +653,7 @@ fn standard_inputs(command: &Command) -> usize {
         Command::Pack(packing) => &[&packing.deal],
         Command::Extract(extracting) => &[&extracting.deal],
         Command::Close(Closing { deal, .. }) => &[deal],
-        Command::Cancel { deal, .. } | Command::Collect { deal, .. } => &[deal],
+        Command::Cancel(Cancelling { deal, .. }) | Command::Collect { deal, .. } => &[deal],
         Command::List { deal } | Command::Audit { deal } | Command::Tally { deal } => &[deal],
         Command::Find { deal, .. } | Command::Build { deal, .. } => &[deal],
         Command::FindRaw { deal, raw, .. } => &[deal, raw],
@@ -632,6 +661,7 @@ fn standard_inputs(command: &Command) -> usize {
         Command::Verify { proof, file, .. } => &[proof, file],
         Command::WithCids(command) => return standard_inputs(command),
         Command::Check { record, .. } | Command::Show { record } => &[record],
+        Command::Playback { log, .. } | Command::Log { log } => &[log],
         Command::Settle { first, second, .. } => &[first, second],
         Command::SettleDeal { deal, record, .. } => &[deal, record],
         Command::Fsck { deal, .. } | Command::Salvage { deal, .. } => &[deal],
@@ -718,7 +748,7 @@ mod tests {
         let access = Access { wait: true, new_owner: false };
         let book = |raw, house, reopen, access| {
             let (deal, segment) = (file("d"), Stream::Standard);
-            Command::Book(ToBook { deal, segment, raw, house, force: true, reopen, access })
+            Command::Book(ToBook { deal, segment, raw, house, log: None, force: true, reopen, access })
         };
         let run = |command| Ok(Request::Run { command, json: false });
         assert_eq!(parsed("book d - --force"), run(book(false, None, false, access)));
@@ -726,11 +756,11 @@ mod tests {
         let other = book(false, Some(2), true, Access { wait: false, new_owner: true });
         assert_eq!(parsed("book --force d --no-wait - --new-owner --house 2 --reopen"), run(other));
         let (deal, segment) = (file("d"), file("s"));
-        let plain = ToBook { deal, segment, raw: false, house: None, force: false, reopen: false, access };
+        let plain = ToBook { deal, segment, raw: false, house: None, log: None, force: false, reopen: false, access };
         assert_eq!(parsed("book d s"), run(Command::Book(plain)));
         let cancel = |house, commitment, reopen| {
             let (deal, at) = (file("d"), At::Place(256));
-            Command::Cancel { deal, at, house, commitment, reopen, access }
+            Command::Cancel(Cancelling { deal, at, house, commitment, log: None, reopen, access })
         };
         assert_eq!(parsed("cancel d 256"), Ok(Request::Run { command: cancel(None, None, false), json: false }));
         let meant = Request::Run { command: cancel(Some(300), Some(vec![0xab]), true), json: true };
@@ -860,6 +890,7 @@ mod tests {
             number: None,
             records: None,
             house: None,
+            log: None,
             force: false,
             reopen: false,
             access: Access { wait: true, new_owner: false },
@@ -870,13 +901,15 @@ mod tests {
             number: Some(7),
             records: Some(path("r")),
             house: Some(2),
+            log: Some(path("l")),
             force: true,
             reopen: true,
             access: Access { wait: false, new_owner: true },
             ..plain()
         };
         let line =
-            "pack --size 512 a --number 7 --records r --force --deal=d b --reopen --house 2 --no-wait --new-owner";
+            "pack --size 512 a --number 7 --records r --force --deal=d b --reopen --house 2 --no-wait --new-owner \
+                    --log l";
         assert_eq!(parsed(line), run(Command::Pack(all)));
         let extract = |names: &[&str], folder: &str| {
             let names = names.iter().map(OsString::from).collect();
@@ -890,6 +923,25 @@ mod tests {
     }
 
     #[test]
+    fn logs() {
+        let run = |command| Ok(Request::Run { command, json: false });
+        let access = Access { wait: true, new_owner: false };
+        let log = || Some(PathBuf::from("l"));
+        let (deal, segment) = (file("d"), file("s"));
+        let book = ToBook { deal, segment, raw: true, house: None, log: log(), force: false, reopen: false, access };
+        assert_eq!(parsed("book d --raw s --log l"), run(Command::Book(book)));
+        let (deal, at) = (file("d"), At::Place(256));
+        let cancel = Cancelling { deal, at, house: None, commitment: None, log: log(), reopen: false, access };
+        assert_eq!(parsed("cancel d --log=l 256"), run(Command::Cancel(cancel)));
+        for (word, log) in [("l", file("l")), ("-", Stream::Standard)] {
+            assert_eq!(parsed(&format!("log {word}")), run(Command::Log { log }));
+        }
+        for (word, log) in [("l", file("l")), ("-", Stream::Standard)] {
+            assert_eq!(parsed(&format!("playback 512 {word}")), run(Command::Playback { size: 512, log }));
+        }
+    }
+
+    #[test]
     fn slots_by_number() {
         let run = |command| Ok(Request::Run { command, json: false });
         let access = Access { wait: true, new_owner: false };
@@ -897,8 +949,9 @@ mod tests {
         let build = Command::Build { deal: file("d"), number: None, at, output: output(None) };
         assert_eq!(parsed("build d --slot 3"), run(build));
         for (option, house) in [("", None), (" --house 2", Some(2))] {
-            let cancel = Command::Cancel { deal: file("d"), at, house, commitment: None, reopen: false, access };
-            assert_eq!(parsed(&format!("cancel --slot=3 d{option}")), run(cancel));
+            let (deal, log) = (file("d"), None);
+            let cancel = Cancelling { deal, at, house, commitment: None, log, reopen: false, access };
+            assert_eq!(parsed(&format!("cancel --slot=3 d{option}")), run(Command::Cancel(cancel)));
         }
         let repair = Command::Repair { deal: file("d"), in_hand: None, at: Some(at), access };
         assert_eq!(parsed("repair d --slot 3"), run(repair));
@@ -1117,6 +1170,20 @@ mod tests {
             "close d --reopen",
             "close d --house 1",
             "extract d --house 1",
+            "book d s --log",
+            "book d s --log=",
+            "book d s --log -",
+            "book d s --log l --log l",
+            "cancel d 256 --log -",
+            "pack a --deal d --log -",
+            "collect d n --log l",
+            "playback l",
+            "playback l 512",
+            "playback 512 l m",
+            "playback 512 l --log m",
+            "log",
+            "log l m",
+            "log l --log m",
         ];
         for line in lines {
             assert!(matches!(parsed(line), Err(Failure { status: 64, .. })), "{line}");

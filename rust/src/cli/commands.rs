@@ -10,9 +10,12 @@ mod house;
 mod list;
 mod listing;
 mod locate;
+mod log;
+mod logged;
 mod number;
 mod owner;
 mod pack;
+mod playback;
 mod prove;
 mod records;
 mod repair;
@@ -52,9 +55,7 @@ pub fn run(command: Command) -> Result<Answer, Failure> {
         Command::Extract(extracting) => extract::extract(&extracting),
         Command::Close(closing) => close::close(&closing),
         Command::Book(booking) => book::book(&booking),
-        Command::Cancel { deal, at, house, commitment, reopen, access } => {
-            cancel::cancel(&deal, at, house, commitment.as_deref(), reopen, access)
-        }
+        Command::Cancel(cancelling) => cancel::cancel(&cancelling),
         Command::Collect { deal, new, number, force, wait } => collect::collect(&deal, &new, number, force, wait),
         Command::List { deal } => list::list(&deal),
         Command::Audit { deal } => audit::audit(&deal),
@@ -67,6 +68,8 @@ pub fn run(command: Command) -> Result<Answer, Failure> {
             settle::settle(&commitment, Terms { size, number }, &first, &second)
         }
         Command::SettleDeal { deal, number, record } => settle_deal(&deal, number, &record),
+        Command::Playback { size, log } => playback::playback(size, &log),
+        Command::Log { log: lines } => log::log(&lines),
         Command::Show { record } => show(&record),
         Command::Fsck { deal, wait } => fsck::fsck(&deal, wait),
         Command::Repair { deal, in_hand, at, access } => repair::repair(&deal, in_hand.as_ref(), at, access),

@@ -335,6 +335,7 @@ mod tests {
             ("[N]", Value::Free),
             ("PLACE|--slot N", Value::Free),
             ("COMMITMENT", Value::Free),
+            ("LOG", Value::File),
             ("FOLDER", Value::Folder),
             ("[COMMAND]", Value::Command),
             ("FILE...", Value::File),

@@ -4,7 +4,7 @@ use std::fmt::Display;
 
 /// Exit status: the call is not one of the command line's.
 pub const USAGE: u8 = 64;
-/// Exit status: a deal, or the state of a stream, is damaged, or is not what is known of it.
+/// Exit status: a deal, a log, or the state of a stream, is damaged, or is not what is known of it.
 pub const DATA: u8 = 65;
 /// Exit status: a proof does not prove what it is asked for, though the library does not refuse its record.
 pub const NOT_PROVED: u8 = 66;
@@ -74,7 +74,7 @@ impl Failure {
 fn meaning(status: u8) -> &'static str {
     match status {
         USAGE => "wrong usage",
-        DATA => "a deal, a proof or a state is damaged, or is not what is known of it",
+        DATA => "a deal, a log, a proof or a state is damaged, or is not what is known of it",
         BUSY => "another process works on the deal",
         _ => "reading or writing failed",
     }
@@ -85,7 +85,7 @@ pub fn usage(message: impl Display) -> Failure {
     Failure::new(USAGE, message)
 }
 
-/// A deal, or the state of a stream, is damaged or is not what is known of it, and the call would make that worse.
+/// A deal, a log, or the state of a stream, is damaged or is not what is known of it, and the call would make that worse.
 pub fn data(message: impl Display) -> Failure {
     Failure::new(DATA, message)
 }

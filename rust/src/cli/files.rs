@@ -6,7 +6,7 @@ use super::owners::Owners;
 use super::store::aside::{remove_dead, Aside, Fill};
 use super::store::change::{self, Part};
 use super::store::names::{shown, Home};
-use super::store::{self, system, Attributes, DealFile, Held, Keep, Known, OwnerTable, View};
+use super::store::{self, log, system, Attributes, DealFile, Held, Keep, Known, OwnerTable, View};
 use std::fs::{self, File, Metadata, OpenOptions};
 use std::io::{self, ErrorKind, Read, Write};
 use std::os::fd::AsFd;
@@ -79,6 +79,15 @@ pub fn read(stream: &Stream) -> Result<Content, Failure> {
 pub fn read_open(file: &File, name: String) -> Result<Content, Failure> {
     let metadata = file.metadata().ok();
     read_from(file, name, metadata)
+}
+
+/// Reads a log whole, under its lock where it is a file: nobody adds lines to it meanwhile.
+pub fn read_log(stream: &Stream) -> Result<Content, Failure> {
+    let (bytes, name) = match stream {
+        Stream::Standard => (log::read_whole(io::stdin().lock(), STANDARD_INPUT)?, STANDARD_INPUT.to_string()),
+        Stream::File(path) => (log::read(path)?, shown(path)),
+    };
+    Ok(Content { bytes, name, metadata: None })
 }
 
 /// Reads a deal, which must have the size that is known of it.

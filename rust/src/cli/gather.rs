@@ -37,20 +37,20 @@ pub struct Gathered {
     pub skipped: Vec<Skipped>,
 }
 
-/// What lies in a folder and is left out: the deal, what belongs to it, and the folder of records.
+/// What lies in a folder and is left out: the deal, what belongs to it, the folder of records and the log.
 pub struct LeftOut {
     pub home: Home,
-    pub records: Option<PathBuf>,
+    pub others: Vec<PathBuf>,
 }
 
 impl LeftOut {
-    /// A deal at a path, which may not be there yet, and a folder of records, which may not be there either.
-    pub fn of(deal: &Path, records: Option<&Path>) -> LeftOut {
-        LeftOut { home: Home::of(&real(deal)), records: records.map(real) }
+    /// A deal at a path, which may not be there yet, and a folder of records and a log, which may not be there either.
+    pub fn of(deal: &Path, records: Option<&Path>, log: Option<&Path>) -> LeftOut {
+        LeftOut { home: Home::of(&real(deal)), others: records.into_iter().chain(log).map(real).collect() }
     }
 
     fn has(&self, path: &Path) -> bool {
-        self.home.owns(path) || self.records.as_deref() == Some(path)
+        self.home.owns(path) || self.others.iter().any(|other| other == path)
     }
 }
 

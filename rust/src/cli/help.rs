@@ -30,6 +30,7 @@ pub struct Choice {
 pub const OPTIONS: &[Choice] = &[
     Choice { name: "output", value: "FILE", summary: "write to FILE, which must not be there yet (also -o)" },
     Choice { name: "house", value: "HOUSE", summary: "the house that books, packs or cancels, 1 or 2" },
+    Choice { name: "log", value: "LOG", summary: "add a line on each booking or cancellation to the file LOG" },
     Choice {
         name: "force",
         value: "",
@@ -113,7 +114,7 @@ With HOUSE, the entries that stand at each PLACE, a byte offset in DEAL, or in t
 gives, are that house's from then on; without a slot all that are nobody's. With HOUSE 0 they are nobody's; without a
 slot that makes 0 of every byte that is no house's or is of a blank slot. An entry that is the other house's is not
 taken: nothing is changed and the exit status is 65. With --instead-of N it is, where it is house N's; without a slot
-all of house N change hands.
+all of house N change hands. A log of DEAL (see book) has no line for that, and ends.
 
 A deal that was made by an older version or by another program, and a copy without its table, has no DEAL.owners.
 Where no entry stands in it, the first booking makes the table. Where entries stand, `book` and `cancel` refuse
@@ -175,7 +176,7 @@ otherwise they are printed in hex, but not on a terminal.",
     Topic {
         name: "book",
         operands: &["DEAL", "[--raw] SEGMENT"],
-        options: &["raw", "house", "force", "reopen", "no-wait", "new-owner"],
+        options: &["raw", "house", "log", "force", "reopen", "no-wait", "new-owner"],
         summary: "book a segment file into a deal file",
         text: "Books the bytes of SEGMENT, already padded (see pad), into the file DEAL, and prints offset, entry place, size,
 commitment and house. The size is from 1 byte to half of the deal; zeros follow up to the segment's area, the
@@ -198,12 +199,22 @@ does not: nothing is changed and the exit status is 75. The new files are writte
 renamed over DEAL and DEAL.owners, with their owner, permissions and extended attributes. DEAL is the old or the
 new deal at any moment, never a part of either; a change that was cut short is ended by the next call that changes
 or lists DEAL. A file with several hard links, or a DEAL whose owner cannot be kept, is refused; --new-owner allows
-the latter. A deal that is closed (see close) is refused (65); with --reopen it is open again with that change.",
+the latter. A deal that is closed (see close) is refused (65); with --reopen it is open again with that change.
+
+With --log LOG a booking that is answered with 0, 13, 14, 15 or 22 adds a line to the file LOG, which is made where it
+is not there, and the name and the number of lines of LOG are printed too. DEAL, DEAL.owners and LOG are changed
+together or not at all: a line that was cut short is completed by the next call on DEAL. LOG may lie anywhere; it is
+locked too, and grows in place. It is the log of one deal, and has a line for all that was booked and cancelled there,
+from a deal without entries on: `playback` confirms it after every line, with the entries of DEAL as its rows. Where it
+would not, since LOG is another deal's, or torn, or something was done to DEAL without --log, nothing is changed and
+the exit status is 65. So it is for a LOG that is begun when entries stand in DEAL already, and code 13, which needs
+entries that no house has booked, is never met with a log. `collect` ends a log, and so do `owner` and `repair` where
+they change an entry or its owner.",
     },
     Topic {
         name: "pack",
         operands: &["FILE..."],
-        options: &["deal", "size", "number", "records", "house", "force", "reopen", "no-wait", "new-owner"],
+        options: &["deal", "size", "number", "records", "house", "log", "force", "reopen", "no-wait", "new-owner"],
         summary: "pack plain files and folders into a deal file, with a manifest",
         text: "Pads (Fr32) each plain FILE, and each file of a folder FILE and of the folders in it, and books all of
 them into the file DEAL in one change: all, or none where one does not fit. Beside DEAL goes the manifest
@@ -228,7 +239,10 @@ Code 23, for all of them: the house is none, or DEAL.owners has another length.
 With --records FOLDER the inclusion record of every file of the manifest is written to NAME.record in FOLDER; the
 deal's number must be known. Records that are there and differ are refused before anything is changed (74); --force
 replaces them. A run that was killed is run again: what is done is found done. DEAL is locked and replaced as with
-`book`, together with DEAL.owners and the manifest. A deal that is closed is refused (65) without --reopen.",
+`book`, together with DEAL.owners and the manifest. A deal that is closed is refused (65) without --reopen.
+
+With --log LOG a line for every file, booked or kept already, is added to the log as with `book`, in the order in which
+they are booked, all with that change. Where files do not fit nothing is booked, and no line is added.",
     },
     Topic {
         name: "extract",
@@ -264,7 +278,7 @@ anew, and changes nothing else.",
     Topic {
         name: "cancel",
         operands: &["DEAL", "PLACE|--slot N"],
-        options: &["house", "commitment", "slot", "reopen", "no-wait", "new-owner"],
+        options: &["house", "commitment", "slot", "log", "reopen", "no-wait", "new-owner"],
         summary: "cancel an entry of a deal file",
         text: "Cancels the entry of the house that stands at PLACE, a byte offset in the file DEAL, or in the slot of the number
 that --slot gives (`list` shows both), whether it is kept or not, and prints what it said: offset, entry place, size
@@ -282,7 +296,8 @@ DEAL has another commitment afterwards: records that were built before belong to
 the slot nor the bytes are booked again, `repair DEAL --segment FILE --place PLACE` brings the entry back, as
 nobody's, and `owner DEAL HOUSE PLACE` gives it to its house. DEAL and DEAL.owners are locked and replaced as with
 `book`, together with the manifest of a deal that was packed: the line of a segment that is not in DEAL any more goes.
-A deal that is closed is refused (65) without --reopen.",
+A deal that is closed is refused (65) without --reopen. With --log LOG a cancellation that is answered with 0 or 16
+adds a line to the log, as with `book`.",
     },
     Topic {
         name: "collect",
@@ -295,7 +310,8 @@ slot on in that order; all else is zero. For each entry its owner and the old an
 printed, by new places. NEW.owners has each moved entry's byte as it was, nobody's too, for its new slot, and
 zeros after them. Where entries stand in DEAL and it has no table, NEW has none either. NEW.manifest.json has the
 names of DEAL's manifest, where there is one, with the new places. DEAL is not changed.
-Records that were built from DEAL belong to its commitment, and not to that of NEW.
+Records that were built from DEAL belong to its commitment, and not to that of NEW. A log of DEAL (see book) ends: its
+rows are not the entries of NEW, at their new places, and a log cannot begin where entries stand.
 
 NEW is made as by `new`: a file that is there is never overwritten, and NEW.vz goes beside it. Code 23:
 DEAL.owners has another length than one byte a slot. NEW takes the place of DEAL and has its number, where one is
@@ -403,6 +419,34 @@ and is another one; two different 64-byte strings with one node hash are printed
 21: it names a deal of another number, which is printed.",
     },
     Topic {
+        name: "playback",
+        operands: &["SIZE", "LOG"],
+        options: &[],
+        summary: "play a log back: whether the rules give the answers that it says",
+        text: "Plays the lines of the file LOG back, as `book`, `cancel` and `pack` add them with --log, on an empty ledger for a
+deal of SIZE bytes, a power of two from 512 to 16777216: each booking and each cancellation in turn is answered by
+the rules and compared with what its line says. Neither the deal nor the segments are needed.
+
+Exit status 0: every line is confirmed. The rows of the ledger after the last line are printed by rising entry place:
+what is booked and not cancelled, with its house, offset, size and commitment. Where LOG has a line for every
+booking and cancellation of a deal, from all zeros on, and nothing else has changed it, these are the entries that
+`list` shows of that deal. 65: the rules do not give what a line says. The first such line is shown, with what it
+says and what they give; none after it is judged. Code 3: LOG is malformed, and no line is judged; the line and the byte
+at which its form breaks are shown, and what may stand there. Code 2: SIZE is not allowed.
+
+A segment counts as kept already (15) where the house has a row of equal size and commitment. Collecting a deal ends
+its log: the new deal has other places. Nothing is changed; where a call adds a line meanwhile, it is waited for.",
+    },
+    Topic {
+        name: "log",
+        operands: &["LOG"],
+        options: &[],
+        summary: "list the lines of a log",
+        text: "Lists the lines of the file LOG: number, the byte at which the line starts, what was asked by which house, the answer,
+and the offset, entry place, size and commitment. Whether the rules give these answers is not judged: see playback.
+Code 3: LOG is malformed; the lines before the fault are shown, and where it is.",
+    },
+    Topic {
         name: "show",
         operands: &["RECORD"],
         options: &[],
@@ -440,8 +484,9 @@ bytes of an entry that stands and is not kept are written anew too. DEAL.owners 
 the owner again that it had, and one whose byte was cleared is nobody's (see owner).
 
 The deal as it was is kept as DEAL.before-repair (or DEAL.before-repair.N); the repaired deal and this copy are put in
-place together or not at all, and with them the manifest, where it did not agree with the entries. Exit status 0: fsck
-finds nothing wrong any more. 65: something is left.",
+place together or not at all, and with them the manifest, where it did not agree with the entries. A log of DEAL (see
+book) goes on where its entries are again those that its lines come to. Exit status 0: fsck finds nothing wrong any
+more. 65: something is left.",
     },
     Topic {
         name: "salvage",
@@ -509,6 +554,7 @@ source <(vizhuthamen completions bash)",
 pub const GROUPS: &[(&str, &[&str])] = &[
     ("Files and their proofs", &["pack", "extract", "close", "prove", "verify"]),
     ("Records", &["build", "check", "settle", "settle-deal", "show"]),
+    ("Logs", &["playback", "log"]),
     ("Deals and segments", &["new", "number", "owner", "book", "cancel", "collect", "list", "tally", "find"]),
     ("Deals that are damaged, or of others", &["audit", "fsck", "repair", "salvage"]),
     ("Bytes", &["commit", "stream", "pad", "unpad"]),
@@ -538,9 +584,9 @@ house where --house is not given.",
         "0 with code 0; with any other code that code, 1 to 24, and the line `code N: meaning` on standard output (on
 standard error with --output -, where nothing else is written then);
 66 where verify says no and no code of the rules does, on standard output too;
-64 wrong usage; 65 a deal, a proof, or the state of a stream, is damaged or is not what is known of it, or a deal's
-number or the owners of its entries are not known; 74 reading or writing failed; 75 another process works on the deal
-and --no-wait is given; each with a message on standard error.",
+64 wrong usage; 65 a deal, a log, a proof, or the state of a stream, is damaged or is not what is known of it, or a
+deal's number or the owners of its entries are not known; 74 reading or writing failed; 75 another process works on
+the deal or its log and --no-wait is given; each with a message on standard error.",
     ),
 ];
 

@@ -8,7 +8,8 @@ const FILES: &str =
     "  DEAL.vz  what is known of the deal file DEAL: its size, its number, whether it is closed. It can be done without.
   DEAL.owners  whose the entries of DEAL are, a byte for each slot. It is copied together with DEAL.
   DEAL.manifest.json  the names of the files that were packed into DEAL, with their lengths, digests and places.
-  DEAL.before-repair  the deal as it was before `repair` changed it.";
+  DEAL.before-repair  the deal as it was before `repair` changed it.
+  LOG  the log of a deal: a line for each booking and each cancellation with --log, which `playback` judges.";
 
 const EXAMPLES: &str =
     "A house packs a folder into a deal with the number 5801 and closes it, which prints the deal's \

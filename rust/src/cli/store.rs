@@ -9,6 +9,10 @@
 //! them in their places. One file is put there by a rename. Several are put there together or not at all: a journal that names them
 //! is put in place first, and whoever opens the deal next ends what the journal says.
 //!
+//! **A log** (`log`) gets lines with a change: it grows in place, wherever it lies, and the journal has its name, its
+//! length before and the lines, so that they too are added with the files or not at all. It has a lock of its own, taken
+//! after the deal's.
+//!
 //! **Beside a deal** lie what is known of it (`sidecar`), the table of its owners (`owners`), which changes together
 //! with the deal or alone, and its manifest (`cli::manifest`), which changes with the deal. All are read under the
 //! lock, or without it as they were at one moment (`view`).
@@ -20,7 +24,9 @@ mod attributes;
 pub mod change;
 mod create;
 mod deal;
+mod journal;
 mod lock;
+pub mod log;
 pub mod names;
 mod owners;
 mod sidecar;

@@ -8,11 +8,12 @@ use super::super::segments;
 use super::super::store::DealFile;
 use super::super::survey::{self, Slot, State};
 use super::house::Housed;
+use super::logged::{Called, Logged};
 use super::{entry_at, path_of, refused, unsound, with_entry};
-use vizhuthamen::{Booking, Entry, Position, Refusal};
+use vizhuthamen::{Booking, Entry, Line, Position, Refusal};
 
 /// Books a segment, or that of a plain file, for a house, and puts the new deal and the new table of owners in the
-/// place of the old ones.
+/// place of the old ones. A log gets a line on it with these, and alone where the segment is not booked.
 pub fn book(given: &ToBook) -> Result<Answer, Failure> {
     let path = path_of(&given.deal)?;
     // The segment first: it may come from a pipe, and nobody is kept waiting for that.
@@ -23,14 +24,16 @@ pub fn book(given: &ToBook) -> Result<Answer, Failure> {
     let mut old = DealFile::open(path, given.access)?;
     old.open_or(given.reopen)?;
     let mut housed = Housed::open(&old, given.house)?;
+    let mut log = Logged::open(given.log.as_deref(), &old)?;
     let progress = Progress::start("booking", old.content.bytes.len());
     let (mut bytes, number) = (old.content.bytes.clone(), housed.house());
-    let booking = match vizhuthamen::book(&mut bytes, None, &mut housed.table.bytes, number, &segment.bytes) {
+    let booked = vizhuthamen::book(&mut bytes, None, &mut housed.table.bytes, number, &segment.bytes);
+    if log.wanted() {
+        log.will_get(&line(number, &segment.bytes, booked), &Called::of(&old, &housed, &bytes))?;
+    }
+    let booking = match booked {
         Ok(booking) => booking,
-        Err(refusal) => {
-            let answer = refused_booking(refusal, &old.content, &segment);
-            return Ok(housed.refused(refusal, answer, &old.content));
-        }
+        Err(refusal) => return not_booked(refusal, &old, &housed, &segment, log),
     };
     let (Booking::Booked(Position { place, .. }) | Booking::AlreadyKept(Position { place, .. })) = booking;
     let entry = entry_at(&bytes, place)?;
@@ -39,13 +42,35 @@ pub fn book(given: &ToBook) -> Result<Answer, Failure> {
             if !given.force {
                 spares(&old.content, &entry, place, "--force books all the same")?;
             }
-            old.replace(&bytes, Some(&housed.table), vec![])?;
+            old.replace_logged(&bytes, Some(&housed.table), vec![], log.file())?;
             Answer::done("done").writing()
         }
-        Booking::AlreadyKept(_) => Answer::refused(Refusal::ALREADY_KEPT),
+        Booking::AlreadyKept(_) => {
+            log.write(&old)?;
+            Answer::refused(Refusal::ALREADY_KEPT)
+        }
     };
     drop(progress);
-    Ok(housed.with_house(with_entry(answer, &entry, place)))
+    Ok(log.told(housed.with_house(with_entry(answer, &entry, place))))
+}
+
+/// The line on a booking, where its code gets one. What is refused before is no segment of the deal, or its house none.
+fn line(house: u8, segment: &[u8], answer: Result<Booking, Refusal>) -> Vec<Line> {
+    let commitment = segments::commitment(segment).ok();
+    commitment.and_then(|node| Line::booking(house, node, segment.len() as u64, answer)).into_iter().collect()
+}
+
+/// The answer where nothing is booked; its line is added.
+fn not_booked(
+    refusal: Refusal,
+    deal: &DealFile,
+    housed: &Housed,
+    segment: &Content,
+    mut log: Logged,
+) -> Result<Answer, Failure> {
+    log.write(deal)?;
+    let answer = housed.refused(refusal, refused_booking(refusal, &deal.content, segment), &deal.content);
+    Ok(log.told(if refusal == Refusal::NO_PLACE { log.ends_with_collection(answer) } else { answer }))
 }
 
 /// A refusal, with a note on what it is about.

@@ -4,27 +4,29 @@ use super::super::args::Packing;
 use super::super::batch::{self, Batch, Item};
 use super::super::below;
 use super::super::failure::{self, Failure};
-use super::super::files::Content;
+use super::super::files::{self, Content};
 use super::super::gather::{self, LeftOut, Skipped};
 use super::super::json::Json;
 use super::super::manifest::{self, Listed, Manifest};
 use super::super::progress::Steps;
 use super::super::store::aside::Fill;
-use super::super::store::names::{near, shown};
+use super::super::store::names::{near, shown, Home};
 use super::super::store::{self, Attributes, DealFile, NewDeal};
 use super::super::survey;
 use super::super::table::{table, Column};
 use super::house::Housed;
+use super::logged::{Called, Logged};
 use super::records::Filled;
 use super::unfit::{self, listed, Unfit};
 use super::{book, fsck, number, path_of, records, refused, text};
 use std::path::Path;
-use vizhuthamen::{Booking, Entry, Node, Position, ReadEntry, Refusal, MAX_DEAL};
+use vizhuthamen::{Booking, Entry, Line, Node, Position, ReadEntry, Refusal, MAX_DEAL};
 
 /// Packs files and folders.
 pub fn pack(packing: &Packing) -> Result<Answer, Failure> {
     let path = path_of(&packing.deal)?;
-    let gathered = gather::gather(&packing.files, &LeftOut::of(path, packing.records.as_deref()))?;
+    let left_out = LeftOut::of(path, packing.records.as_deref(), packing.log.as_deref());
+    let gathered = gather::gather(&packing.files, &left_out)?;
     // The files first: nobody is kept waiting for them.
     let batch = match Batch::read(gathered.files)? {
         Ok(batch) => batch,
@@ -33,9 +35,10 @@ pub fn pack(packing: &Packing) -> Result<Answer, Failure> {
     if batch.is_empty() {
         return Err(failure::usage("there is no file to pack; nothing is done"));
     }
-    let (note, planned) = match path.exists() {
+    let there = path.try_exists().map_err(|error| files::cannot("read", &shown(path), error))?;
+    let (note, planned) = match there {
         true => (None, None),
-        false => match make(path, packing, &batch)? {
+        false => match make(path, packing, &batch, &left_out.home)? {
             Ok(made) => made,
             Err(answer) => return Ok(answer),
         },
@@ -44,6 +47,7 @@ pub fn pack(packing: &Packing) -> Result<Answer, Failure> {
     deal.open_or(packing.reopen)?;
     let number = suits(&mut deal, packing)?;
     let mut housed = Housed::open(&deal, packing.house)?;
+    let mut log = Logged::open(packing.log.as_deref(), &deal)?;
     let plan = match planned.filter(|plan| plan.is_for(&deal.content.bytes, &housed)) {
         Some(plan) => plan,
         None => match Plan::of(&deal.content.bytes, &housed, &batch.items) {
@@ -55,18 +59,20 @@ pub fn pack(packing: &Packing) -> Result<Answer, Failure> {
         return Ok(answer);
     }
     housed.table.bytes.clone_from(&plan.table);
-    let done = Done::write(&deal, &housed, plan, batch, number, packing)?;
-    let answer = done.told(&deal, &housed, &gathered.skipped, packing);
+    log.will_get(&plan.lines(), &Called::of(&deal, &housed, &plan.bytes))?;
+    let done = Done::write(&deal, &housed, plan, batch, number, packing, &mut log)?;
+    let answer = log.told(done.told(&deal, &housed, &gathered.skipped, packing));
     Ok(note.into_iter().fold(answer, Answer::with_note))
 }
 
-/// Makes a deal that holds the files, as `new` does, once they are known to fit. What could not be done beside it and
-/// the plan for it, or the refusal.
+/// Makes a deal that holds the files, as `new` does, once they are known to fit, and the log to be one for it. What could
+/// not be done beside it and the plan for it, or the refusal.
 #[allow(clippy::type_complexity)]
 fn make(
     path: &Path,
     packing: &Packing,
     batch: &Batch,
+    home: &Home,
 ) -> Result<Result<(Option<String>, Option<Plan>), Answer>, Failure> {
     let size = packing.size.or_else(|| batch.smallest_deal()).unwrap_or(MAX_DEAL as u64);
     if size > MAX_DEAL as u64 || vizhuthamen::index_numbers(size).is_err() {
@@ -79,9 +85,13 @@ fn make(
     if let Some(answer) = plan.does_not_fit(batch, &housed, &empty) {
         return Ok(Err(answer));
     }
-    let table = Some(&housed.table.bytes[..]);
+    let table = &housed.table.bytes;
+    let called = Called { deal: &empty, table, new_deal: &plan.bytes, new_table: &plan.table };
+    let log = Logged::open_for(packing.log.as_deref(), home, packing.access.wait);
+    let judged = log.and_then(|mut log| log.will_get(&plan.lines(), &called));
+    let table = Some(&table[..]);
     let new = NewDeal { fill: Fill::Zeros(size), table, manifest: None, number: packing.number };
-    match store::create(path, &new, Attributes::NEW) {
+    match judged.and_then(|()| store::create(path, &new, Attributes::NEW)) {
         Ok(note) => Ok(Ok((note, Some(plan)))),
         // Another process has made it in the meantime.
         Err(_) if path.exists() => Ok(Ok((None, None))),
@@ -163,6 +173,20 @@ impl Plan {
         empty && table.len() == self.table.len() && table.iter().all(|byte| *byte == 0) && self.house == housed.house()
     }
 
+    /// The lines on its bookings, of files that all fit.
+    fn lines(&self) -> Vec<Line> {
+        let booked = self.outcomes.iter().filter_map(|outcome| outcome.as_ref().ok());
+        let line = booked.map(|Booked { new, place, entry }| Line::Booking {
+            house: self.house,
+            commitment: entry.commitment,
+            size: entry.size,
+            code: if *new { 0 } else { Refusal::ALREADY_KEPT.code() as u8 },
+            offset: entry.offset,
+            place: *place,
+        });
+        line.collect()
+    }
+
     /// The refusal of files that do not fit; none where all fit.
     fn does_not_fit(&self, batch: &Batch, housed: &Housed, deal: &Content) -> Option<Answer> {
         let refusals = self.outcomes.iter().map(|outcome| outcome.as_ref().err().copied());
@@ -186,7 +210,8 @@ struct Done {
 }
 
 impl Done {
-    /// Puts the deal, the table of its owners and its manifest in place together, and writes records.
+    /// Puts the deal, the table of its owners and its manifest in place together, with the lines of the log, and writes
+    /// records.
     fn write(
         deal: &DealFile,
         housed: &Housed,
@@ -194,6 +219,7 @@ impl Done {
         batch: Batch,
         number: Option<u64>,
         packing: &Packing,
+        log: &mut Logged,
     ) -> Result<Done, Failure> {
         let old = manifest::read(deal.path())?;
         let renewed = old.clone().unwrap_or_default().renewed(&plan.bytes).map_err(failure::data)?;
@@ -219,8 +245,10 @@ impl Done {
         };
         below::judge(&built.outputs, packing.force)?;
         let changed = files.iter().any(|(new, _)| *new) || old.as_ref() != Some(&manifest) || deal.changes();
-        if changed {
-            deal.replace(&plan.bytes, Some(&housed.table), vec![deal.manifest(&manifest.text())?])?;
+        let text = manifest.text();
+        match changed {
+            true => deal.replace_logged(&plan.bytes, Some(&housed.table), vec![deal.manifest(&text)?], log.file())?,
+            false => log.write(deal)?,
         }
         below::write(&built.outputs, packing.force).map_err(|failure| written_but(failure, deal))?;
         let told = renewed.told.iter().map(|told| format!("the manifest: {told}"));

@@ -1,18 +1,18 @@
-//! Files put in their places: one by a rename, several together or not at all.
+//! Files put in their places: one by a rename, several together or not at all, and with them lines added to a log.
 use super::aside::{self, Aside, Fill};
 use super::attributes::{Attributes, Keep};
+use super::journal::Journal;
+use super::log::{self, LogFile};
 use super::names::{near, shown, Home, MOST_PARTS};
 use super::signals::Held;
 use super::system;
+use crate::cli::failure::{self, Failure};
 use std::ffi::OsStr;
 use std::fs::{self, File};
-use std::io::{self, ErrorKind};
+use std::io::{self, ErrorKind, Read};
 use std::os::unix::ffi::OsStrExt;
+use std::os::unix::fs::MetadataExt;
 use std::path::{Path, PathBuf};
-use vizhuthamen::hex;
-
-/// The first line of a journal.
-const JOURNAL: &str = "vizhuthamen journal 1";
 
 /// One file of a change: where it goes, its bytes, and the file whose owner and permissions it takes over.
 pub struct Part<'a> {
@@ -33,6 +33,16 @@ pub enum Trouble {
 /// Puts files in their places; they are all in the folder of the home, whose names are used in between. `still` is asked last of all
 /// before the change, and can stop it. The caller holds the lock of the deal, or the change is one file.
 pub fn put(home: &Home, parts: &[Part], still: impl Fn() -> Result<(), String>) -> Result<(), Trouble> {
+    put_logged(home, parts, None, still)
+}
+
+/// The same, and with them adds lines to a log: all of it or nothing.
+pub fn put_logged(
+    home: &Home,
+    parts: &[Part],
+    log: Option<&mut LogFile>,
+    still: impl Fn() -> Result<(), String>,
+) -> Result<(), Trouble> {
     assert!(parts.len() <= MOST_PARTS);
     // Dropped after the files aside: a signal acts when their names are gone.
     let held = Held::start();
@@ -45,95 +55,111 @@ pub fn put(home: &Home, parts: &[Part], still: impl Fn() -> Result<(), String>) 
     for aside in &mut asides {
         aside.give_name(&held).map_err(Trouble::Nothing)?;
     }
-    match (asides.as_mut_slice(), parts) {
-        ([aside], [part]) => {
+    match (asides.as_mut_slice(), parts, log) {
+        ([aside], [part], None) => {
             still().and_then(|()| aside.rename(&part.target)).map_err(Trouble::Nothing)?;
             flush(&home.folder).map_err(|error| Trouble::Made(not_flushed(&home.folder, &error)))
         }
-        _ => put_together(home, parts, &mut asides, still, &held),
+        (asides, _, log) => Together { home, parts, asides, log }.put(still, &held),
     }
 }
 
-/// Puts several files in their places, with a journal from before the first rename to after the last.
-fn put_together(
-    home: &Home,
-    parts: &[Part],
-    asides: &mut [Aside],
-    still: impl Fn() -> Result<(), String>,
-    held: &Held,
-) -> Result<(), Trouble> {
-    let nothing = |error: io::Error| Trouble::Nothing(not_flushed(&home.folder, &error));
-    let text = journal(parts);
-    let mut journal = Aside::write(home, MOST_PARTS, Fill::Bytes(text.as_bytes()), Attributes::NEW, held)
-        .map_err(Trouble::Nothing)?;
-    flush(&home.folder).map_err(nothing)?;
-    still().map_err(Trouble::Nothing)?;
-    // With the journal in place the change is made, whoever ends it; before the first rename it can still be taken back.
-    if !journal.make(&home.journal(), held).map_err(Trouble::Nothing)? {
-        return Err(Trouble::Nothing(format!("{} is in the way", near(home.journal()))));
-    }
-    let flushed = flush(&home.folder).map_err(|error| not_flushed(&home.folder, &error));
-    flushed.and_then(|()| asides[0].rename(&parts[0].target)).map_err(|why| {
-        match system::repeat(|| fs::remove_file(home.journal())) {
-            Ok(()) => {
-                let _ = flush(&home.folder);
-                Trouble::Nothing(why)
-            }
-            Err(_) => left_to_the_next(&why, asides),
+/// Several files that are put in their places, and lines that are added to a log, with a journal from before the first of
+/// it to after the last.
+struct Together<'c, 'a> {
+    home: &'c Home,
+    parts: &'c [Part<'a>],
+    asides: &'c mut [Aside<'a>],
+    log: Option<&'c mut LogFile>,
+}
+
+impl Together<'_, '_> {
+    fn put(mut self, still: impl Fn() -> Result<(), String>, held: &Held) -> Result<(), Trouble> {
+        let folder = &self.home.folder;
+        let not_flushed = |error: io::Error| not_flushed(folder, &error);
+        let journal = Journal::of(self.home, self.parts, self.log.as_deref());
+        let text = journal.text();
+        let mut aside = Aside::write(self.home, MOST_PARTS, Fill::Bytes(text.as_bytes()), Attributes::NEW, held)
+            .map_err(Trouble::Nothing)?;
+        flush(folder).map_err(not_flushed).map_err(Trouble::Nothing)?;
+        let unchanged = || self.log.as_ref().map_or(Ok(()), |log| log.unchanged());
+        still().and_then(|()| unchanged()).map_err(Trouble::Nothing)?;
+        // With the journal in place the change is made, whoever ends it; before the first rename it can still be taken back.
+        if !aside.make(&self.home.journal(), held).map_err(Trouble::Nothing)? {
+            return Err(Trouble::Nothing(format!("{} is in the way", near(self.home.journal()))));
         }
-    })?;
-    let ended = end(home);
-    ended.map(drop).map_err(|why| left_to_the_next(&why, asides))?;
-    asides.iter_mut().for_each(Aside::leave);
-    Ok(())
+        let begun = flush(folder).map_err(not_flushed).and_then(|()| self.begin());
+        begun.map_err(|why| self.taken_back(&why))?;
+        let ended = renamed(self.home, &journal).and_then(|()| closed(self.home));
+        ended.map_err(|error| self.left_to_the_next(&unfinished(self.home, &error)))?;
+        self.asides.iter_mut().for_each(Aside::leave);
+        Ok(())
+    }
+
+    /// Adds the lines to the log, which may need room on a disk, and puts the first file in its place.
+    fn begin(&mut self) -> Result<(), String> {
+        self.log.as_mut().map_or(Ok(()), |log| log.add())?;
+        self.asides.first_mut().map_or(Ok(()), |aside| aside.rename(&self.parts[0].target))
+    }
+
+    /// Takes back what was begun, and the journal last.
+    fn taken_back(&mut self, why: &str) -> Trouble {
+        let log = self.log.as_mut().map_or(Ok(()), |log| log.take_back());
+        match log.and_then(|()| system::repeat(|| fs::remove_file(self.home.journal()))) {
+            Ok(()) => {
+                let _ = flush(&self.home.folder);
+                Trouble::Nothing(why.to_string())
+            }
+            Err(_) => self.left_to_the_next(why),
+        }
+    }
+
+    /// The names of the files stay, since the journal names them.
+    fn left_to_the_next(&mut self, why: &str) -> Trouble {
+        self.asides.iter_mut().for_each(Aside::leave);
+        Trouble::Made(format!("{why}; the next call on it ends the change"))
+    }
 }
 
-/// The names of the files stay, since the journal names them.
-fn left_to_the_next(why: &str, asides: &mut [Aside]) -> Trouble {
-    asides.iter_mut().for_each(Aside::leave);
-    Trouble::Made(format!("{why}; the next call on it ends the change"))
-}
-
-/// The text of a journal: the number and the target's name, in hex, of each part.
-fn journal(parts: &[Part]) -> String {
-    let name = |part: &Part| hex::encode(part.target.file_name().unwrap_or_default().as_bytes());
-    let lines = parts.iter().enumerate().map(|(number, part)| format!("{number} {}\n", name(part)));
-    format!("{JOURNAL}\n{}", lines.collect::<String>())
-}
-
-/// The parts of a journal: numbers and names in the folder. None where it is no journal.
-fn parse(text: &[u8]) -> Option<Vec<(usize, Vec<u8>)>> {
-    let mut lines = std::str::from_utf8(text).ok()?.lines();
-    (lines.next()? == JOURNAL).then_some(())?;
-    lines
-        .map(|line| {
-            let (number, name) = line.split_once(' ')?;
-            let (number, name) = (number.parse().ok()?, hex::decode(name)?);
-            let plain = number < MOST_PARTS && !name.is_empty() && !name.contains(&b'/') && !name.contains(&0);
-            plain.then_some((number, name))
-        })
-        .collect()
-}
-
-/// Ends a change whose journal is in place. Says whether there was one. The caller holds the lock of the deal.
-pub fn end(home: &Home) -> Result<bool, String> {
+/// Ends a change whose journal is in place. Says whether there was one. The caller holds the lock of the deal; that of a
+/// log is waited for unless that is not wanted.
+pub fn end(home: &Home, wait: bool) -> Result<bool, Failure> {
     let path = home.journal();
-    let failed = |error: io::Error| format!("an unfinished change of it cannot be ended ({}): {error}", near(&path));
-    let text = match fs::read(&path) {
+    let failed = |error: io::Error| failure::io(unfinished(home, &error));
+    let (mut text, mut file) = match File::open(&path) {
         Err(error) if error.kind() == ErrorKind::NotFound => return Ok(false),
-        text => text.map_err(failed)?,
+        file => (vec![], file.map_err(failed)?),
     };
-    let parts = parse(&text).ok_or_else(|| format!("{} is no journal of this program", near(&path)))?;
-    for (number, name) in parts {
-        let target = home.folder.join(OsStr::from_bytes(&name));
-        match system::repeat(|| fs::rename(home.part(number), &target)) {
-            Err(error) if error.kind() != ErrorKind::NotFound => return Err(failed(error)),
+    file.read_to_end(&mut text).map_err(failed)?;
+    let writer = file.metadata().map_err(failed)?.uid();
+    let journal =
+        Journal::parse(&text).ok_or_else(|| failure::io(format!("{} is no journal of this program", near(&path))))?;
+    if let Some(growth) = &journal.log {
+        log::end(growth, home, writer, wait)?;
+    }
+    renamed(home, &journal).and_then(|()| closed(home)).map_err(failed).map(|()| true)
+}
+
+/// Puts the files of a journal in their places, those that are not there yet.
+fn renamed(home: &Home, journal: &Journal) -> io::Result<()> {
+    for (number, name) in &journal.parts {
+        let target = home.folder.join(OsStr::from_bytes(name));
+        match system::repeat(|| fs::rename(home.part(*number), &target)) {
+            Err(error) if error.kind() != ErrorKind::NotFound => return Err(error),
             _ => {}
         }
     }
-    flush(&home.folder).map_err(failed)?;
-    system::repeat(|| fs::remove_file(&path)).map_err(failed)?;
-    flush(&home.folder).map_err(failed).map(|()| true)
+    flush(&home.folder)
+}
+
+/// Removes the journal of a change that has ended.
+fn closed(home: &Home) -> io::Result<()> {
+    system::repeat(|| fs::remove_file(home.journal()))?;
+    flush(&home.folder)
+}
+
+fn unfinished(home: &Home, error: &io::Error) -> String {
+    format!("an unfinished change of it cannot be ended ({}): {error}", near(home.journal()))
 }
 
 /// Removes what dead processes have left beside a deal. The caller holds its lock, and has ended what a journal says.
@@ -158,27 +184,4 @@ pub fn flush(folder: &Path) -> io::Result<()> {
 
 fn not_flushed(folder: &Path, error: &io::Error) -> String {
     format!("the folder {} could not be flushed to the disk: {error}", shown(folder))
-}
-
-#[cfg(test)]
-mod tests {
-    use super::*;
-
-    #[test]
-    fn a_journal_reads_back() {
-        let part = |name: &[u8]| Part { target: Path::new("a").join(OsStr::from_bytes(name)), bytes: &[], keep: None };
-        let text = journal(&[part(b"deal"), part(b"a\nb\xff")]);
-        assert_eq!(text, "vizhuthamen journal 1\n0 6465616c\n1 610a62ff\n");
-        assert_eq!(parse(text.as_bytes()), Some(vec![(0, b"deal".to_vec()), (1, b"a\nb\xff".to_vec())]));
-    }
-
-    #[test]
-    fn other_texts_are_no_journals() {
-        for line in ["", "0", "0 ", "0 2f", "0 612f62", "0 6100", "9 61", "-1 61", "0 6"] {
-            assert_eq!(parse(format!("{JOURNAL}\n{line}\n").as_bytes()), None, "{line}");
-        }
-        for text in [&b""[..], b"\xff", b"vizhuthamen journal 2\n0 61\n"] {
-            assert_eq!(parse(text), None);
-        }
-    }
 }

@@ -3,6 +3,7 @@ use super::aside::{is_there, leads_to};
 use super::attributes::Keep;
 use super::change::{self, Part, Trouble};
 use super::lock::{self, Share};
+use super::log::LogFile;
 use super::names::{near, shown, Home};
 use super::owners::{with_one_name, NewTable, OwnerTable};
 use super::sidecar::{self, Known};
@@ -92,7 +93,8 @@ impl DealFile {
             drop(file);
             return DealFile::try_lock(given, access, Share::Nobody).map(|_| None);
         }
-        if writes && change::end(&home).map_err(|error| failure::io(format!("{name}: {error}")))? {
+        let named = |failure: Failure| Failure { message: format!("{name}: {}", failure.message), ..failure };
+        if writes && change::end(&home, access.wait).map_err(named)? {
             return Ok(None);
         }
         let content = files::read_open(&file, name)?;
@@ -116,6 +118,17 @@ impl DealFile {
     /// owners and with other files beside it: all of them or none. What is known of the deal is put beside it where
     /// nothing is.
     pub fn replace(&self, bytes: &[u8], table: Option<&NewTable>, others: Vec<Part>) -> Result<(), Failure> {
+        self.replace_logged(bytes, table, others, None)
+    }
+
+    /// The same together with the lines that a log gets.
+    pub fn replace_logged(
+        &self,
+        bytes: &[u8],
+        table: Option<&NewTable>,
+        others: Vec<Part>,
+        log: Option<&mut LogFile>,
+    ) -> Result<(), Failure> {
         let keep = Keep { old: &self.file, new_owner: self.access.new_owner };
         let mut parts = vec![Part { target: self.path.clone(), bytes, keep: Some(keep) }];
         let replaced = table.map(NewTable::replaced).transpose()?.flatten();
@@ -126,7 +139,18 @@ impl DealFile {
         }
         parts.extend(others);
         let still = || self.unchanged().and_then(|()| table.map_or(Ok(()), |table| table.unchanged(&self.home)));
-        change::put(&self.home, &parts, still).map_err(|trouble| troubled(trouble, &self.content.name))
+        change::put_logged(&self.home, &parts, log, still).map_err(|trouble| troubled(trouble, &self.content.name))
+    }
+
+    /// Adds lines to a log, for a call that changes nothing of the deal.
+    pub fn log(&self, log: &mut LogFile) -> Result<(), Failure> {
+        let (deal, name) = (&self.content.name, log.name.clone());
+        change::put_logged(&self.home, &[], Some(log), || self.unchanged()).map_err(|trouble| {
+            failure::io(match trouble {
+                Trouble::Nothing(why) => format!("{deal}: {why}; nothing is changed"),
+                Trouble::Made(why) => format!("{deal}: {name} has the line, but {why}"),
+            })
+        })
     }
 
     /// Puts a table of owners beside the deal, which stays.
@@ -249,6 +273,11 @@ impl DealFile {
     /// Where the deal lies.
     pub fn path(&self) -> &Path {
         &self.path
+    }
+
+    /// How it was opened.
+    pub fn access(&self) -> Access {
+        self.access
     }
 
     /// The names beside the deal.

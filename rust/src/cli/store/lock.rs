@@ -60,7 +60,8 @@ pub fn try_take(file: &File, share: Share) -> std::io::Result<bool> {
     }
 }
 
-fn wait_for(file: &File, share: Share) -> std::io::Result<()> {
+/// Locks a file, however long others hold it.
+pub fn wait_for(file: &File, share: Share) -> std::io::Result<()> {
     super::system::repeat(|| match share {
         Share::Readers => file.lock_shared(),
         Share::Nobody => file.lock(),

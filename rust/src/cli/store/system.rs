@@ -54,6 +54,7 @@ extern "C" {
     fn sigaction(signal: c_int, new: *const Action, old: *mut Action) -> c_int;
     fn sigpending(set: *mut Signals) -> c_int;
     fn pthread_sigmask(how: c_int, new: *const Signals, old: *mut Signals) -> c_int;
+    fn geteuid() -> c_uint;
 }
 
 /// Repeats a call that a signal has interrupted.
@@ -75,6 +76,12 @@ fn done(result: c_int) -> io::Result<()> {
         0 => Ok(()),
         _ => Err(io::Error::last_os_error()),
     }
+}
+
+/// The user on whose behalf the process works.
+pub fn user() -> u32 {
+    // SAFETY: asks for a number, and always succeeds.
+    unsafe { geteuid() }
 }
 
 /// A new file of a folder that has no name; it vanishes with its last user unless it gets one.

@@ -1,0 +1,10 @@
+pub mod Filled
+pub mod Read
+pub mod OwnedRows
+pub mod Gathered
+pub mod Parts
+pub mod RowsWritten
+pub mod CancelCode
+pub mod DecidedLine
+pub mod PlayedLine
+pub mod PlayedLog

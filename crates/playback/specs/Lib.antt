@@ -1,0 +1,5 @@
+pub mod Ledger
+pub mod Playback
+pub mod Steps
+pub mod RowBytes
+pub mod LedgerLaws
