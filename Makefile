@@ -1,15 +1,18 @@
 # The command line and the libraries for programs in other languages, and their installation.
 #
-#   make                                    target/lib: the static and the shared library, and the WebAssembly modules; target/cli: the
-#                                           command line with its man page and completions; target/page: the page that checks proofs.
-#                                           Where the proved archive is not there yet, tools/levels makes it (the Rattle kit, gcc and
-#                                           binutils are needed)
-#   make install [PREFIX=DIR] [DESTDIR=DIR] all of these, header, pkg-config file, Python package and JavaScript package, below PREFIX
-#                                           (/usr/local); what is written goes below DESTDIR, and names no DESTDIR in it
+#   make                                    target/lib: the static and the shared library, and the WebAssembly modules;
+#                                           target/cli: the command line with its man page and completions;
+#                                           target/page: the page that checks proofs. Where the proved archive is not
+#                                           there yet, tools/levels makes it (the Rattle kit, gcc and binutils are
+#                                           needed)
+#   make install [PREFIX=DIR] [DESTDIR=DIR] all of these, header, pkg-config file, Python package and JavaScript
+#                                           package, below PREFIX (/usr/local); what is written goes below DESTDIR, and
+#                                           names no DESTDIR in it
 #
-# BINDIR, MANDIR, BASHDIR, ZSHDIR, FISHDIR, INCLUDEDIR, LIBDIR, PYTHONDIR, JAVASCRIPTDIR and PAGEDIR name other folders than PREFIX gives.
-# Without cargo there is no command line; without python3 there is no PYTHONDIR, and no package is written; without wasm-opt (Debian's
-# package binaryen) there are no WebAssembly modules and no JavaScript package; without either of these two there is no page.
+# BINDIR, MANDIR, BASHDIR, ZSHDIR, FISHDIR, INCLUDEDIR, LIBDIR, PYTHONDIR, JAVASCRIPTDIR and PAGEDIR name other folders
+# than PREFIX gives. Without cargo there is no command line; without python3 there is no PYTHONDIR, and no package is
+# written; without wasm-opt (Debian's package binaryen) there are no WebAssembly modules and no JavaScript package;
+# without either of these two there is no page.
 PREFIX = /usr/local
 BINDIR = $(PREFIX)/bin
 MANDIR = $(PREFIX)/share/man
@@ -18,7 +21,8 @@ ZSHDIR = $(PREFIX)/share/zsh/site-functions
 FISHDIR = $(PREFIX)/share/fish/vendor_completions.d
 INCLUDEDIR = $(PREFIX)/include
 LIBDIR = $(PREFIX)/lib
-PYTHONDIR = $(shell python3 -c 'import sysconfig as s; print(s.get_path("purelib", "posix_prefix", {"base": "$(PREFIX)"}))')
+PYTHONDIR = $(shell python3 -c \
+    'import sysconfig as s; print(s.get_path("purelib", "posix_prefix", {"base": "$(PREFIX)"}))')
 JAVASCRIPTDIR = $(PREFIX)/share/javascript/vizhuthamen
 PAGEDIR = $(PREFIX)/share/vizhuthamen
 
@@ -44,7 +48,8 @@ texts = $(addprefix $(cli)/,vizhuthamen.1 vizhuthamen.bash vizhuthamen.zsh vizhu
 .PHONY: all install
 .DELETE_ON_ERROR:
 
-all: $(out)/libvizhuthamen.a $(out)/$(shared) $(if $(CARGO),$(program) $(texts)) $(if $(WASM_OPT),$(wasm:%=$(out)/%)) $(page)
+all: $(out)/libvizhuthamen.a $(out)/$(shared) $(if $(CARGO),$(program) $(texts)) \
+    $(if $(WASM_OPT),$(wasm:%=$(out)/%)) $(page)
 	@$(if $(WASM_OPT),,echo "make: no WebAssembly modules: wasm-opt is not there (Debian's package binaryen)")
 
 $(proved): $(shell find crates -name '*.rt')
@@ -99,8 +104,8 @@ install: all
 	install -m 755 $(out)/$(shared) '$(DESTDIR)$(LIBDIR)'
 	ln -sf $(shared) '$(DESTDIR)$(LIBDIR)/$(soname)'
 	ln -sf $(soname) '$(DESTDIR)$(LIBDIR)/$(plain)'
-	sed -e 's|@PREFIX@|$(PREFIX)|' -e 's|@INCLUDEDIR@|$(INCLUDEDIR)|' -e 's|@LIBDIR@|$(LIBDIR)|' -e 's|@VERSION@|$(version)|' \
-	    c/vizhuthamen.pc.in > '$(DESTDIR)$(LIBDIR)/pkgconfig/vizhuthamen.pc'
+	sed -e 's|@PREFIX@|$(PREFIX)|' -e 's|@INCLUDEDIR@|$(INCLUDEDIR)|' -e 's|@LIBDIR@|$(LIBDIR)|' \
+	    -e 's|@VERSION@|$(version)|' c/vizhuthamen.pc.in > '$(DESTDIR)$(LIBDIR)/pkgconfig/vizhuthamen.pc'
 	[ -z '$(CARGO)' ] || { install -D -m 755 $(program) '$(DESTDIR)$(BINDIR)/vizhuthamen' && \
 	    install -D -m 644 $(cli)/vizhuthamen.1 '$(DESTDIR)$(MANDIR)/man1/vizhuthamen.1' && \
 	    install -D -m 644 $(cli)/vizhuthamen.bash '$(DESTDIR)$(BASHDIR)/vizhuthamen' && \

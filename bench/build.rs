@@ -1,5 +1,5 @@
-//! Links the peers: OpenSSL's libcrypto, nettle, libgcrypt, intel-ipsec-mb with the archive that bench/run builds from c/ipsec_mb.c
-//! and, with the feature `go`, the one that it builds from go/peer.go.
+//! Links the peers: OpenSSL's libcrypto, nettle, libgcrypt, intel-ipsec-mb with the archive that bench/run builds from
+//! c/ipsec_mb.c and, with the feature `go`, the one that it builds from go/peer.go.
 use std::env;
 use std::path::PathBuf;
 

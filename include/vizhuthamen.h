@@ -253,10 +253,10 @@ uint32_t vz_settle_with_deal(const uint8_t *deal, size_t deal_len, uint64_t numb
 uint32_t vz_tree_fill(const uint8_t *deal, size_t deal_len, uint8_t *tree, size_t tree_len);
 
 /* Writes the nodes over the pairs of nodes of below into above: node i is the node hash of the 64 bytes at 64 i. So a
- * tree can be filled in parts, each row, or any part of a row, from the nodes below it, by several threads at once where
- * the parts do not overlap: once every inner node is written from its children as they then stand, the tree is the one
- * that vz_tree_fill writes. Stray bits are not looked for. Codes: 12 where below is no whole number of pairs, or above
- * not half as long. */
+ * tree can be filled in parts, each row, or any part of a row, from the nodes below it, by several threads at once
+ * where the parts do not overlap: once every inner node is written from its children as they then stand, the tree is
+ * the one that vz_tree_fill writes. Stray bits are not looked for. Codes: 12 where below is no whole number of pairs,
+ * or above not half as long. */
 uint32_t vz_tree_row(const uint8_t *below, size_t below_len, uint8_t *above, size_t above_len);
 
 /* vz_book with the tree in hand. An entry is kept where its commitment is the node over its area in the tree. With 0

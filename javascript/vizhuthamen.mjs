@@ -4,27 +4,29 @@
 //
 //     const vz = await load();
 //     const deal = new Uint8Array(512), table = new Uint8Array(tableLength(512));
-//     const house = 1; // of two, 1 and 2, that book in one deal; the table, beside the deal, says whose entry a slot holds
+//     // of two, 1 and 2, that book in one deal; the table, beside the deal, says whose entry a slot holds
+//     const house = 1;
 //     const booked = vz.book(deal, table, house, new Uint8Array(128).fill(1));
 //     const number = 2026n; // the deal's, which its bytes do not hold
 //     const record = vz.build(deal, number, booked.position.place);
 //     vz.check(vz.commitment(deal), 512, number, record);
 //
-// Every function of what `load` gives is a call of one function of the module, or of one of two where a tree may be in hand; the names
-// are those of the Rust crate. A refusal is thrown, as a Refusal, which has the code and its meaning in words. The answers with a code
-// that is not 0 and yet carry values (15 of a booking, 17 of a settling) are the kinds "alreadyKept" and "collision"; a log that is played
-// back is "confirmed", or has a "wrongLine".
+// Every function of what `load` gives is a call of one function of the module, or of one of two where a tree may be in
+// hand; the names are those of the Rust crate. A refusal is thrown, as a Refusal, which has the code and its meaning in
+// words. The answers with a code that is not 0 and yet carry values (15 of a booking, 17 of a settling) are the kinds
+// "alreadyKept" and "collision"; a log that is played back is "confirmed", or has a "wrongLine".
 //
-// Bytes are Uint8Arrays. What is written, a deal that is booked into among it, is changed in place, and with a refusal stays as it was;
-// it must not overlap another argument (RangeError). Any other kind of memory is a TypeError.
+// Bytes are Uint8Arrays. What is written, a deal that is booked into among it, is changed in place, and with a refusal
+// stays as it was; it must not overlap another argument (RangeError). Any other kind of memory is a TypeError.
 //
-// A number that goes in is a number or a BigInt, exact or refused (RangeError): deal numbers have 64 bits, and a number is exact up to
-// 2^53 - 1 alone. A number that comes out is a number where the library bounds it (2^36 at most: sizes, offsets and places of what was
-// booked or found, lengths, counts), and a BigInt where it may be any of 64 bits: offset and size that an entry's bytes say, and size,
-// offset and place that a line of a log says.
+// A number that goes in is a number or a BigInt, exact or refused (RangeError): deal numbers have 64 bits, and a number
+// is exact up to 2^53 - 1 alone. A number that comes out is a number where the library bounds it (2^36 at most: sizes,
+// offsets and places of what was booked or found, lengths, counts), and a BigInt where it may be any of 64 bits: offset
+// and size that an entry's bytes say, and size, offset and place that a line of a log says.
 //
-// Each call copies what it is lent into the module's memory, and what was written back; nothing is kept there from call to call. That
-// memory grows to what the largest call needs, some 16 MiB for each deal or tree lent, and is given back with the object.
+// Each call copies what it is lent into the module's memory, and what was written back; nothing is kept there from call
+// to call. That memory grows to what the largest call needs, some 16 MiB for each deal or tree lent, and is given back
+// with the object.
 //
 // Anyone may use, copy, change and pass on this file, without conditions (0BSD).
 
@@ -88,8 +90,8 @@ const CODES = [
   [24, "SEGMENT_LENGTH", "the segment has another length than the raw length gives"],
 ];
 
-// The functions of vizhuthamen.h: `in` and `out` are memory that is read, and that is written, a pointer and a length each; u8 and u64
-// are numbers; u32* and u64* are numbers that are written.
+// The functions of vizhuthamen.h: `in` and `out` are memory that is read, and that is written, a pointer and a length
+// each; u8 and u64 are numbers; u32* and u64* are numbers that are written.
 const FUNCTIONS = {
   vz_sha256: "in out",
   vz_commitment: "in out",
@@ -177,7 +179,9 @@ function memory(value) {
 }
 
 function shown(value) {
-  return value === null ? "null" : typeof value === "object" ? `a ${value.constructor?.name ?? "bare object"}` : typeof value;
+  return value === null
+    ? "null"
+    : typeof value === "object" ? `a ${value.constructor?.name ?? "bare object"}` : typeof value;
 }
 
 // What is written overlaps no other argument.
@@ -198,8 +202,8 @@ function meet(a, b) {
 const PAGE = 65536;
 const ALIGNMENT = 16;
 
-// An instance of the module, and the memory after what is its own. What one call is lent lies there side by side; the next call
-// begins anew, with the whole stack, even where the engine has broken off a call.
+// An instance of the module, and the memory after what is its own. What one call is lent lies there side by side; the
+// next call begins anew, with the whole stack, even where the engine has broken off a call.
 class Library {
   #exports;
   #start;
@@ -208,12 +212,15 @@ class Library {
   constructor(instance) {
     this.#exports = instance.exports;
     const other = Object.keys(FUNCTIONS).filter((name) => typeof this.#exports[name] !== "function");
-    if (other.length > 0) throw new TypeError(`the module is not that of version ${VERSION}: it has no ${other.join(", ")}`);
+    if (other.length > 0) {
+      throw new TypeError(`the module is not that of version ${VERSION}: it has no ${other.join(", ")}`);
+    }
     this.#start = Number(this.#exports.__heap_base.value);
     this.#stack = this.#exports.__stack_pointer.value;
   }
 
-  // Calls a function with one argument for each kind of FUNCTIONS but the numbers that are written: the code, and those.
+  // Calls a function with one argument for each kind of FUNCTIONS but the numbers that are written: the code, and
+  // those.
   call(name, ...given) {
     const { words, lent, numbers, end } = this.#lend(FUNCTIONS[name].split(" "), given);
     judge(lent);
@@ -314,7 +321,8 @@ export function tableLength(size) {
 }
 
 /** The states of a slot in an audit, in words, by their numbers. Where two apply, the lower one is given. */
-export const SLOT_STATES = Object.freeze(["blank", "damaged", "not standing", "overlapping", "wrong commitment", "kept"]);
+export const SLOT_STATES = Object.freeze(
+  ["blank", "damaged", "not standing", "overlapping", "wrong commitment", "kept"]);
 
 function audits(library) {
   const auditInto = (deal, states) => accepted(library.call("vz_audit", deal, states)[0]);
@@ -346,7 +354,10 @@ function deals(library) {
         ? library.call("vz_book", deal, table, house, segment)
         : library.call("vz_book_with_tree", deal, tree, table, house, segment);
       if (code !== Refusal.ALREADY_KEPT) accepted(code);
-      return { kind: code === 0 ? "booked" : "alreadyKept", position: { offset: Number(offset), place: Number(place) } };
+      return {
+        kind: code === 0 ? "booked" : "alreadyKept",
+        position: { offset: Number(offset), place: Number(place) },
+      };
     },
     cancel(deal, table, house, place, { tree } = {}) {
       const [code] = tree === undefined
@@ -371,18 +382,24 @@ const LINES = {
   cancelling: { tag: 2, length: CANCELLING_LINE, codes: [0, 16] },
 };
 
-const codeOf = (answer) => (answer instanceof Refusal ? answer.code : answer?.kind === "alreadyKept" ? Refusal.ALREADY_KEPT : 0);
+const codeOf = (answer) => (answer instanceof Refusal
+  ? answer.code
+  : answer?.kind === "alreadyKept" ? Refusal.ALREADY_KEPT : 0);
 
 /** Lines of a log: what a call gets, and the bytes of it. */
 export const line = Object.freeze({
   booking(house, commitment, size, answer) {
     const position = answer instanceof Refusal ? { offset: 0, place: 0 } : answer.position, code = codeOf(answer);
     const answers = { code, offset: word(position.offset, 64), place: word(position.place, 64) };
-    return LINES.booking.codes.includes(code) ? { kind: "booking", house, commitment, size: word(size, 64), ...answers } : undefined;
+    return LINES.booking.codes.includes(code)
+      ? { kind: "booking", house, commitment, size: word(size, 64), ...answers }
+      : undefined;
   },
   cancelling(house, place, refusal) {
     const code = codeOf(refusal);
-    return LINES.cancelling.codes.includes(code) ? { kind: "cancelling", house, place: word(place, 64), code } : undefined;
+    return LINES.cancelling.codes.includes(code)
+      ? { kind: "cancelling", house, place: word(place, 64), code }
+      : undefined;
   },
   encode(made) {
     const { tag, length } = LINES[made.kind], bytes = new Uint8Array(length), view = new DataView(bytes.buffer);
@@ -402,7 +419,8 @@ export const line = Object.freeze({
   },
 });
 
-/** Where a log is malformed, and why: the number of the line, from 1, the byte at which it starts, and what is wrong with it, in words. */
+/** Where a log is malformed, and why: the number of the line, from 1, the byte at which it starts, and what is wrong
+ * with it, in words. */
 export class Malformed extends Error {
   constructor(line, at, fault) {
     super(`line ${line}, at byte ${at}: ${fault}`);
@@ -433,14 +451,17 @@ function formFault(kind, bytes) {
 // What keeps a line from standing in the log of a deal of that size.
 function lineFault(size, { kind, house, size: segment, code }) {
   if (house !== 1 && house !== 2) return `house ${house} is neither 1 nor 2`;
-  if (kind === "booking" && (segment < 1n || segment > size / 2n)) return `segment size ${segment} is not allowed for the deal's`;
+  if (kind === "booking" && (segment < 1n || segment > size / 2n)) {
+    return `segment size ${segment} is not allowed for the deal's`;
+  }
   return LINES[kind].codes.includes(code) ? undefined : `code ${code} is none that gets a line`;
 }
 
 function* readLines(size, log) {
   for (let at = 0, number = 1; at < log.length; number++) {
     const rest = log.subarray(at), kind = Object.keys(LINES).find((each) => LINES[each].tag === rest[0]);
-    const fault = formFault(kind, rest), read = fault === undefined ? readLine(kind, rest.subarray(0, LINES[kind].length)) : undefined;
+    const fault = formFault(kind, rest);
+    const read = fault === undefined ? readLine(kind, rest.subarray(0, LINES[kind].length)) : undefined;
     const wrong = fault ?? lineFault(size, read);
     if (wrong !== undefined) throw new Malformed(number, at, wrong);
     yield read;
@@ -448,14 +469,16 @@ function* readLines(size, log) {
   }
 }
 
-/** The lines of a log for a deal of that size, in turn; Malformed is thrown at the first place where it is malformed. */
+/** The lines of a log for a deal of that size, in turn; Malformed is thrown at the first place where it is
+ * malformed. */
 export function lines(size, log) {
   return readLines(word(size, 64), memory(log));
 }
 
 function playbacks(library) {
   const row = (bytes) => {
-    const view = new DataView(bytes.buffer, bytes.byteOffset, ROW), number = (at) => Number(view.getBigUint64(at, true));
+    const view = new DataView(bytes.buffer, bytes.byteOffset, ROW);
+    const number = (at) => Number(view.getBigUint64(at, true));
     return { house: bytes[0], commitment: bytes.slice(1, 33), size: number(33), offset: number(41), place: number(49) };
   };
   return {
@@ -463,7 +486,11 @@ function playbacks(library) {
       const rows = new Uint8Array(ROWS);
       const [answer, line, code, offset, place, count] = library.call("vz_playback", size, log, rows);
       if (answer === WRONG_LINE) {
-        return { kind: "wrongLine", line: Number(line), ruling: { code, offset: Number(offset), place: Number(place) } };
+        return {
+          kind: "wrongLine",
+          line: Number(line),
+          ruling: { code, offset: Number(offset), place: Number(place) },
+        };
       }
       accepted(answer);
       const starts = Array.from({ length: Number(count) }, (_, i) => ROW * i);
@@ -515,7 +542,8 @@ function records(library) {
       const record = new Uint8Array(MAX_RECORD);
       return record.slice(0, buildInto(deal, number, place, record, options));
     },
-    check: (commitment, size, number, record) => accepted(library.call("vz_check", commitment, size, number, record)[0]),
+    check: (commitment, size, number, record) =>
+      accepted(library.call("vz_check", commitment, size, number, record)[0]),
     settleRecords: (commitment, size, number, first, second) =>
       settled("vz_settle_records", commitment, size, number, first, second),
     settleWithDeal: (deal, number, record, { tree } = {}) => tree === undefined
@@ -548,7 +576,8 @@ function recordFields(library) {
 
 // ---- Fr32 padding
 
-/** The length of the segment of so many raw bytes, 128 / 127 of them and rounded up; undefined where there may not be so many. */
+/** The length of the segment of so many raw bytes, 128 / 127 of them and rounded up; undefined where there may not be
+ * so many. */
 export function segmentLength(rawLength) {
   const length = count(rawLength);
   return length >= 1 && length <= MAX_RAW ? Math.ceil((length * 128) / 127) : undefined;
@@ -615,9 +644,9 @@ class Streaming {
 const SEGMENT_PART = 128 * 2 ** 11;
 const ZEROS = 2 ** 13; // the nodes of a piece that the stream is given where no raw bytes are left
 
-// The commitment of a raw archive as its bytes arrive: each part is padded into zeros, and a stream takes the commitments of these.
-// That its answer is the commitment of the whole segment, filled with zeros, is proved: raw-by-parts, in
-// crates/vizhuthamen/specs/RawByParts.antt.
+// The commitment of a raw archive as its bytes arrive: each part is padded into zeros, and a stream takes the
+// commitments of these. That its answer is the commitment of the whole segment, filled with zeros, is proved:
+// raw-by-parts, in crates/vizhuthamen/specs/RawByParts.antt.
 class RawStreaming {
   #vz;
   #nodes;
@@ -645,7 +674,8 @@ class RawStreaming {
     const size = Math.ceil((raw * 128) / 127);
     let area = 128;
     while (area < size) area *= 2;
-    const part = Math.min(area, SEGMENT_PART); // an archive whose area is smaller than a part is a single one, of that size
+    // an archive whose area is smaller than a part is a single one, of that size
+    const part = Math.min(area, SEGMENT_PART);
     const nodes = this.#vz.streaming(this.#nodes.state);
     this.#parts(nodes, rest, part);
     this.#fill(nodes, area / part - Math.ceil(size / part), part);
@@ -782,7 +812,9 @@ export const cid = Object.freeze({
 const INLINED = {};
 
 // A module of one function with SIMD.
-const SIMD = [0, 97, 115, 109, 1, 0, 0, 0, 1, 5, 1, 96, 0, 1, 123, 3, 2, 1, 0, 10, 10, 1, 8, 0, 65, 0, 253, 15, 253, 98, 11];
+const SIMD = [
+  0, 97, 115, 109, 1, 0, 0, 0, 1, 5, 1, 96, 0, 1, 123, 3, 2, 1, 0, 10, 10, 1, 8, 0, 65, 0, 253, 15, 253, 98, 11,
+];
 
 // The module that is inlined, or that lies beside this file: with SIMD where it is to be had.
 function own() {
@@ -807,15 +839,18 @@ async function bytesOf(response) {
 async function compiled(source) {
   if (source instanceof WebAssembly.Module) return source;
   if (source instanceof ArrayBuffer) return WebAssembly.compile(source);
-  if (ArrayBuffer.isView(source)) return compiled(source.buffer.slice(source.byteOffset, source.byteOffset + source.byteLength));
+  if (ArrayBuffer.isView(source)) {
+    return compiled(source.buffer.slice(source.byteOffset, source.byteOffset + source.byteLength));
+  }
   if (typeof source === "string") return compiled(new URL(source, globalThis.location?.href));
   if (source instanceof URL) return WebAssembly.compile(await bytesAt(source));
   if (typeof Response !== "undefined" && source instanceof Response) return WebAssembly.compile(await bytesOf(source));
-  throw new TypeError(`the module is given as bytes, a Response, a URL or a WebAssembly.Module, not as ${shown(source)}`);
+  throw new TypeError("the module is given as bytes, a Response, a URL or a WebAssembly.Module, " +
+    `not as ${shown(source)}`);
 }
 
-/** The library, from a module: its bytes, a Response, a URL, or a WebAssembly.Module; without one, from the module that is inlined here,
- * or that lies beside this file. */
+/** The library, from a module: its bytes, a Response, a URL, or a WebAssembly.Module; without one, from the module that
+ * is inlined here, or that lies beside this file. */
 export async function load(source = own()) {
   const library = new Library(await WebAssembly.instantiate(await compiled(await source)));
   const vz = {

@@ -1,6 +1,7 @@
-"""Audits that single slips would get wrong which the calls of audit_cases.py do not see: bytes, words and bits that are not looked at
-or not compared, numbers cut to fewer bits, levels, slots and parts of a deal that are left out. Each call stands beside its code and,
-with 0, the states that are written; tests/model_test.py judges that the model gives them."""
+"""Audits that single slips would get wrong which the calls of audit_cases.py do not see: bytes, words and bits that are
+not looked at or not compared, numbers cut to fewer bits, levels, slots and parts of a deal that are left out. Each call
+stands beside its code and, with 0, the states that are written; tests/model_test.py judges that the model gives
+them."""
 from audit_cases import below_index
 from house_cases import with_slot
 from model import (SLOT_BLANK, SLOT_DAMAGED, SLOT_KEPT, SLOT_NOT_STANDING, SLOT_OVERLAPPING, SLOT_WRONG, index_numbers)
@@ -35,7 +36,8 @@ def in_fours(deal, state, entries):
 
 
 def standing(deal, *rows):
-    """Slots of these states whose entries have the commitment of the bytes there: {slot: (state, entry)} of (state, offset, size)."""
+    """Slots of these states whose entries have the commitment of the bytes there: {slot: (state, entry)} of (state,
+    offset, size)."""
     return {i: (state, own_entry(deal, offset, size)) for i, (state, offset, size) in enumerate(rows)}
 
 
@@ -69,8 +71,8 @@ def not_blank(rng):
     """One byte set of each of the 64; equal bytes; words or bytes whose sum or difference is 0."""
     deal = bytes(512)
     yield from in_fours(deal, SLOT_DAMAGED, (flipped(bytes(64), j, bit_of(j)) for j in range(64)))
-    yield from in_fours(deal, SLOT_DAMAGED, (b"\x01" * 64, b"\x07" * 16 + bytes(48), b"\x01" + bytes(7) + b"\xff" * 8 + bytes(48),
-                                             b"\x80\x80" + bytes(62)))
+    yield from in_fours(deal, SLOT_DAMAGED, (b"\x01" * 64, b"\x07" * 16 + bytes(48),
+                                             b"\x01" + bytes(7) + b"\xff" * 8 + bytes(48), b"\x80\x80" + bytes(62)))
     yield audited(deal, {1: (SLOT_NOT_STANDING, NOBODYS)})
 
 
@@ -82,11 +84,12 @@ def damaged(rng):
 
 
 def wrong(rng):
-    """The right commitment with one bit flipped of each byte, and of every bit of its first byte and of its last; commitments of twice
-    the area, and of the areas before and after."""
+    """The right commitment with one bit flipped of each byte, and of every bit of its first byte and of its last;
+    commitments of twice the area, and of the areas before and after."""
     deal = below_index(rng, 1024)
     right = lambda offset, size: own_entry(deal, offset, size)[:32]
-    places = [(j, bit_of(j)) for j in range(32)] + [(0, b) for b in range(8)] + [(31, b) for b in range(6)] + [(15, 0), (16, 0)]
+    places = ([(j, bit_of(j)) for j in range(32)] + [(0, b) for b in range(8)] + [(31, b) for b in range(6)]
+              + [(15, 0), (16, 0)])
     yield from in_fours(deal, SLOT_WRONG, (MODEL.entry(flipped(right(128 * (i % 4), 128), *place), 128 * (i % 4), 128)
                                            for i, place in enumerate(places)))
     others = ((right(0, 256), 0), (right(0, 128), 128), (right(384, 128), 256))
@@ -114,7 +117,8 @@ def levels(rng):
 
 
 def overlaps(rng):
-    """Entries that do not stand before and between those that overlap; one that would end beyond the index; one between two others."""
+    """Entries that do not stand before and between those that overlap; one that would end beyond the index; one between
+    two others."""
     deal = below_index(rng, 1024)
     kept, again = (SLOT_KEPT, own_entry(deal, 0, 128)), (SLOT_OVERLAPPING, own_entry(deal, 0, 128))
     other = SLOT_NOT_STANDING, NOBODYS
@@ -175,7 +179,8 @@ def large_areas():
     slots = standing(deal, *((SLOT_KEPT, *row) for row in areas))
     yield audited(deal, slots | {127: (SLOT_OVERLAPPING, own_entry(deal, areas[-1][0], 128))})
     yield audited(deal, {127: (SLOT_NOT_STANDING, NOBODYS)} | {
-        i: (SLOT_WRONG, MODEL.entry(own_entry(deal, offset, size // 2)[:32], offset, size)) for i, (offset, size) in enumerate(areas)})
+        i: (SLOT_WRONG, MODEL.entry(own_entry(deal, offset, size // 2)[:32], offset, size))
+        for i, (offset, size) in enumerate(areas)})
 
 
 def far_areas():
@@ -186,17 +191,20 @@ def far_areas():
         yield audited(deal, standing(deal, (SLOT_KEPT, 0, 1 << k), (SLOT_OVERLAPPING, (1 << k) - 128, 128)) | last)
         if k <= 20:
             far = 1 << k - 1
-            yield audited(deal, standing(deal, (SLOT_KEPT, 0, 128), (SLOT_KEPT, far, 128), (SLOT_OVERLAPPING, far, 128)))
+            yield audited(deal,
+                          standing(deal, (SLOT_KEPT, 0, 128), (SLOT_KEPT, far, 128), (SLOT_OVERLAPPING, far, 128)))
 
 
 def far_slots(d, overlapped, places):
-    """The last slot overlaps one that is near, or far; every state in other slots than the first; slot 4 overlaps slot 3."""
+    """The last slot overlaps one that is near, or far; every state in other slots than the first; slot 4 overlaps slot
+    3."""
     deal, n = bytes(d), entries_of(d)
     kept = own_entry(deal, 0, 128)
     all_but_one = standing(deal, *((SLOT_KEPT, 128 * slot, 128) for slot in range(n - 1)))
     for lower in overlapped:
         yield audited(deal, all_but_one | {n - 1: (SLOT_OVERLAPPING, own_entry(deal, 128 * lower, 128))})
-    for state, entry in ((SLOT_BLANK, bytes(64)), (SLOT_DAMAGED, b"\x01" * 64), (SLOT_NOT_STANDING, MODEL.entry(bytes(32), 64, 128)),
+    for state, entry in ((SLOT_BLANK, bytes(64)), (SLOT_DAMAGED, b"\x01" * 64),
+                         (SLOT_NOT_STANDING, MODEL.entry(bytes(32), 64, 128)),
                          (SLOT_WRONG, MODEL.entry(bytes(32), 0, 128)), (SLOT_KEPT, kept)):
         yield from (audited(deal, {place: (state, entry)}) for place in places)
     yield audited(deal, {3: (SLOT_KEPT, kept), 4: (SLOT_OVERLAPPING, kept)})

@@ -1,4 +1,5 @@
-"""A real browser for tests of the page: Debian's chromium, driven by selenium. What is missing is installed where root runs the test."""
+"""A real browser for tests of the page: Debian's chromium, driven by selenium. What is missing is installed where root
+runs the test."""
 import base64
 import json
 import os
@@ -16,8 +17,8 @@ PATIENCE = 60
 
 
 def missing():
-    """What is missing for a browser, in words; nothing where there is one. Where selenium is there for the system's python alone, that
-    one runs the test in the place of this process."""
+    """What is missing for a browser, in words; nothing where there is one. Where selenium is there for the system's
+    python alone, that one runs the test in the place of this process."""
     ran = subprocess.run([ROOT / "tools/need", *PACKAGES], capture_output=True, text=True)
     if ran.returncode:
         return ran.stderr.splitlines()[-1]
@@ -42,7 +43,8 @@ class Browser:
             options.add_argument(word)
         options.binary_location = shutil.which("chromium")
         options.set_capability("goog:loggingPrefs", {"browser": "ALL", "performance": "ALL"})
-        options.add_experimental_option("prefs", {"download.default_directory": str(downloads), "download.prompt_for_download": False})
+        options.add_experimental_option("prefs", {"download.default_directory": str(downloads),
+                                                  "download.prompt_for_download": False})
         self.driver = webdriver.Chrome(service=Service(shutil.which("chromedriver")), options=options)
         self.driver.set_script_timeout(PATIENCE)
         self.look()
@@ -53,12 +55,15 @@ class Browser:
     def open(self, path):
         """Opens a page from disk. Breaches of its policy are counted from then on."""
         self.driver.get(Path(path).as_uri())
-        self.run("window.breaches = []; addEventListener('securitypolicyviolation', (e) => breaches.push(e.violatedDirective))")
+        self.run("window.breaches = []; addEventListener('securitypolicyviolation', "
+                 "(e) => breaches.push(e.violatedDirective))")
 
     def look(self, dark=False, width=1000):
         """The scheme of colours, and the width of the window."""
-        self.command("Emulation.setEmulatedMedia", features=[{"name": "prefers-color-scheme", "value": "dark" if dark else "light"}])
-        self.command("Emulation.setDeviceMetricsOverride", width=width, height=800, deviceScaleFactor=1, mobile=width < 600)
+        self.command("Emulation.setEmulatedMedia",
+                     features=[{"name": "prefers-color-scheme", "value": "dark" if dark else "light"}])
+        self.command("Emulation.setDeviceMetricsOverride", width=width, height=800, deviceScaleFactor=1,
+                     mobile=width < 600)
 
     def command(self, name, **values):
         return self.driver.execute_cdp_cmd(name, values)
@@ -103,14 +108,16 @@ class Browser:
         """The whole page as a picture."""
         size = self.run("return [document.documentElement.scrollWidth, document.documentElement.scrollHeight]")
         clip = {"x": 0, "y": 0, "width": size[0], "height": size[1], "scale": 1}
-        Path(path).write_bytes(base64.b64decode(self.command("Page.captureScreenshot", captureBeyondViewport=True, clip=clip)["data"]))
+        Path(path).write_bytes(base64.b64decode(
+            self.command("Page.captureScreenshot", captureBeyondViewport=True, clip=clip)["data"]))
 
     def errors(self):
         """What the browser has written to its console since the last look: errors and warnings."""
         return [entry["message"] for entry in self.driver.get_log("browser") if entry["level"] in ("SEVERE", "WARNING")]
 
     def requests(self):
-        """The addresses that were asked for since the last look, and of each whether the page's policy kept the request from leaving."""
+        """The addresses that were asked for since the last look, and of each whether the page's policy kept the request
+        from leaving."""
         events = [json.loads(entry["message"])["message"] for entry in self.driver.get_log("performance")]
 
         def told(name):

@@ -1,4 +1,5 @@
-"""How calls are made and told: outputs that are there, terminals, slots by number, words that are near others, full deals.
+"""How calls are made and told: outputs that are there, terminals, slots by number, words that are near others, full
+deals.
 
 python3 tests/calls_test.py (VIZHUTHAMEN names another binary). The expected values are those of the independent model.
 """
@@ -29,7 +30,8 @@ class OutputFiles(Calls):
             for old in (b"", b"precious", data + b"\n", data[:-1], bytes([data[0] ^ 1]) + data[1:]):
                 self.put("out", old)
                 error = self.failed(IO, *words, "-o", "out")
-                self.assertIn("cannot write out: the file exists, with other bytes; give another name, or --force to replace it\n", error)
+                self.assertIn("cannot write out: the file exists, with other bytes; "
+                              "give another name, or --force to replace it\n", error)
                 self.assertEqual(self.get("out"), old)
                 self.answer(*words, "-o", "out", "--force")
                 self.assertEqual(self.get("out"), data)
@@ -40,7 +42,8 @@ class OutputFiles(Calls):
             before = self.path("out").stat()
             self.assertEqual(self.answer(*words, "-o", "out"), first)
             after = self.path("out").stat()
-            self.assertEqual((self.get("out"), before.st_ino, before.st_mtime_ns), (data, after.st_ino, after.st_mtime_ns))
+            self.assertEqual((self.get("out"), before.st_ino, before.st_mtime_ns),
+                             (data, after.st_ino, after.st_mtime_ns))
             self.path("out").unlink()
         self.assertEqual(self.files(), ["deal", "deal.owners", "padded", "raw"])
 
@@ -62,7 +65,8 @@ class OutputFiles(Calls):
         for words in self.calls():
             name = next(word for word in words if word in ("deal", "raw", "padded"))
             before = self.get(name)
-            self.assertIn(f"--output would replace {name}, which was read", self.failed(USAGE, *words, "-o", name, "--force"))
+            self.assertIn(f"--output would replace {name}, which was read",
+                          self.failed(USAGE, *words, "-o", name, "--force"))
             self.assertEqual(self.get(name), before)
 
 
@@ -72,7 +76,8 @@ class Terminals(Calls):
     def on_terminal(self, *words):
         """The exit status, what a terminal shows as standard output, and standard error."""
         parent, child = pty.openpty()
-        ran = subprocess.run([self.program, *map(str, words)], cwd=self.folder, stdout=child, stderr=subprocess.PIPE, timeout=60)
+        ran = subprocess.run([self.program, *map(str, words)], cwd=self.folder, stdout=child, stderr=subprocess.PIPE,
+                             timeout=60)
         os.close(child)
         shown = all_of(parent)
         os.close(parent)
@@ -82,8 +87,8 @@ class Terminals(Calls):
         deal, places = self.booked()
         self.put("padded", pad(b"raw" * 50, bytes(segment_length(150)))[2])
         commitment = deal[places[0] : places[0] + 32].hex()
-        told = ("vizhuthamen: standard output is a terminal, and bytes are not printed on one; give --output FILE; into a pipe they are "
-                "printed in hex, and with --output - as they are; see: vizhuthamen {} --help\n")
+        told = ("vizhuthamen: standard output is a terminal, and bytes are not printed on one; give --output FILE; "
+                "into a pipe they are printed in hex, and with --output - as they are; see: vizhuthamen {} --help\n")
         hexed = ("build", "deal", places[0], *GIVEN), ("pad", "padded"), ("unpad", 150, "padded")
         for words in (*hexed, *((*call, "-o", "-") for call in (*hexed, ("find", "deal", commitment)))):
             self.assertEqual(self.on_terminal(*words), (USAGE, "", told.format(words[0])), words)
@@ -108,12 +113,14 @@ class Slots(Calls):
         table = self.get("deal.owners")
         self.assertEqual(table, b"\1\1\2\2")
         for number, place in enumerate(places):
-            self.assertEqual(self.answer("build", "deal", "--slot", number, *GIVEN), self.answer("build", "deal", place, *GIVEN))
+            self.assertEqual(self.answer("build", "deal", "--slot", number, *GIVEN),
+                             self.answer("build", "deal", place, *GIVEN))
         for number in (2, 0, 3):
             self.put("deal", deal)
             self.put("deal.owners", table)
             house = table[number]
-            self.assertIn(f"place {places[number]}\n", self.answer("cancel", "deal", f"--slot={number}", "--house", house))
+            self.assertIn(f"place {places[number]}\n",
+                          self.answer("cancel", "deal", f"--slot={number}", "--house", house))
             self.assertEqual(self.both(), MODEL.cancel(deal, table, house, places[number])[1:])
         # Brought back by its number too, and given to its house again.
         self.put("segment", deal[256:384])
@@ -134,12 +141,15 @@ class Slots(Calls):
                 self.assertTrue(out.startswith("code 6: "), out)
                 self.assertIn("a multiple of 64 from 768 to 960 (slots 0 to 3)", err)
         self.put("short", bytes(1000))
-        for words in (("build", "short", "--slot", 0, *GIVEN), ("cancel", "short", "--slot", 0), ("owner", "short", 1, "--slot", 0)):
+        for words in (("build", "short", "--slot", 0, *GIVEN), ("cancel", "short", "--slot", 0),
+                      ("owner", "short", 1, "--slot", 0)):
             self.refused(2, *words)
-        for words in (("build", "deal", "--slot", 3, *GIVEN), ("cancel", "deal", "--slot", 3), ("owner", "deal", 1, "--slot", 3)):
+        for words in (("build", "deal", "--slot", 3, *GIVEN), ("cancel", "deal", "--slot", 3),
+                      ("owner", "deal", 1, "--slot", 3)):
             self.refused(16, *words)
-        for words in (("build", "deal"), ("build", "deal", 768, "--slot", 0), ("cancel", "deal"), ("cancel", "deal", "--slot", "x"),
-                      ("repair", "deal", "--place", 768, "--slot", 0), ("owner", "deal", "--slot", 0), ("owner", "deal", 1, 768, "--slot", 0)):
+        for words in (("build", "deal"), ("build", "deal", 768, "--slot", 0), ("cancel", "deal"),
+                      ("cancel", "deal", "--slot", "x"), ("repair", "deal", "--place", 768, "--slot", 0),
+                      ("owner", "deal", "--slot", 0), ("owner", "deal", 1, 768, "--slot", 0)):
             self.failed(USAGE, *words)
         self.assertEqual(self.get("deal"), deal)
 
@@ -151,12 +161,15 @@ class Meant(Calls):
         self.booked()
         self.put("segment", self.segment())
         before = self.get("deal")
-        for words, meant in ((("bok", "deal", "segment"), "book"), (("cancle", "deal", 768), "cancel"), (("boo", "deal", "segment"), "book"),
-                             (("cancel", "deal", 768, "--no-wai"), "--no-wait"), (("book", "deal", "segment", "--forec"), "--force"),
-                             (("help", "salvge"), "salvage"), (("completions", "bsah"), "bash"), (("sho", "deal"), "show")):
+        for words, meant in ((("bok", "deal", "segment"), "book"), (("cancle", "deal", 768), "cancel"),
+                             (("boo", "deal", "segment"), "book"), (("cancel", "deal", 768, "--no-wai"), "--no-wait"),
+                             (("book", "deal", "segment", "--forec"), "--force"), (("help", "salvge"), "salvage"),
+                             (("completions", "bsah"), "bash"), (("sho", "deal"), "show")):
             error = self.failed(USAGE, *words)
-            self.assertRegex(error, rf"no (such (command|option)|completions for): \S+; did you mean: {re.escape(meant)};")
-        for words in (("remove", "deal"), ("list", "deal", "--verbose"), ("list", "deal", "-l"), ("list", "deal", "--forec")):
+            self.assertRegex(error,
+                             rf"no (such (command|option)|completions for): \S+; did you mean: {re.escape(meant)};")
+        for words in (("remove", "deal"), ("list", "deal", "--verbose"), ("list", "deal", "-l"),
+                      ("list", "deal", "--forec")):
             self.assertNotIn("did you mean", self.failed(USAGE, *words))
         self.assertEqual((self.get("deal"), self.files()), (before, ["deal", "deal.owners", "segment"]))
 
@@ -170,7 +183,8 @@ class Room(Calls):
         before = self.both()
         out, err = self.call("book", "deal", "segment", "--house", house, status=code)
         self.assertEqual((self.both(), out.count("\n")), (before, 2 if code == 22 else 1))
-        full = re.match(r"vizhuthamen: deal: (\d+) of (\d+) slots and (\d+) of (\d+) bytes before the index are free; ([^\n]*)\n", err)
+        full = re.match(r"vizhuthamen: deal: (\d+) of (\d+) slots and (\d+) of (\d+) bytes before the index are free; "
+                        r"([^\n]*)\n", err)
         fits = re.search(r"booked now has (\d+) bytes \(that of a raw archive of (\d+) bytes\)", full.group(5))
         of = f" of house {house}" if code == 22 else ""
         self.assertEqual(fits is None, f"no segment{of} would be booked now, of whatever size" in err)
@@ -191,7 +205,8 @@ class Room(Calls):
         self.put("deal.owners", b"\1\0\2\2")
         numbers, largest, err = self.told(13, 1)
         self.assertEqual((numbers, largest), ([0, 4, 256, 768], 0))
-        self.assertIn("a slot is freed by: vizhuthamen cancel deal PLACE, and one that is nobody's after: vizhuthamen owner deal HOUSE", err)
+        self.assertIn("a slot is freed by: vizhuthamen cancel deal PLACE, and one that is nobody's after: "
+                      "vizhuthamen owner deal HOUSE", err)
 
     def test_the_size_that_is_told_is_booked(self):
         met = set()
@@ -224,12 +239,14 @@ class Room(Calls):
         self.put("deal.owners", b"\1\2\2\0")
         numbers, largest, err = self.told(14, 512)
         self.assertEqual((numbers, largest), ([1, 4, 1408, 1792], 256))
-        self.assertIn("vizhuthamen: without the gaps the largest would have 512 bytes: vizhuthamen collect deal NEW\n", err)
+        self.assertIn("vizhuthamen: without the gaps the largest would have 512 bytes: vizhuthamen collect deal NEW\n",
+                      err)
         self.answer("collect", "deal", "new")
         self.answer("book", "new", "segment", "--house", 1)
 
 
 if __name__ == "__main__":
     if not BINARY.is_file():
-        raise SystemExit(f"calls_test: {BINARY} is not there; run: cargo build --release --offline --manifest-path rust/Cargo.toml")
+        raise SystemExit(f"calls_test: {BINARY} is not there; run: "
+                         "cargo build --release --offline --manifest-path rust/Cargo.toml")
     unittest.main()

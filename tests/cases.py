@@ -1,6 +1,6 @@
 """Calls of the library's routines, random and adversarial."""
-from model import (MAX_RAW, Booking, Cancelling, Ledger, area, filled, height, index_numbers, le, node_place, pad, power,
-                   segment_bit, segment_length)
+from model import (MAX_RAW, Booking, Cancelling, Ledger, area, filled, height, index_numbers, le, node_place, pad,
+                   power, segment_bit, segment_length)
 from operations import (AUDIT, BOOK, BUILD, CANCEL, CHECK, COLLECT, COMMITMENT, FIELDS, FILL, FIND, MAKE, MODEL, NAMES,
                         NUMBERS, PAD, PLAIN_FORM, PLAYBACK, READ, ROW, SETTLE, SETTLE_DEAL, SETTLE_TREE, SHA256, STREAM,
                         UNPAD, Case)
@@ -48,12 +48,13 @@ def cuts(rng, total):
 
 
 def streams(rng, totals=TOTALS):
-    """Streams of these totals, cut in several ways, without stray bits and with them: in the first, a middle and the last whole node,
-    and in the last byte of a node that is cut short, where they are none."""
+    """Streams of these totals, cut in several ways, without stray bits and with them: in the first, a middle and the
+    last whole node, and in the last byte of a node that is cut short, where they are none."""
     for total in totals:
         data = b"".join(node(rng) for _ in range(total // 32)) + rng.randbytes(total % 32)
         whole = total // 32
-        runs = [data] + [strayed(data, 32 * k + 31, rng.choice((64, 128))) for k in sorted({0, whole // 2, whole - 1}) if 0 <= k < whole]
+        runs = [data] + [strayed(data, 32 * k + 31, rng.choice((64, 128))) for k in sorted({0, whole // 2, whole - 1})
+                         if 0 <= k < whole]
         if total % 32:
             runs.append(strayed(data, total - 1, 192))
         for data in runs:
@@ -76,8 +77,8 @@ def segment_of(raw):
 
 
 def paddings(rng, lengths=RAW_LENGTHS):
-    """Raw bytes there and back, with outputs of every kind. Then segments with another length, and with one bit set that is not raw:
-    each of those after the last raw bit, and the two high bits of every whole node."""
+    """Raw bytes there and back, with outputs of every kind. Then segments with another length, and with one bit set
+    that is not raw: each of those after the last raw bit, and the two high bits of every whole node."""
     for n in lengths:
         for raw in (rng.randbytes(n), b"\xff" * n):
             segment = segment_of(raw)
@@ -105,14 +106,15 @@ def padding_case(rng, op):
     if segment and not rng.randrange(3):  # a bit that may be no raw one
         segment = strayed(segment, rng.choice((rng.randrange(len(segment)), len(segment) - 1)), 1 << rng.randrange(8))
     if not rng.randrange(8):
-        segment = rng.choice((rng.randbytes(len(segment)), segment[:-1], segment + b"\0", rng.randbytes(rng.randrange(300))))
+        segment = rng.choice((rng.randbytes(len(segment)), segment[:-1], segment + b"\0",
+                              rng.randbytes(rng.randrange(300))))
     named = rng.choice((n, n, n, n, n, n, n, n + 1, n - 1, any_number(rng), MAX_RAW + 1))
     return op, segment, output(rng, n), named, 0
 
 
 def any_number(rng):
-    return rng.choice((0, 1, 63, 64, 127, 128, 255, 256, 448, 512, 1024, 1 << 20, 1 << 36, 1 << 37, (1 << 64) - 128, (1 << 64) - 1,
-                       rng.randrange(1 << 64), rng.randrange(4096)))
+    return rng.choice((0, 1, 63, 64, 127, 128, 255, 256, 448, 512, 1024, 1 << 20, 1 << 36, 1 << 37, (1 << 64) - 128,
+                       (1 << 64) - 1, rng.randrange(1 << 64), rng.randrange(4096)))
 
 
 def deal_number(rng):
@@ -165,7 +167,8 @@ def deal(rng, sizes, steps=6):
             data[p : p + 64] = m.entry(node(rng), any_number(rng), any_number(rng))
         elif kind == 2:  # standing or off by one area, not kept
             data[p : p + 64] = m.entry(node(rng), o, s)
-        elif kind == 3 and o + a <= start:  # kept, perhaps overlapping another, perhaps with other bytes than zeros after the size
+        elif kind == 3 and o + a <= start:
+            # kept, perhaps overlapping another, perhaps with other bytes than zeros after the size
             data[p : p + 64] = m.entry(m.tree(bytes(data[o : o + a]))[-1][0], o, s)
         elif kind == 4:  # another slot's entry again
             q = start + 64 * rng.randrange(n)
@@ -220,11 +223,13 @@ def second_deal(rng, data):
 
 def house(rng):
     """Mostly a house, 1 or 2; now and then another byte."""
-    return rng.choice((1, 2)) if rng.randrange(12) else rng.choice((0, 0, 3, 3, 4, 127, 129, 130, 254, 255, rng.randrange(256)))
+    return (rng.choice((1, 2)) if rng.randrange(12)
+            else rng.choice((0, 0, 3, 3, 4, 127, 129, 130, 254, 255, rng.randrange(256))))
 
 
 def table(rng, data):
-    """A table of owners for a deal: of both houses and nobody, of one house, of nobody, any bytes; now and then of another length."""
+    """A table of owners for a deal: of both houses and nobody, of one house, of nobody, any bytes; now and then of
+    another length."""
     n = max(4, len(data) // 131072)
     if not rng.randrange(12):
         return rng.randbytes(rng.choice((0, 1, n // 2, n - 1, n + 1, 2 * n, 128, 129, len(data))))
@@ -275,7 +280,8 @@ def spoilt_tree(rng, tree):
     """The tree with a few nodes changed: in one bit, to any bytes, to zeros, to another node of it."""
     out = bytearray(tree)
     for _ in range(rng.choice((1, 1, 2, 5))):
-        at, other = (32 * rng.choice((rng.randrange(len(tree) // 32), -1 - rng.randrange(7))) % len(tree) for _ in range(2))
+        at, other = (32 * rng.choice((rng.randrange(len(tree) // 32), -1 - rng.randrange(7))) % len(tree)
+                     for _ in range(2))
         flipped = bytearray(out[at : at + 32])
         flipped[rng.randrange(32)] ^= 1 << rng.randrange(8)
         out[at : at + 32] = rng.choice((flipped, rng.randbytes(32), node(rng), bytes(32), out[other : other + 32]))
@@ -283,7 +289,8 @@ def spoilt_tree(rng, tree):
 
 
 def tree(rng, data):
-    """A tree for a deal: its own, stale, spoilt, one that believes the index, any bytes; now and then of another length."""
+    """A tree for a deal: its own, stale, spoilt, one that believes the index, any bytes; now and then of another
+    length."""
     n = max(len(data) - 32, 0)
     if not rng.randrange(12):
         return rng.randbytes(rng.choice((0, 31, 32, n // 2, max(n - 1, 0), max(n - 32, 0), n + 1, n + 32, 2 * n + 32)))
@@ -432,7 +439,8 @@ def small_case(rng, op):
     if op == NUMBERS:
         return op, b"", b"", rng.choice((any_number(rng), 1 << rng.randrange(40)))
     if op == MAKE:
-        return op, rng.choice((node(rng), rng.randbytes(32), rng.randbytes(rng.randrange(40)))), b"", any_number(rng), any_number(rng)
+        return (op, rng.choice((node(rng), rng.randbytes(32), rng.randbytes(rng.randrange(40)))), b"",
+                any_number(rng), any_number(rng))
     if op == READ:
         e = bytearray(MODEL.entry(rng.randbytes(32), any_number(rng), any_number(rng)))
         if rng.randrange(2):
@@ -451,12 +459,15 @@ def small_case(rng, op):
 
 
 def row_case(rng):
-    """Pairs of nodes, stray bits among them, and a row above of the right length; one row of four has another one, or is not of pairs."""
+    """Pairs of nodes, stray bits among them, and a row above of the right length; one row of four has another one, or
+    is not of pairs."""
     n = rng.choice((0, 1, 2, 3, 4, 5, 15, 16, 17, 31, 32, 33, 48, 64, rng.randrange(100)))
     below, above = rng.randbytes(64 * n), rng.randbytes(32 * n)
     if rng.randrange(4) == 0:
-        below = rng.choice((below, below[:-1], below[:-32], below + bytes(1), below + bytes(32), below + bytes(64), below[:-64]))
-        above = rng.choice((above, above[:-1], above[:-32], above + bytes(1), above + bytes(16), above + bytes(32), above + above))
+        below = rng.choice((below, below[:-1], below[:-32], below + bytes(1), below + bytes(32), below + bytes(64),
+                            below[:-64]))
+        above = rng.choice((above, above[:-1], above[:-32], above + bytes(1), above + bytes(16), above + bytes(32),
+                            above + above))
     return ROW, below, above
 
 
@@ -465,14 +476,16 @@ def log_of(lines):
 
 
 def ledger_day(rng, d, steps):
-    """The lines of a day, as the ledger's rules answer its calls: few segments, so that some are booked again, and any places of the index."""
+    """The lines of a day, as the ledger's rules answer its calls: few segments, so that some are booked again, and any
+    places of the index."""
     ledger, lines = Ledger(d), []
     segments = [(rng.choice((node(rng), rng.randbytes(32))), segment_size(rng, d)) for _ in range(rng.randrange(1, 9))]
     segments += [(segments[0][0], segment_size(rng, d)), (node(rng), segments[0][1]), (node(rng), 128), (node(rng), 1)]
     for _ in range(steps):
         house = rng.choice((1, 2))
         if rng.randrange(4):
-            commitment, size = rng.choice(segments) if rng.randrange(3) else (node(rng), rng.choice((1, 128, segment_size(rng, d))))
+            commitment, size = (rng.choice(segments) if rng.randrange(3)
+                                else (node(rng), rng.choice((1, 128, segment_size(rng, d)))))
             lines.append(Booking(house, commitment, size, *ledger.book(house, commitment, size)))
         else:
             place = rng.choice(list(ledger.rows))
@@ -491,7 +504,8 @@ def other_line(rng, line, d):
 
 
 def changed_log(rng, lines, d):
-    """The log of a day with one change, or none: in a field, in a byte, in the order or number of lines, at the end, in the deal's size."""
+    """The log of a day with one change, or none: in a field, in a byte, in the order or number of lines, at the end, in
+    the deal's size."""
     lines, kind = list(lines), rng.randrange(9)
     at = rng.randrange(len(lines)) if lines else 0
     if lines and kind in (0, 1, 2):

@@ -42,9 +42,10 @@ def overlaps(rng):
 
 
 def one_rule(rng):
-    """An entry in 2,048 bytes that stands, or does not by one rule alone: the size, the offset's multiple, the end of its
-    area; places beside it and between slots; lengths that are no power of two."""
-    for row in ((1024, 512), (0, 1024), (0, 0), (0, 1025), (128, 256), (640, 300), (1024, 513), (1024, 768), (1664, 129)):
+    """An entry in 2,048 bytes that stands, or does not by one rule alone: the size, the offset's multiple, the end of
+    its area; places beside it and between slots; lengths that are no power of two."""
+    for row in ((1024, 512), (0, 1024), (0, 0), (0, 1025), (128, 256), (640, 300), (1024, 513), (1024, 768),
+                (1664, 129)):
         deal = run(rng, 1792) + bytes(192) + MODEL.entry(node(rng), *row)
         lent = rng.randbytes(2016)
         owned = bytes([rng.choice((1, 2))]) * 4
@@ -75,7 +76,8 @@ class Held:
             *_, self.deal, self.table = MODEL.book(self.deal, self.table, house, segment)
         else:
             made = Case(BOOK_TREE, self.deal, segment, y=house, c=self.tree, d=self.table)
-            *_, self.deal, self.tree, self.table = MODEL.book_with_tree(self.deal, self.tree, self.table, house, segment)
+            *_, self.deal, self.tree, self.table = MODEL.book_with_tree(
+                self.deal, self.tree, self.table, house, segment)
         return made
 
     def cancel(self, house, place, plain):
@@ -114,8 +116,8 @@ def owner_of(rng, held, place):
 
 
 def changes(rng, d, steps, plain_share):
-    """A run of bookings, cancellations and collections by both houses over zeros or old bytes, this share of them plain.
-    Some segments come again. The tree is filled at the start, and stale from the first plain call on."""
+    """A run of bookings, cancellations and collections by both houses over zeros or old bytes, this share of them
+    plain. Some segments come again. The tree is filled at the start, and stale from the first plain call on."""
     start = index_numbers(d)[2]
     deal = rng.choice((bytes(start), run(rng, start))) + bytes(d - start)
     held = Held(rng, deal, MODEL.fill(deal, bytes(d - 32))[1])

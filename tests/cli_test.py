@@ -24,9 +24,9 @@ from model import MAX_RAW, MAX_RAW_STREAM, Model, area, filled, index_numbers, p
 
 ROOT = Path(__file__).resolve().parent.parent
 BINARY = Path(os.environ.get("VIZHUTHAMEN", ROOT / "rust" / "target" / "release" / "vizhuthamen"))
-COMMANDS = ("new", "number", "owner", "commit", "stream", "pad", "unpad", "book", "pack", "extract", "close", "cancel", "collect", "list",
-            "audit", "tally", "find", "build", "check", "settle", "settle-deal", "playback", "log", "show", "fsck", "repair", "salvage", "prove",
-            "verify", "help", "completions")
+COMMANDS = ("new", "number", "owner", "commit", "stream", "pad", "unpad", "book", "pack", "extract", "close", "cancel",
+            "collect", "list", "audit", "tally", "find", "build", "check", "settle", "settle-deal", "playback", "log",
+            "show", "fsck", "repair", "salvage", "prove", "verify", "help", "completions")
 MODEL = Model()
 NUMBER = 0xfedcba9876543210  # of the deals here, and another one
 OTHER = NUMBER + 1
@@ -54,7 +54,8 @@ def rows_of(table):
 
 
 def all_of(terminal):
-    """All that was written to a terminal whose other end is closed: one read may give a part of it, and an error says the end."""
+    """All that was written to a terminal whose other end is closed: one read may give a part of it, and an error says
+    the end."""
     shown = b""
     while True:
         try:
@@ -90,7 +91,8 @@ class Calls(unittest.TestCase):
 
     def call(self, *words, status=0, stdin=b"", **options):
         """Runs the program; the exit status must be the expected one. Gives standard output and standard error."""
-        ran = subprocess.run([self.program, *map(str, words)], input=stdin, capture_output=True, cwd=self.folder, timeout=120, **options)
+        ran = subprocess.run([self.program, *map(str, words)], input=stdin, capture_output=True, cwd=self.folder,
+                             timeout=120, **options)
         self.assertEqual(ran.returncode, status, (words, ran.stdout[-300:], ran.stderr[-300:]))
         return ran.stdout.decode(), ran.stderr.decode()
 
@@ -104,8 +106,8 @@ class Calls(unittest.TestCase):
         return out
 
     def failed(self, status, *words, **options):
-        """A call without an answer: nothing on standard output but JSON where it is asked for, and one line on standard error. Gives that
-        line."""
+        """A call without an answer: nothing on standard output but JSON where it is asked for, and one line on standard
+        error. Gives that line."""
         out, err = self.call(*words, status=status, **options)
         self.assertRegex(err, r"\Avizhuthamen: [^\n]+\n\Z")
         if "--json" not in words:
@@ -113,12 +115,13 @@ class Calls(unittest.TestCase):
             return err
         value = json.loads(out)
         self.assertEqual(set(value), {"code", "meaning", "command", "error", "hints"})
-        self.assertEqual((value["code"], "; ".join([value["error"], *value["hints"]])), (status, err[len("vizhuthamen: "):-1]))
+        self.assertEqual((value["code"], "; ".join([value["error"], *value["hints"]])),
+                         (status, err[len("vizhuthamen: "):-1]))
         return err
 
     def object(self, *words, status=0, **options):
-        """The object that a call prints with --json, without what is judged here: the command, and the hints, which are on standard error
-        too or in the text."""
+        """The object that a call prints with --json, without what is judged here: the command, and the hints, which are
+        on standard error too or in the text."""
         out, err = self.call(*words, "--json", status=status, **options)
         self.assertEqual(out.count("\n"), 1)
         value = json.loads(out)
@@ -135,8 +138,8 @@ class Calls(unittest.TestCase):
         return b"".join(node(self.rng) for _ in range(size // 32))
 
     def keeping(self, size, segments, houses=None):
-        """A deal that keeps these segments: its bytes, its table, and the places of their entries. They are of the houses that are
-        named, or of house 1 as long as it may book and then of house 2."""
+        """A deal that keeps these segments: its bytes, its table, and the places of their entries. They are of the
+        houses that are named, or of house 1 as long as it may book and then of house 2."""
         deal, table, places = bytes(size), bytes(index_numbers(size)[1]), []
         for i, segment in enumerate(segments):
             house = houses[i] if houses else 1 + (2 * i >= len(table))
@@ -146,7 +149,8 @@ class Calls(unittest.TestCase):
         return deal, table, places
 
     def booked(self, size=1024, sizes=(256, 128), houses=None):
-        """A deal file `deal` that keeps segments of these sizes, with its table; the model's deal, and the records' places."""
+        """A deal file `deal` that keeps segments of these sizes, with its table; the model's deal, and the records'
+        places."""
         deal, table, places = self.keeping(size, [self.segment(s) for s in sizes], houses)
         self.put("deal.owners", table)
         return self.put("deal", deal), places
@@ -185,7 +189,8 @@ class MainJob(Calls):
         self.assertEqual(self.answer("book", "deal", "segment").splitlines(), told)
         self.assertEqual(self.both(), tuple(after))
         self.assertEqual(self.refused(15, "book", "deal", "segment").splitlines()[1:], told)
-        self.assertEqual(self.answer("find", "deal", commitment, "--output", "found"), "offset 0\nsize 130\nplace 768\n")
+        self.assertEqual(self.answer("find", "deal", commitment, "--output", "found"),
+                         "offset 0\nsize 130\nplace 768\n")
         self.assertEqual(self.get("found"), segment)
         for size in (0, 513):
             self.put("none", bytes(size))
@@ -194,13 +199,15 @@ class MainJob(Calls):
     def listed(self, ca, cb):
         rows = [line.split() for line in self.answer("list", "deal").splitlines()]
         self.assertEqual(rows[0], ["slot", "place", "state", "owner", "offset", "size", "commitment"])
-        self.assertEqual(rows[1:], [["0", "768", "kept", "1", "0", "256", ca], ["1", "832", "kept", "2", "256", "128", cb],
-                                    ["2", "896", "blank", "-", "-", "-", "-"], ["3", "960", "blank", "-", "-", "-", "-"]])
+        self.assertEqual(rows[1:],
+                         [["0", "768", "kept", "1", "0", "256", ca], ["1", "832", "kept", "2", "256", "128", cb],
+                          ["2", "896", "blank", "-", "-", "-", "-"], ["3", "960", "blank", "-", "-", "-", "-"]])
         self.assertEqual(self.answer("tally", "deal"), "blank 2\ndamaged 0\nvalid 2\n")
 
     def found(self, ca, a):
         self.assertEqual(self.answer("find", "deal", ca), "offset 0\nsize 256\nplace 768\n")
-        self.assertEqual(self.answer("find", "deal", ca.upper(), "--output", "found"), "offset 0\nsize 256\nplace 768\n")
+        self.assertEqual(self.answer("find", "deal", ca.upper(), "--output", "found"),
+                         "offset 0\nsize 256\nplace 768\n")
         self.assertEqual(self.get("found"), a)
 
     def settled(self, deal):
@@ -253,8 +260,8 @@ class Auditing(Calls):
     """The expected states are those that stand beside the calls of audit_cases.py, or the model's."""
 
     def audited(self, states, name="deal", **options):
-        """An audit that shows these states, by their numbers, as text and as JSON; `list` shows the same table. Gives the rows and the
-        object."""
+        """An audit that shows these states, by their numbers, as text and as JSON; `list` shows the same table. Gives
+        the rows and the object."""
         status = 0 if set(states) <= {0, 5} else DATA
         out, err = self.call("audit", name, status=status, **options)
         said = [] if status == 0 else ["code 65: some slots are neither blank nor kept"]
@@ -280,10 +287,12 @@ class Auditing(Calls):
             self.answer("book", "deal", "segment", "--house", house)
         rows, value = self.audited(b"\5\5\5\0")
         deal = self.get("deal")
-        expected = [[str(i), str(768 + 64 * i), "kept", owner, *map(str, MODEL.standing(deal, i)[1:]), deal[768 + 64 * i :][:32].hex()]
+        expected = [[str(i), str(768 + 64 * i), "kept", owner, *map(str, MODEL.standing(deal, i)[1:]),
+                     deal[768 + 64 * i :][:32].hex()]
                     for i, owner in enumerate("121")]
         self.assertEqual(rows, [*expected, ["3", "960", "blank", "-", "-", "-", "-"]])
-        self.assertEqual((value["meaning"], value["size"], value["start"], value["table"]), ("every slot is blank or kept", 1024, 768, "whole"))
+        self.assertEqual((value["meaning"], value["size"], value["start"], value["table"]),
+                         ("every slot is blank or kept", 1024, 768, "whole"))
         self.answer("cancel", "deal", 832, "--house", 2)
         self.audited(b"\5\0\5\0")
         self.answer("collect", "deal", "new")
@@ -423,7 +432,8 @@ class Cancelling(Calls):
         spoilt[places[0]] ^= 1
         spoilt[places[1] : places[1] + 64] = MODEL.entry(bytes(32), 64, 128)
         self.put("deal", bytes(spoilt))
-        for place, what in ((places[0], "is damaged; see: vizhuthamen fsck deal"), (960, "is blank; see: vizhuthamen list deal"),
+        for place, what in ((places[0], "is damaged; see: vizhuthamen fsck deal"),
+                            (960, "is blank; see: vizhuthamen list deal"),
                             (places[1], "holds an entry that does not stand; see: vizhuthamen fsck deal")):
             out, err = self.call("cancel", "deal", place, status=16)
             self.assertTrue(out.startswith("code 16: "), out)
@@ -449,7 +459,8 @@ class Cancelling(Calls):
         mine, other = (deal[p : p + 32].hex() for p in places)
         self.refused(1, "cancel", "deal", places[0], "--commitment", mine[:-2])
         error = self.failed(DATA, "cancel", "deal", places[0], "--commitment", other)
-        self.assertIn(f"the entry at place {places[0]} has the commitment {mine}, which is not the given one; nothing is changed", error)
+        self.assertIn(f"the entry at place {places[0]} has the commitment {mine}, which is not the given one; "
+                      "nothing is changed", error)
         self.refused(16, "cancel", "deal", 960, "--commitment", other)
         self.assertEqual((self.get("deal"), self.files()), (deal, ["deal", "deal.owners"]))
         self.answer("cancel", "deal", places[0], "--commitment", mine.upper())
@@ -477,8 +488,8 @@ class Collecting(Calls):
         for i, ((commitment, offset, size), place, owner) in enumerate(rows):
             _, new_offset, _ = MODEL.standing(new, i)
             odd = {"owner_byte": owner} if owner > 2 else {}
-            moved.append({"place": place, "new_place": start + 64 * i, "owner": 0 if odd else owner, **odd, "offset": offset,
-                          "new_offset": new_offset, "size": size, "commitment": commitment.hex()})
+            moved.append({"place": place, "new_place": start + 64 * i, "owner": 0 if odd else owner, **odd,
+                          "offset": offset, "new_offset": new_offset, "size": size, "commitment": commitment.hex()})
         return moved
 
     def collected(self, deal, table):
@@ -506,16 +517,19 @@ class Collecting(Calls):
             self.assertEqual(rows[0], ["place", "new_place", "owner", "offset", "new_offset", "size", "commitment"])
             self.assertEqual([dict(zip(rows[0], row)) for row in rows[1:]],
                              [self.shown(row) for row in self.moved(deal, table, new)])
-        self.assertEqual(self.files(), sorted(["deal", "deal.owners", *(f"new{i}{e}" for i in range(5) for e in ("", ".owners", ".vz"))]))
+        self.assertEqual(self.files(), sorted(["deal", "deal.owners",
+                                               *(f"new{i}{e}" for i in range(5) for e in ("", ".owners", ".vz"))]))
         for end in ("", ".owners", ".vz"):
             self.path("new0" + end).rename(self.path("new" + end))
         err = err.replace("new4", "new")
-        self.assertIn("records that were built from deal belong to its commitment; those of new are built anew, at the new places", err)
+        self.assertIn("records that were built from deal belong to its commitment; "
+                      "those of new are built anew, at the new places", err)
         self.answer("fsck", "new")
         self.records(deal, new)
 
     def records(self, deal, new):
-        """A record of the old deal is the old deal's alone; at the new places the new deal has others, which are accepted."""
+        """A record of the old deal is the old deal's alone; at the new places the new deal has others, which are
+        accepted."""
         old_root, new_root = (MODEL.commitment(d)[1].hex() for d in (deal, new))
         for row in self.moved(deal, bytes(4), new):
             self.answer("build", "deal", row["place"], "-o", "old", "--force", *GIVEN)
@@ -524,7 +538,8 @@ class Collecting(Calls):
             self.answer("check", new_root, 4096, "record", *GIVEN)
             self.refused(9, "check", new_root, 4096, "old", *GIVEN)
             found = {"offset": row["new_offset"], "size": row["size"], "place": row["new_place"]}
-            self.assertEqual(self.answer("find", "new", row["commitment"]), "".join(f"{k} {v}\n" for k, v in found.items()))
+            self.assertEqual(self.answer("find", "new", row["commitment"]),
+                             "".join(f"{k} {v}\n" for k, v in found.items()))
 
     def test_any_deal_that_can_be_collected(self):
         for i in range(25):
@@ -537,7 +552,8 @@ class Collecting(Calls):
                 if self.rng.randrange(3):
                     _, deal, table = MODEL.cancel(deal, table, self.rng.choice((1, 2)), place)
             deal, table = bytearray(deal), bytearray(table)
-            deal[self.rng.randrange(1024)] ^= self.rng.randrange(2)  # now and then a segment that is not kept: it is moved as it is
+            # now and then a segment that is not kept: it is moved as it is
+            deal[self.rng.randrange(1024)] ^= self.rng.randrange(2)
             if i % 3 == 0:
                 table[self.rng.randrange(4)] = self.rng.randrange(256)
             self.put("deal", bytes(deal))
@@ -563,7 +579,8 @@ class Collecting(Calls):
         self.answer("fsck", "packed")
 
     def test_a_deal_whose_owners_are_not_known(self):
-        """Neither are those of the new one, which so has no table, and is not booked in until somebody says whose its entries are."""
+        """Neither are those of the new one, which so has no table, and is not booked in until somebody says whose its
+        entries are."""
         deal, places = self.booked(1024, (256, 128))
         self.path("deal.owners").unlink()
         new = self.collected(deal, bytes(4))[0]
@@ -571,13 +588,15 @@ class Collecting(Calls):
             name = words[2]
             out, err = self.call(*words, stdin=stdin)
             self.assertEqual({line.split()[2] for line in out.splitlines()[1:]}, {"?"})
-            self.assertIn(f"so none is written for {name}; whose its entries are is said by: vizhuthamen owner {name} HOUSE", err)
+            self.assertIn(f"so none is written for {name}; whose its entries are is said by: "
+                          f"vizhuthamen owner {name} HOUSE", err)
             self.assertEqual(self.get(name), new)
             self.assertFalse(self.path(name + ".owners").exists())
             self.put("segment", self.segment())
             self.failed(DATA, "book", name, "segment")
         self.put("other.owners", bytes(4))
-        self.assertIn("other.owners is there, and is not the table of the new deal", self.failed(DATA, "collect", "deal", "other"))
+        self.assertIn("other.owners is there, and is not the table of the new deal",
+                      self.failed(DATA, "collect", "deal", "other"))
         self.assertFalse(self.path("other").exists())
 
     def test_a_table_of_another_length(self):
@@ -585,7 +604,8 @@ class Collecting(Calls):
         for length in (0, 3, 5, 128, 129, 100000):
             self.put("deal.owners", bytes(length))
             out = self.refused(23, "collect", "deal", "new")
-            self.assertIn(f"deal.owners has {length} bytes, and deal has 4 slots, with a byte each; bring back the right table", out)
+            self.assertIn(f"deal.owners has {length} bytes, and deal has 4 slots, with a byte each; "
+                          "bring back the right table", out)
             value = self.object("collect", "deal", "new", status=23)
             self.assertEqual((value["refused"], "vizhuthamen owner deal HOUSE" in value["hint"]), (["table"], True))
         self.assertEqual((self.get("deal"), self.files()), (deal, ["deal", "deal.owners"]))
@@ -600,7 +620,8 @@ class Collecting(Calls):
         self.path("link").symlink_to("deal")
         os.link(self.path("deal"), self.path("second"))
         for name in ("deal", "./deal", "folder/../deal", str(self.path("deal")), "link", "second"):
-            self.assertIn("is the deal that is collected; NEW must be another file", self.failed(USAGE, "collect", "deal", name))
+            self.assertIn("is the deal that is collected; NEW must be another file",
+                          self.failed(USAGE, "collect", "deal", name))
             self.failed(USAGE, "collect", "link", name)
         self.failed(USAGE, "collect", "deal", "-")
         self.failed(IO, "collect", "deal", "no/such/folder")
@@ -615,7 +636,8 @@ class Collecting(Calls):
                          [line.split()[:2] + line.split()[3:] for line in read.splitlines()])
         self.assertEqual(self.get("new"), self.get("other"))
         with open(self.path("deal"), "rb") as file:
-            ran = subprocess.run([self.program, "collect", "-", "deal"], stdin=file, cwd=self.folder, capture_output=True)
+            ran = subprocess.run([self.program, "collect", "-", "deal"], stdin=file, cwd=self.folder,
+                                 capture_output=True)
         self.assertEqual((ran.returncode, self.get("deal")), (USAGE, deal))
 
     def test_refusals(self):
@@ -638,8 +660,9 @@ class Collecting(Calls):
         over = deal[:1920] + MODEL.entry(bytes(32), 128, 128) + MODEL.entry(bytes(32), 0, 512)
         self.put("deal", over)
         out, err = self.call("collect", "deal", "new", status=20)
-        self.assertEqual(out.splitlines(), ["code 20: two standing entries overlap", "slot 2 (place 1920) overlaps slot 0",
-                                            "slot 3 (place 1984) overlaps slot 0"])
+        self.assertEqual(out.splitlines(),
+                         ["code 20: two standing entries overlap", "slot 2 (place 1920) overlaps slot 0",
+                          "slot 3 (place 1984) overlaps slot 0"])
         for part in ("vizhuthamen fsck deal", "vizhuthamen cancel deal PLACE"):
             self.assertIn(part, err)
         value = self.object("collect", "deal", "new", status=20)
@@ -658,18 +681,20 @@ class Collecting(Calls):
         spoilt[960:] = MODEL.entry(bytes(32), 64, 128)
         self.put("deal", bytes(spoilt))
         error = self.failed(DATA, "collect", "deal", "new")
-        for part in (f"slot 0 (place {places[0]}) is damaged, and the new deal would be without it", "nothing is written",
-                     "vizhuthamen fsck deal", "vizhuthamen repair deal", "--force"):
+        for part in (f"slot 0 (place {places[0]}) is damaged, and the new deal would be without it",
+                     "nothing is written", "vizhuthamen fsck deal", "vizhuthamen repair deal", "--force"):
             self.assertIn(part, error)
         self.assertEqual(self.files(), ["deal", "deal.owners"])
         out, err = self.call("collect", "deal", "new", "--force", "--json")
-        self.assertEqual([(w["slot"], w["state"]) for w in json.loads(out)["left_out"]], [(0, "damaged"), (3, "not standing")])
+        self.assertEqual([(w["slot"], w["state"]) for w in json.loads(out)["left_out"]],
+                         [(0, "damaged"), (3, "not standing")])
         self.assertIn(f"slot 0 (place {places[0]}) is damaged, and is left out\n", err)
         self.assertEqual(self.both("new"), self.collected(bytes(spoilt), self.get("deal.owners")))
 
     def test_permissions_of_the_new_deal(self):
         self.booked(1024, (128,))
-        for mode, mask, expected in ((0o600, 0o022, 0o600), (0o640, 0o022, 0o640), (0o666, 0o022, 0o644), (0o444, 0o077, 0o600)):
+        for mode, mask, expected in ((0o600, 0o022, 0o600), (0o640, 0o022, 0o640), (0o666, 0o022, 0o644),
+                                     (0o444, 0o077, 0o600)):
             self.path("deal").chmod(mode)
             name = f"new-{mode:o}-{mask:o}"
             self.answer("collect", "deal", name, umask=mask)
@@ -681,7 +706,8 @@ class Collecting(Calls):
         self.put(".new.vz-journal", b"vizhuthamen journal 1\n0 6e6577\n")
         self.put(".new.vz-new.0", b"dead")
         for words in (("collect", "deal", "new"), ("new", "new", 1024)):
-            self.assertIn(".new.vz-journal was left by a change of an older deal of that name; remove it first", self.failed(IO, *words))
+            self.assertIn(".new.vz-journal was left by a change of an older deal of that name; remove it first",
+                          self.failed(IO, *words))
         self.path(".new.vz-journal").unlink()
         self.answer("collect", "deal", "new")
         self.assertEqual(self.both("new"), self.collected(deal, self.get("deal.owners")))
@@ -705,8 +731,8 @@ class Houses(Calls):
             kept = self.both()
             self.assertEqual(kept[1], b"\1\1\0\0")
             out = self.book(1, third, 22)
-            hint = ("house 1 holds 2 of the 4 slots of deal, and books while it holds fewer than half of them: cancel an entry of "
-                    "house 1 first, or take another deal; they are shown by: vizhuthamen owner deal")
+            hint = ("house 1 holds 2 of the 4 slots of deal, and books while it holds fewer than half of them: "
+                    "cancel an entry of house 1 first, or take another deal; they are shown by: vizhuthamen owner deal")
             self.assertEqual(out.splitlines()[1:], [hint])
             value = self.object("book", "deal", "segment", "--house", 1, status=22)
             del value["meaning"]
@@ -742,14 +768,16 @@ class Houses(Calls):
         self.assertEqual(kept[1], b"\1\2\0\0")
         for house, place, other in ((1, 832, 2), (2, 768, 1)):
             out, err = self.call("cancel", "deal", place, "--house", house, status=16)
-            self.assertIn(f"(place {place}) holds an entry that stands and is house {other}'s; only house {other} cancels it\n", err)
+            self.assertIn(f"(place {place}) holds an entry that stands and is house {other}'s; "
+                          f"only house {other} cancels it\n", err)
             value = self.object("cancel", "deal", place, "--house", house, status=16)
             self.assertEqual((value["house"], value["owner"]), (house, other))
         self.put("deal.owners", b"\0\7\0\0")
         for place, told in ((768, {"owner": 0}), (832, {"owner": 0, "owner_byte": 7})):
             for house in (1, 2):
                 out, err = self.call("cancel", "deal", place, "--house", house, "--json", status=16)
-                self.assertIn("and is nobody's; no house cancels it until it has an owner: vizhuthamen owner deal HOUSE", err)
+                self.assertIn("and is nobody's; no house cancels it until it has an owner: "
+                              "vizhuthamen owner deal HOUSE", err)
                 value = json.loads(out)
                 self.assertEqual({k: v for k, v in value.items() if k.startswith("owner")}, told)
         self.put("deal.owners", kept[1])
@@ -809,7 +837,8 @@ class Houses(Calls):
         before = self.both()
         for variable in (None, ""):
             err = book(status=USAGE, variable=variable)[1]
-            self.assertIn(f"two houses book in deal; nothing is changed; say which with --house 1 or --house 2 (or {HOUSE})", err)
+            self.assertIn("two houses book in deal; nothing is changed; "
+                          f"say which with --house 1 or --house 2 (or {HOUSE})", err)
         env = {**os.environ, HOUSE: "2"}
         self.assertIn("say which with --house", self.failed(USAGE, "cancel", "deal", (1 << 21) - 704))
         self.assertEqual(self.both(), before)
@@ -827,8 +856,9 @@ class Houses(Calls):
         self.put("strange", self.get("deal"))  # without a table
         before = {name: self.get(name) for name in self.files()}
         for house in (0, 3, 255, 256, 257, 258, (1 << 32) + 1, (1 << 64) - 1):
-            for words in (("book", "deal", "segment"), ("book", "deal", "short"), ("book", "short", "segment"), ("cancel", "deal", 768),
-                          ("cancel", "deal", 1), ("cancel", "short", 1), ("book", "strange", "segment"), ("cancel", "strange", 768)):
+            for words in (("book", "deal", "segment"), ("book", "deal", "short"), ("book", "short", "segment"),
+                          ("cancel", "deal", 768), ("cancel", "deal", 1), ("cancel", "short", 1),
+                          ("book", "strange", "segment"), ("cancel", "strange", 768)):
                 out = self.refused(23, *words, "--house", house)
                 self.assertEqual(out.splitlines()[1:], [f"--house says {house}, which is no house: give 1 or 2"])
             value = self.object("book", "deal", "segment", "--house", house, status=23)
@@ -842,11 +872,13 @@ class Houses(Calls):
         for length in (0, 1, 3, 5, 8, 127, 128, 129, 130, 1 << 16):
             self.put("deal.owners", b"\1" * length)
             self.put("short.owners", b"\1" * length)
-            for words in (("book", "deal", "segment"), ("book", "deal", "short"), ("cancel", "deal", 768), ("cancel", "deal", 1)):
+            for words in (("book", "deal", "segment"), ("book", "deal", "short"), ("cancel", "deal", 768),
+                          ("cancel", "deal", 1)):
                 for house in ((), ("--house", 1), ("--house", 2)):
                     hint = self.refused(23, *words, *house).splitlines()[1]
-                    self.assertIn(f"deal.owners has {length} bytes, and deal has 4 slots, with a byte each; bring back the right "
-                                  "table, or remove it and say whose the entries are: vizhuthamen owner deal HOUSE [PLACE...]", hint)
+                    self.assertIn(f"deal.owners has {length} bytes, and deal has 4 slots, with a byte each; "
+                                  "bring back the right table, or remove it and say whose the entries are: "
+                                  "vizhuthamen owner deal HOUSE [PLACE...]", hint)
             value = self.object("cancel", "deal", 768, status=23)
             self.assertEqual((value["house"], value["refused"], value["hint"]), (1, ["table"], hint))
             self.refused(2, "book", "short", "segment")
@@ -860,7 +892,8 @@ class Houses(Calls):
         self.path("deal.owners").unlink()
         for words in (("book", "deal", "segment"), ("book", "deal", "segment", "--house", 2), ("cancel", "deal", 768)):
             error = self.failed(DATA, *words)
-            for part in ("vizhuthamen: deal.owners is not there, and 2 entries stand in deal: whose is not known", "copy that table too",
+            for part in ("vizhuthamen: deal.owners is not there, and 2 entries stand in deal: whose is not known",
+                         "copy that table too",
                          "vizhuthamen owner deal HOUSE [PLACE...] (0 for nobody)", "nothing is changed"):
                 self.assertIn(part, error)
         self.assertEqual((self.get("deal"), self.files()), (deal, ["deal", "segment"]))
@@ -899,8 +932,8 @@ class Houses(Calls):
 
     def cannot_be_read(self, why, **options):
         """A table is there that cannot be read: nothing is changed, and what the deal holds is shown all the same."""
-        for words in (("book", "deal", "segment"), ("cancel", "deal", 768), ("collect", "deal", "new"), ("owner", "deal"),
-                      ("owner", "deal", 1)):
+        for words in (("book", "deal", "segment"), ("cancel", "deal", 768), ("collect", "deal", "new"),
+                      ("owner", "deal"), ("owner", "deal", 1)):
             self.assertIn(why, self.failed(IO, *words, **options))
         out, err = self.call("list", "deal", **options)
         self.assertEqual((out.splitlines()[1].split()[2:4], why in err), (["kept", "?"], True))
@@ -937,10 +970,12 @@ class Owners(Calls):
         rows = [line.split() for line in self.answer("owner", "deal").splitlines()]
         commitments = [deal[p : p + 32].hex() for p in places]
         self.assertEqual(rows[0], ["slot", "place", "owner", "size", "commitment"])
-        self.assertEqual(rows[1:4], [[str(i), str(p), owner, size, c] for i, p, owner, size, c in
-                                     zip(range(3), places, ("1", "2", "nobody(7)"), ("256", "128", "128"), commitments)])
+        self.assertEqual(rows[1:4],
+                         [[str(i), str(p), owner, size, c] for i, p, owner, size, c in
+                          zip(range(3), places, ("1", "2", "nobody(7)"), ("256", "128", "128"), commitments)])
         self.assertEqual(" ".join(rows[4]), "of 4 slots house 1 holds 1 and house 2 holds 1; 1 entries are nobody's")
-        entry = lambda i, size, owner: {"slot": i, "place": places[i], **owner, "size": size, "commitment": commitments[i]}
+        entry = lambda i, size, owner: {"slot": i, "place": places[i], **owner, "size": size,
+                                        "commitment": commitments[i]}
         self.assertEqual(self.shown(), {**DONE, "entries": 4, "house_1": 1, "house_2": 1, "nobody": 1, "owners": [
             entry(0, 256, {"owner": 1}), entry(1, 128, {"owner": 2}), entry(2, 128, {"owner": 0, "owner_byte": 7})]})
         self.assertEqual(self.both(), (deal, b"\1\2\7\1"))
@@ -954,9 +989,10 @@ class Owners(Calls):
     def test_entries_that_are_nobodys(self):
         self.booked(1024, (256, 128, 128), (1, 2, 1))
         places = 768, 832, 896
-        for table, words, after in ((bytes(4), (1,), b"\1\1\1\0"), (b"\0\2\7\7", (1,), b"\1\2\1\7"), (b"\1\2\7\7", (0,), b"\1\2\0\0"),
-                                    (b"\1\2\7\1", (0,), b"\1\2\0\0"), (bytes(4), (2, 832, 768), b"\2\2\0\0"),
-                                    (b"\7\2\0\0", (0, 768), b"\0\2\0\0"), (b"\1\2\0\0", (2, 896, 832, 896), b"\1\2\2\0"),
+        for table, words, after in ((bytes(4), (1,), b"\1\1\1\0"), (b"\0\2\7\7", (1,), b"\1\2\1\7"),
+                                    (b"\1\2\7\7", (0,), b"\1\2\0\0"), (b"\1\2\7\1", (0,), b"\1\2\0\0"),
+                                    (bytes(4), (2, 832, 768), b"\2\2\0\0"), (b"\7\2\0\0", (0, 768), b"\0\2\0\0"),
+                                    (b"\1\2\0\0", (2, 896, 832, 896), b"\1\2\2\0"),
                                     (b"\1\2\2\0", (1,), b"\1\2\2\0"), (b"\1\2\2\0", (1, 768), b"\1\2\2\0")):
             self.put("deal.owners", table)
             value = self.shown(*words)
@@ -983,7 +1019,8 @@ class Owners(Calls):
         for words, whose, right in (((2, 768), "768 is house 1's", "2 768 --instead-of 1"),
                                     ((2, 896, 768), "768 is house 1's", "2 768 --instead-of 1"),
                                     ((0, 832), "832 is house 2's", "0 832 --instead-of 2"),
-                                    ((1, 832, *meant), "832 is house 2's, and --instead-of says 1", "1 832 --instead-of 2"),
+                                    ((1, 832, *meant), "832 is house 2's, and --instead-of says 1",
+                                     "1 832 --instead-of 2"),
                                     ((2, 896, *meant), "896 is nobody's, and --instead-of says 1", "2 896")):
             error = self.failed(DATA, "owner", "deal", *words)
             right = f"nothing is changed; if that is right: vizhuthamen owner deal {right}\n"
@@ -999,10 +1036,13 @@ class Owners(Calls):
         deal, _ = self.booked(1024, (256, 128), (1, 2))
         for house in (3, 255, 256, 257, 1 << 40):
             value = self.shown(house, status=23)
-            self.assertEqual((value["refused"], value["hint"]), (["house"], f"{house} is no house: give 1 or 2, or 0 for nobody"))
+            self.assertEqual((value["refused"], value["hint"]),
+                             (["house"], f"{house} is no house: give 1 or 2, or 0 for nobody"))
         for place in (0, 769, 1024, 767):
-            self.assertIn("an entry place here is a multiple of 64 from 768 to 960", self.call("owner", "deal", 1, 768, place, status=6)[1])
-        self.assertIn("slot 2 (place 896) is blank; see: vizhuthamen list deal", self.call("owner", "deal", 1, 896, status=16)[1])
+            self.assertIn("an entry place here is a multiple of 64 from 768 to 960",
+                          self.call("owner", "deal", 1, 768, place, status=6)[1])
+        self.assertIn("slot 2 (place 896) is blank; see: vizhuthamen list deal",
+                      self.call("owner", "deal", 1, 896, status=16)[1])
         self.assertEqual(self.both(), (deal, b"\1\2\0\0"))
         self.put("deal.owners", bytes(3))
         self.assertEqual(self.shown(1, status=23)["refused"], ["table"])
@@ -1046,12 +1086,14 @@ class Owners(Calls):
         for length in (0, 3, 5, 1000):
             self.put("deal.owners", bytes(length))
             for command in ("fsck", "repair"):
-                self.assertIn(f"deal.owners has {length} bytes, and deal has 4 slots", self.answer(command, "deal", status=DATA))
+                self.assertIn(f"deal.owners has {length} bytes, and deal has 4 slots",
+                              self.answer(command, "deal", status=DATA))
             value = self.object("fsck", "deal", status=DATA)
             self.assertEqual((value["table"], value["table_bytes"]), ("wrong length", length))
         self.path("deal.owners").unlink()
         for command in ("fsck", "repair"):
-            self.assertIn("deal.owners is not there, and 2 entries stand in deal", self.answer(command, "deal", status=DATA))
+            self.assertIn("deal.owners is not there, and 2 entries stand in deal",
+                          self.answer(command, "deal", status=DATA))
         self.assertEqual(self.object("fsck", "deal", status=DATA)["table"], "missing")
         self.answer("fsck", "-", stdin=deal)  # nothing lies beside a pipe
         self.put("deal", bytes(1024))
@@ -1146,12 +1188,13 @@ class Numbers(Calls):
             meaning, line = self.refused(21, *words).splitlines()
             self.assertEqual(line, hint)
             value = json.loads(self.answer(*words, "--json", status=21))
-            self.assertEqual(value, {"code": 21, "meaning": meaning[len("code 21: "):], "command": words[0], "number": str(NUMBER),
-                                     "record_number": str(OTHER), "hint": hint, "hints": [hint]})
+            self.assertEqual(value, {"code": 21, "meaning": meaning[len("code 21: "):], "command": words[0],
+                                     "number": str(NUMBER), "record_number": str(OTHER), "hint": hint, "hints": [hint]})
         for records in (("other", "mine"), ("mine", "other")):
             value = self.object("settle", root, 1024, *records, *GIVEN, status=21)
             self.assertEqual((value["number"], value["record_number"]), (str(NUMBER), str(OTHER)))
-            self.assertIn(f"record, {hint.replace('other names', 'other, is refused with code 21: it names')}", value["hint"])
+            self.assertIn(f"record, {hint.replace('other names', 'other, is refused with code 21: it names')}",
+                          value["hint"])
         # 1, 2 and 3 come before it; it comes before all else.
         spoilt = bytearray(self.get("other"))
         spoilt[49:57] = bytes(8)
@@ -1192,7 +1235,8 @@ class Streams(Calls):
 
     def test_pieces_as_they_come(self):
         data = self.segment(256)
-        call = subprocess.Popen([self.program, "stream", "-"], cwd=self.folder, stdin=subprocess.PIPE, stdout=subprocess.PIPE)
+        call = subprocess.Popen([self.program, "stream", "-"], cwd=self.folder, stdin=subprocess.PIPE,
+                                stdout=subprocess.PIPE)
         for i in range(0, 256, 30):
             call.stdin.write(data[i : i + 30])
             call.stdin.flush()
@@ -1214,12 +1258,14 @@ class Streams(Calls):
         hint = "and a raw archive of any size is padded and filled up to one by: vizhuthamen stream --raw"
         for size in (0, 1, 31, 33, 96, (1 << 20) + 32):
             self.put("file", bytes(size))
-            for words, name, stdin in ((("stream", "file"), "file", b""), (("stream", "-"), "standard input", bytes(size))):
+            for words, name, stdin in ((("stream", "file"), "file", b""),
+                                       (("stream", "-"), "standard input", bytes(size))):
                 out, err = self.call(*words, status=2, stdin=stdin)
                 self.assertTrue(out.startswith("code 2: "), out)
                 bounds = f"a stream has a power of two from 32 to {1 << 36} bytes"
                 self.assertEqual(err, f"vizhuthamen: {name} has {size} bytes; {bounds}, {hint}\n")
-        # Of bytes that arrive 11 stands before 2, and nothing after the node is read. Of a file the size is judged first, as by `commit`.
+        # Of bytes that arrive 11 stands before 2, and nothing after the node is read. Of a file the size is judged
+        # first, as by `commit`.
         stray = self.put("file", bytes(31) + b"\x40\0")
         self.refused(11, "stream", "-", stdin=stray)
         for command in ("commit", "stream"):
@@ -1235,7 +1281,8 @@ class Streams(Calls):
         self.assertEqual(ran.returncode, 11)
 
     def test_the_size_of_a_file_is_judged_before_its_bytes(self):
-        for option, size in ((), (1 << 36) + 1), ((), (1 << 36) - 32), (("--raw",), MAX_RAW_STREAM + 1), (("--raw",), 1 << 40):
+        for option, size in (((), (1 << 36) + 1), ((), (1 << 36) - 32), (("--raw",), MAX_RAW_STREAM + 1),
+                             (("--raw",), 1 << 40)):
             with open(self.path("file"), "wb") as file:
                 file.truncate(size)
             began = time.monotonic()
@@ -1249,7 +1296,8 @@ class Streams(Calls):
         for option in ((), ("--raw",)):
             with open(self.path("file"), "wb") as file:
                 file.truncate(1 << 27)
-            call = subprocess.Popen([self.program, "stream", *option, "file"], cwd=self.folder, stdout=subprocess.PIPE, stderr=subprocess.PIPE)
+            call = subprocess.Popen([self.program, "stream", *option, "file"], cwd=self.folder, stdout=subprocess.PIPE,
+                                    stderr=subprocess.PIPE)
             while self.place_read(call.pid) == 0:
                 self.assertIsNone(call.poll())
                 time.sleep(0.001)
@@ -1279,7 +1327,8 @@ class Streams(Calls):
             self.assertEqual(self.call("stream", *option, "file"), (out, ""))
             self.assertRegex(err, line)
             self.assertLess(err.count("\n"), 4)
-        self.assertRegex(self.call("stream", "-", "--progress", stdin=data)[1], r"\Avizhuthamen: hashing: \d MiB, \d+ MiB/s\n")
+        self.assertRegex(self.call("stream", "-", "--progress", stdin=data)[1],
+                         r"\Avizhuthamen: hashing: \d MiB, \d+ MiB/s\n")
 
 
 class RawStreams(Calls):
@@ -1391,7 +1440,8 @@ class States(Calls):
             expected = self.answer(*words)
             state = self.killed(*words)
             error = self.failed(DATA, *words, "--state", "state")
-            self.assertIn("state is the state of a run that has not ended; go on with --resume, or remove state to begin again", error)
+            self.assertIn("state is the state of a run that has not ended; "
+                          "go on with --resume, or remove state to begin again", error)
             self.assertEqual(self.get("state"), state)
             self.assertEqual(self.call(*words, "--state", "state", "--resume"), (expected, ""))
             self.assertEqual(self.files(), ["file"])
@@ -1399,10 +1449,11 @@ class States(Calls):
     def test_an_answer_that_cannot_be_written_leaves_the_state(self):
         self.file(size=1 << 20)
         with open("/dev/full", "wb") as full:
-            ran = subprocess.run([self.program, "stream", "--raw", "file", "--state", "state"], cwd=self.folder, stdout=full,
-                                 stderr=subprocess.PIPE)
+            ran = subprocess.run([self.program, "stream", "--raw", "file", "--state", "state"], cwd=self.folder,
+                                 stdout=full, stderr=subprocess.PIPE)
         self.assertEqual(ran.returncode, IO)
-        self.assertEqual(self.answer("stream", "--raw", "file", "--state", "state", "--resume"), self.answer("stream", "--raw", "file"))
+        self.assertEqual(self.answer("stream", "--raw", "file", "--state", "state", "--resume"),
+                         self.answer("stream", "--raw", "file"))
 
     def test_damaged_and_foreign_states(self):
         self.file()
@@ -1436,7 +1487,8 @@ class States(Calls):
         with open(self.path("file"), "ab") as file:
             file.write(b"1")
         error = self.failed(DATA, *words)
-        self.assertIn(f"file has {(1 << 25) + 1} bytes, and had {1 << 25} when the state was kept; remove state and begin again", error)
+        self.assertIn(f"file has {(1 << 25) + 1} bytes, and had {1 << 25} when the state was kept; "
+                      "remove state and begin again", error)
         os.truncate(self.path("file"), 1 << 25)
         self.assertIn("file was changed after the state was kept", self.failed(DATA, *words))
         os.utime(self.path("file"), ns=(before.st_atime_ns, before.st_mtime_ns))
@@ -1448,7 +1500,8 @@ class States(Calls):
 
     def test_what_has_no_state(self):
         data = self.segment(64)
-        self.assertIn("standard input is not a regular file", self.failed(USAGE, "stream", "-", "--state", "state", stdin=data))
+        self.assertIn("standard input is not a regular file",
+                      self.failed(USAGE, "stream", "-", "--state", "state", stdin=data))
         self.failed(USAGE, "stream", "/dev/zero", "--state", "state")
         self.put("empty", b"")
         self.failed(USAGE, "stream", "empty", "--state", "state")
@@ -1487,7 +1540,8 @@ class Archives(Calls):
             self.put("raw", bytes(size))
             out, err = self.call("pad", "raw", status=2)
             self.assertTrue(out.startswith("code 2: "), out)
-            self.assertIn(f"raw has {size} bytes; an archive has from 1 to {MAX_RAW} bytes, and the commitment of a longer one", err)
+            self.assertIn(f"raw has {size} bytes; an archive has from 1 to {MAX_RAW} bytes, "
+                          "and the commitment of a longer one", err)
         segment = self.put("segment", pad(b"\xff" * 128, bytes(130))[2])
         for n in (0, MAX_RAW + 1, (1 << 64) - 1):
             self.refused(2, "unpad", n, "segment")
@@ -1524,14 +1578,15 @@ class Json(Calls):
             self.assertEqual((hashed["commitment"], hashed["size"]), (root, 1024))
         self.put("segment", deal[:256])
         again = self.object("book", "deal", "segment", status=15)
-        self.assertEqual((again["offset"], again["place"], again["commitment"], again["house"]), (0, places[0], commitment, 1))
+        self.assertEqual((again["offset"], again["place"], again["commitment"], again["house"]),
+                         (0, places[0], commitment, 1))
         self.assertNotIn("number", self.object("list", "other"))
         listed = self.object("list", "deal")
         self.assertEqual((listed["size"], listed["number"], listed["start"]), (1024, str(NUMBER), 768))
         slots = listed["slots"]
         self.assertEqual([s["state"] for s in slots], ["kept", "kept", "blank", "blank"])
-        self.assertEqual(slots[0], {"slot": 0, "place": places[0], "state": "kept", "owner": 1, "offset": 0, "size": 256,
-                                    "commitment": commitment})
+        self.assertEqual(slots[0], {"slot": 0, "place": places[0], "state": "kept", "owner": 1, "offset": 0,
+                                    "size": 256, "commitment": commitment})
         self.assertEqual((listed["table"], "owner" in slots[2]), ("whole", False))
         tally = self.object("tally", "deal")
         self.assertEqual((tally["blank"], tally["damaged"], tally["valid"]), (2, 0, 2))
@@ -1547,7 +1602,8 @@ class Json(Calls):
         collected = self.object("collect", "deal", "collected")
         self.assertEqual(([m["new_place"] for m in collected["moved"]], collected["number"]), (places, str(NUMBER)))
         cancelled = self.object("cancel", "deal", places[0])
-        self.assertEqual(cancelled, {**DONE, "offset": 0, "place": places[0], "size": 256, "commitment": commitment, "house": 1})
+        self.assertEqual(cancelled,
+                         {**DONE, "offset": 0, "place": places[0], "size": 256, "commitment": commitment, "house": 1})
         self.assertEqual(self.object("cancel", "deal", places[0], status=16)["house"], 1)
         fields = self.object("show", "record")["fields"]
         self.assertEqual([f["tag"] for f in fields], [1, 2, 3, 4, 5, 6, 7])
@@ -1560,7 +1616,8 @@ class Json(Calls):
 
     def test_refusals(self):
         self.booked()
-        self.assertEqual(self.object("find", "deal", "00" * 31, status=1), {"code": 1, "meaning": "a commitment is not 32 bytes long"})
+        self.assertEqual(self.object("find", "deal", "00" * 31, status=1),
+                         {"code": 1, "meaning": "a commitment is not 32 bytes long"})
         self.assertEqual(self.object("build", "deal", 960, *GIVEN, status=16)["code"], 16)
         self.put("record", b"\2\10\0" + b"\xff" * 8)
         shown = self.object("show", "record", status=3)
@@ -1591,7 +1648,8 @@ class Refusals(Calls):
         for length in (244, 234):  # cut, and without its number
             self.put("cut", record[:length])
             self.refused(3, "check", root, 512, "cut", *GIVEN)
-        cases = ((4, 49, 0), (5, 38, 64), (6, 60, 1), (7, 50, 1), (8, 34, 255), (9, 72, record[72] ^ 1), (10, 233, record[233] ^ 1),
+        cases = ((4, 49, 0), (5, 38, 64), (6, 60, 1), (7, 50, 1), (8, 34, 255), (9, 72, record[72] ^ 1),
+                 (10, 233, record[233] ^ 1),
                  (19, 102, 255), (19, 233, 64), (21, 237, record[237] ^ 1), (21, 244, record[244] ^ 128))
         for code, at, value in cases:
             self.changed(record, at, value)
@@ -1623,7 +1681,8 @@ class Refusals(Calls):
 
     def test_wrong_sizes_are_named(self):
         self.put("short", bytes(1000))
-        for words in (("list", "short"), ("audit", "short"), ("tally", "short"), ("book", "short", "short"), ("find", "short", "00" * 32),
+        for words in (("list", "short"), ("audit", "short"), ("tally", "short"), ("book", "short", "short"),
+                      ("find", "short", "00" * 32),
                       ("build", "short", 0, *GIVEN), ("commit", "short"), ("settle-deal", "short", "short", *GIVEN),
                       ("number", "short", 7), ("owner", "short"), ("owner", "short", 1)):
             out, err = self.call(*words, status=2)
@@ -1661,8 +1720,10 @@ class Usage(Calls):
         for usage in ("number DEAL [N] [--no-wait] [--instead-of N]", "check COMMITMENT SIZE RECORD --number N",
                       "owner DEAL [HOUSE] [PLACE...|--slot N] [--no-wait] [--instead-of N]",
                       "build DEAL PLACE|--slot N [--output FILE] [--force] [--number N]",
-                      "cancel DEAL PLACE|--slot N [OPTIONS]", "commit [--raw] FILE", "book DEAL [--raw] SEGMENT [OPTIONS]",
-                      "find DEAL COMMITMENT|--raw FILE [--output FILE] [--force]", "prove DEAL [--segment] FILE --output FILE [OPTIONS]",
+                      "cancel DEAL PLACE|--slot N [OPTIONS]", "commit [--raw] FILE",
+                      "book DEAL [--raw] SEGMENT [OPTIONS]",
+                      "find DEAL COMMITMENT|--raw FILE [--output FILE] [--force]",
+                      "prove DEAL [--segment] FILE --output FILE [OPTIONS]",
                       "verify PROOF FILE [--commitment COMMITMENT] [--number N] [--size SIZE]",
                       "pack FILE... --deal DEAL [OPTIONS]",
                       "extract DEAL [NAME...] [--force] [--no-wait] [--to FOLDER]",
@@ -1678,13 +1739,13 @@ class Usage(Calls):
                  ("settle", "00", "512", "-", "-", *GIVEN), ("settle", "00", "512", "r", "r"),
                  ("check", "00", "512", "r"), ("check", "00", "512", "r", "--number", "0x1"),
                  ("check", "00", "512", "r", "--number", 1 << 64), ("number", "d", -1), ("number", "d", 1 << 64),
-                 ("number", "-"), ("number", "-", 1),
-                 ("number", "d", "--instead-of", 1), ("owner", "-"), ("owner", "-", 1), ("owner", "d", "--instead-of", 1),
-                 ("owner", "d", 1, "--instead-of", 3), ("owner", "d", "x"), ("book", "d", "s", "--house", "x"),
-                 ("new", "d", "512", "--number", ""),
-                 ("build", "d", str(1 << 64)), ("build", "d", "256", "-o", "-", "--json"), ("new", "-", "512"), ("book", "-", "s"),
-                 ("list", ""), ("audit",), ("audit", "d", "e"), ("audit", "d", "--output", "f"), ("audit", "d", "--no-wait"),
-                 ("playback", "l"), ("playback", "l", "512"), ("playback", "512", ""), ("playback", "512", "l", "--log", "m"), ("log",),
+                 ("number", "-"), ("number", "-", 1), ("number", "d", "--instead-of", 1), ("owner", "-"),
+                 ("owner", "-", 1), ("owner", "d", "--instead-of", 1), ("owner", "d", 1, "--instead-of", 3),
+                 ("owner", "d", "x"), ("book", "d", "s", "--house", "x"), ("new", "d", "512", "--number", ""),
+                 ("build", "d", str(1 << 64)), ("build", "d", "256", "-o", "-", "--json"), ("new", "-", "512"),
+                 ("book", "-", "s"), ("list", ""), ("audit",), ("audit", "d", "e"), ("audit", "d", "--output", "f"),
+                 ("audit", "d", "--no-wait"), ("playback", "l"), ("playback", "l", "512"), ("playback", "512", ""),
+                 ("playback", "512", "l", "--log", "m"), ("log",),
                  ("log", "l", "m"), ("book", "d", "s", "--log", "-"), ("collect", "d", "n", "--log", "l"))
         for words in calls:
             self.failed(USAGE, *words)
@@ -1722,15 +1783,16 @@ class Usage(Calls):
         deal, places = self.booked()
         self.put("record", MODEL.build(deal, NUMBER, places[0])[1])
         self.put("empty", b"")
-        words = [*COMMANDS, "deal", "record", "empty", "missing", ".", "-", "--json", "--output", "made", "--", "0", "512", "1024",
-                 "--force", "--no-wait", "--new-owner", "--segment", "--raw", "--commitment", "--place", "--number",
-                 "--instead-of", "--house", "--state", "--resume", "--progress", "--slot", "--man", "bash", "--cid", "--size",
-                 "--deal", "--records", "--to", "--reopen", "--log", "log",
+        words = [*COMMANDS, "deal", "record", "empty", "missing", ".", "-", "--json", "--output", "made", "--", "0",
+                 "512", "1024", "--force", "--no-wait", "--new-owner", "--segment", "--raw", "--commitment", "--place",
+                 "--number", "--instead-of", "--house", "--state", "--resume", "--progress", "--slot", "--man", "bash",
+                 "--cid", "--size", "--deal", "--records", "--to", "--reopen", "--log", "log",
                  str(places[0]), "00" * 32, "ff", "", "\udcff", "--help", MODEL.commitment(deal)[1].hex()]
         for _ in range(400):
             call = [self.rng.choice(COMMANDS), *self.rng.choices(words, k=self.rng.randrange(5))]
             self.put("noise", self.rng.randbytes(self.rng.randrange(400)))
-            ran = subprocess.run([self.program, *call], input=self.rng.randbytes(300), capture_output=True, cwd=self.folder)
+            ran = subprocess.run([self.program, *call], input=self.rng.randbytes(300), capture_output=True,
+                                 cwd=self.folder)
             self.assertIn(ran.returncode, (*range(25), USAGE, DATA, NOT_PROVED, IO), call)
             self.assertNotIn(b"panicked", ran.stderr, call)
             self.put("deal", deal)
@@ -1744,12 +1806,13 @@ class Usage(Calls):
             if self.rng.randrange(2):
                 self.put("file.owners", self.rng.randbytes(self.rng.choice((4, 4, 3, 0, 200))))
             raw_length = str(len(data) * 127 // 128)
-            for words in (("show", "file"), ("list", "file"), ("audit", "file"), ("tally", "file"), ("commit", "file"), ("stream", "file"),
+            for words in (("show", "file"), ("list", "file"), ("audit", "file"), ("tally", "file"), ("commit", "file"),
+                          ("stream", "file"),
                           ("stream", "--raw", "file"), ("settle-deal", "file", "file", "--number", "7"),
                           ("pad", "file"), ("unpad", raw_length, "file"), ("fsck", "file"),
                           ("owner", "file"), ("log", "file"), ("playback", "1024", "file"),
-                          *((("collect", "file", "new"), ("salvage", "file", "out"), ("owner", "file", "1"), ("cancel", "file", "832"),
-                             ("repair", "file")) if i % 8 == 0 else ())):
+                          *((("collect", "file", "new"), ("salvage", "file", "out"), ("owner", "file", "1"),
+                             ("cancel", "file", "832"), ("repair", "file")) if i % 8 == 0 else ())):
                 ran = subprocess.run([self.program, *words], capture_output=True, cwd=self.folder)
                 self.assertIn(ran.returncode, (*range(25), DATA), words)
                 self.assertNotIn(b"panicked", ran.stderr, words)
@@ -1762,13 +1825,13 @@ class Failures(Calls):
     def test_files_that_cannot_be_read(self):
         self.booked()
         self.path("folder").mkdir()
-        for words in (("commit", "missing"), ("commit", "folder"), ("stream", "missing"), ("stream", "folder"), ("list", "missing"),
-                      ("pad", "missing"), ("pad", "folder"), ("unpad", 127, "missing"), ("unpad", 127, "folder"),
-                      ("audit", "missing"), ("audit", "folder"), ("tally", "missing"), ("list", "folder"), ("book", "missing", "deal"), ("book", "folder", "deal"),
-                      ("book", "deal", "missing"), ("cancel", "missing", 768), ("cancel", "folder", 768), ("collect", "missing", "new"),
-                      ("collect", "folder", "new"),
-                      ("show", "missing"), ("settle-deal", "deal", "missing", *GIVEN),
-                      ("check", "00" * 32, 512, "missing", *GIVEN),
+        for words in (("commit", "missing"), ("commit", "folder"), ("stream", "missing"), ("stream", "folder"),
+                      ("list", "missing"), ("pad", "missing"), ("pad", "folder"), ("unpad", 127, "missing"),
+                      ("unpad", 127, "folder"), ("audit", "missing"), ("audit", "folder"), ("tally", "missing"),
+                      ("list", "folder"), ("book", "missing", "deal"), ("book", "folder", "deal"),
+                      ("book", "deal", "missing"), ("cancel", "missing", 768), ("cancel", "folder", 768),
+                      ("collect", "missing", "new"), ("collect", "folder", "new"), ("show", "missing"),
+                      ("settle-deal", "deal", "missing", *GIVEN), ("check", "00" * 32, 512, "missing", *GIVEN),
                       ("build", "missing", 0, *GIVEN), ("build", "missing", 0), ("find", "missing", "00" * 32),
                       ("number", "missing"), ("number", "folder"), ("number", "missing", 7), ("number", "folder", 7),
                       ("owner", "missing"), ("owner", "folder"), ("owner", "missing", 1), ("owner", "folder", 1)):
@@ -1794,7 +1857,8 @@ class Failures(Calls):
         self.put("segment", self.segment())
         before = self.both()
         for size in (0, 3, 100, 1023):
-            self.assertIn("File too large", self.failed(IO, "book", "deal", "segment", "--house", 2, **self.limited(size, True)))
+            self.assertIn("File too large",
+                          self.failed(IO, "book", "deal", "segment", "--house", 2, **self.limited(size, True)))
             self.assertEqual((self.both(), self.files()), (before, ["deal", "deal.owners", "segment"]))
         self.answer("book", "deal", "segment", "--house", 2, **self.limited(1024, True))
 
@@ -1827,7 +1891,8 @@ class Failures(Calls):
         for i in range(40):
             self.put("deal", old[0])
             self.put("deal.owners", old[1])
-            call = subprocess.Popen([self.program, "book", "deal", "segment"], cwd=self.folder, stdout=subprocess.DEVNULL)
+            call = subprocess.Popen([self.program, "book", "deal", "segment"], cwd=self.folder,
+                                    stdout=subprocess.DEVNULL)
             time.sleep(span * i / 32)
             call.kill()
             call.wait()
@@ -1930,5 +1995,6 @@ class Failures(Calls):
 
 if __name__ == "__main__":
     if not BINARY.is_file():
-        raise SystemExit(f"cli_test: {BINARY} is not there; run: cargo build --release --offline --manifest-path rust/Cargo.toml")
+        raise SystemExit(f"cli_test: {BINARY} is not there; run: "
+                         "cargo build --release --offline --manifest-path rust/Cargo.toml")
     unittest.main()

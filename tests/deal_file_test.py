@@ -24,7 +24,8 @@ class Deals(Calls):
     """Deals of the test's own, and what is beside them."""
 
     def deal_of(self, size, sizes, name="deal", houses=None):
-        """A deal file that keeps segments of these sizes, with its table: its bytes, the segments, and their entries' places."""
+        """A deal file that keeps segments of these sizes, with its table: its bytes, the segments, and their entries'
+        places."""
         segments = [self.segment(s + 32)[:s] for s in sizes]
         deal, table, places = self.keeping(size, segments, houses)
         self.put_both(deal, table, name)
@@ -63,7 +64,8 @@ class Locks(Deals):
         self.put("segment", self.segment())
         before = self.get("deal")
         held = self.held()
-        for words in (("book", "deal", "segment"), ("cancel", "deal", 768), ("collect", "deal", "new"), ("repair", "deal"),
+        for words in (("book", "deal", "segment"), ("cancel", "deal", 768), ("collect", "deal", "new"),
+                      ("repair", "deal"),
                       ("fsck", "deal"), ("salvage", "deal", "out"), ("number", "deal", 7), ("owner", "deal", 2)):
             self.assertIn("in use by another process", self.failed(BUSY, *words, "--no-wait"))
         self.assertEqual((self.get("deal"), self.files()), (before, ["deal", "deal.owners", "segment"]))
@@ -88,7 +90,8 @@ class Locks(Deals):
         deal, _, places = self.deal_of(1024, (128,))
         self.answer("number", "deal", NUMBER)
         self.held()
-        for words in (("list", "deal"), ("audit", "deal"), ("tally", "deal"), ("commit", "deal"), ("build", "deal", places[0]),
+        for words in (("list", "deal"), ("audit", "deal"), ("tally", "deal"), ("commit", "deal"),
+                      ("build", "deal", places[0]),
                       ("number", "deal"), ("owner", "deal"), ("find", "deal", deal[places[0] : places[0] + 32].hex())):
             self.answer(*words)
 
@@ -177,8 +180,8 @@ class Locks(Deals):
 
 
 class Races(Deals):
-    """Calls at once, by both houses. Their answers, and deal and table afterwards, must be those of the same calls one after the other,
-    in some order."""
+    """Calls at once, by both houses. Their answers, and deal and table afterwards, must be those of the same calls one
+    after the other, in some order."""
 
     def outcome(self, state, call):
         """Exit status, what is made or told, and deal and table afterwards, by the rules."""
@@ -214,8 +217,8 @@ class Races(Deals):
 
     def start(self, name, what, *house):
         options = [option for number in house for option in ("--house", str(number))]
-        return subprocess.Popen([self.program, name, "deal", str(what), *options], cwd=self.folder, stdout=subprocess.PIPE,
-                                stderr=subprocess.PIPE)
+        return subprocess.Popen([self.program, name, "deal", str(what), *options], cwd=self.folder,
+                                stdout=subprocess.PIPE, stderr=subprocess.PIPE)
 
     def at_once(self, calls):
         """Starts calls at once on a deal. Gives their answers: the exit status, and what was made or told."""
@@ -231,7 +234,8 @@ class Races(Deals):
         met = set()
         for i in range(16):
             count = self.rng.randrange(1, 4)
-            _, _, places = self.deal_of(1024, self.rng.sample(sizes, count), houses=self.rng.sample((1, 1, 2, 2), count))
+            _, _, places = self.deal_of(1024, self.rng.sample(sizes, count),
+                                        houses=self.rng.sample((1, 1, 2, 2), count))
             for s in range(2):
                 self.put(f"s{s}", self.segment(256)[: self.rng.choice(sizes)])
             house = lambda: self.rng.choice((1, 2))
@@ -247,7 +251,8 @@ class Races(Deals):
         self.assertEqual(self.files(), sorted(["deal", "deal.owners", "deal.vz", "s0", "s1", *made]))
 
     def test_no_booking_of_two_houses_is_lost(self):
-        """Processes of both houses book different segments, and all of the same ones: each house keeps each once, and the table says so."""
+        """Processes of both houses book different segments, and all of the same ones: each house keeps each once, and
+        the table says so."""
         for processes in (2, 4, 8):
             self.put_both(bytes(MIB * 2), bytes(16))
             segments = [self.put(f"s{i}", self.segment(self.rng.choice((128, 256, 512)))) for i in range(4)]
@@ -340,7 +345,8 @@ class Races(Deals):
             self.put("deal.owners", bytes(4))
             self.put("s0", self.segment())
             calls = [("book", "deal", "s0", "--house", "1"), ("owner", "deal", "2")]
-            started = [subprocess.Popen([self.program, *call], cwd=self.folder, stdout=subprocess.DEVNULL, stderr=subprocess.DEVNULL)
+            started = [subprocess.Popen([self.program, *call], cwd=self.folder, stdout=subprocess.DEVNULL,
+                                        stderr=subprocess.DEVNULL)
                        for call in calls]
             self.assertEqual([call.wait(timeout=60) for call in started], [0, 0])
             self.assertEqual(self.get("deal.owners"), b"\2\2\1\0")
@@ -362,7 +368,8 @@ class Races(Deals):
             before = self.both()
             self.path("deal.vz").unlink(missing_ok=True)
             segments = [(self.put(f"s{s}", self.segment()), 1 + s) for s in range(2)]
-            calls = [("book", "deal", "s0", "--house", "1"), ("number", "deal", str(i)), ("book", "deal", "s1", "--house", "2")]
+            calls = [("book", "deal", "s0", "--house", "1"), ("number", "deal", str(i)),
+                     ("book", "deal", "s1", "--house", "2")]
             started = [subprocess.Popen([self.program, *call], cwd=self.folder, stdout=subprocess.DEVNULL)
                        for call in calls]
             self.assertEqual([call.wait(timeout=60) for call in started], [0, 0, 0])
@@ -420,7 +427,8 @@ class FreeSlots(Deals):
     def test_a_valid_entry_that_does_not_stand_is_not_booked_over(self):
         deal = self.put("deal", bytes(768) + MODEL.entry(bytes(32), 64, 128) + bytes(192))
         segment = self.put("segment", self.segment())
-        self.assertIn("slot 0 (place 768) holds an entry that does not stand", self.failed(DATA, "book", "deal", "segment"))
+        self.assertIn("slot 0 (place 768) holds an entry that does not stand",
+                      self.failed(DATA, "book", "deal", "segment"))
         self.assertEqual(self.get("deal"), deal)
         self.answer("book", "deal", "segment", "--force")
         self.assertEqual(self.both(), self.booked_by(1, segment, (deal, bytes(4))))
@@ -476,10 +484,13 @@ class ByteStreams(Deals):
     def test_a_closed_standard_output_is_an_error_before_anything_is_changed(self):
         deal, *_ = self.deal_of(1024, (128,))
         self.put("segment", self.segment())
-        for words in (("list", "deal"), ("audit", "deal"), ("book", "deal", "segment"), ("cancel", "deal", "768"), ("collect", "deal", "other"),
+        for words in (("list", "deal"), ("audit", "deal"), ("book", "deal", "segment"), ("cancel", "deal", "768"),
+                      ("collect", "deal", "other"),
                       ("new", "other", "512"), ("pad", "segment", "-o", "-"), ("--help",)):
-            ran = subprocess.run(["sh", "-c", '"$0" "$@" >&-', self.program, *words], cwd=self.folder, capture_output=True)
-            self.assertEqual((ran.returncode, ran.stderr), (IO, b"vizhuthamen: standard output is closed; nothing is done\n"))
+            ran = subprocess.run(["sh", "-c", '"$0" "$@" >&-', self.program, *words], cwd=self.folder,
+                                 capture_output=True)
+            self.assertEqual((ran.returncode, ran.stderr),
+                             (IO, b"vizhuthamen: standard output is closed; nothing is done\n"))
         self.assertEqual((self.get("deal"), self.files()), (deal, ["deal", "deal.owners", "segment"]))
         ran = subprocess.run([self.program, "list", "deal"], cwd=self.folder, stdout=subprocess.DEVNULL)
         self.assertEqual(ran.returncode, 0)
@@ -505,8 +516,9 @@ class Sidecar(Deals):
         self.answer("book", "deal", "segment")
         os.truncate(self.path("deal"), MIB)
         cut = self.both()
-        for words in (("book", "deal", "segment"), ("cancel", "deal", MIB - 64), ("collect", "deal", "new"), ("repair", "deal"),
-                      ("list", "deal"), ("audit", "deal"), ("tally", "deal"), ("commit", "deal"), ("stream", "deal"), ("build", "deal", 0),
+        for words in (("book", "deal", "segment"), ("cancel", "deal", MIB - 64), ("collect", "deal", "new"),
+                      ("repair", "deal"), ("list", "deal"), ("audit", "deal"), ("tally", "deal"), ("commit", "deal"),
+                      ("stream", "deal"), ("build", "deal", 0),
                       ("build", "deal", 0, *GIVEN), ("find", "deal", "00" * 32), ("settle-deal", "deal", "segment"),
                       ("number", "deal"), ("number", "deal", 7), ("owner", "deal"), ("owner", "deal", 1)):
             error = self.failed(DATA, *words)
@@ -604,7 +616,8 @@ class Sidecar(Deals):
         self.deal_of(1024, (128,))
         expected = self.answer("list", "deal").replace("kept   1 ", "kept   ? ")
         for command in ("list", "audit", "fsck", "commit", "stream"):
-            ran = subprocess.run(["bash", "-c", f'"$0" {command} <(cat deal)', self.program], cwd=self.folder, capture_output=True)
+            ran = subprocess.run(["bash", "-c", f'"$0" {command} <(cat deal)', self.program], cwd=self.folder,
+                                 capture_output=True)
             self.assertEqual(ran.returncode, 0, ran.stderr)
             self.assertTrue(command != "list" or ran.stdout.decode() == expected)
 
@@ -628,13 +641,14 @@ class Fsck(Deals):
         number = lambda data: int.from_bytes(data, "little")
         offsets = [number(entry(i)[32:40]) for i in range(5)]
         spoilt = bytearray(deal)
-        spoilt[offsets[0] + 31] |= 0x80             # slot 0: stray bits in its area
-        spoilt[places[1] + 50] ^= 4                 # slot 1: damaged
-        spoilt[offsets[2] + 100] ^= 4               # slot 2: not kept
-        spoilt[places[3] : places[3] + 64] = MODEL.entry(bytes(32), 64, 128)        # slot 3: not standing
-        spoilt[places[4] : places[4] + 64] = MODEL.entry(bytes(32), offsets[2], 128)  # slot 4: over slot 2, and not kept
-        spoilt[MIB + 63] |= 0xc0                    # in no entry's area
-        spoilt[2 * MIB - 33] |= 0x40                # in the last slot
+        spoilt[offsets[0] + 31] |= 0x80  # slot 0: stray bits in its area
+        spoilt[places[1] + 50] ^= 4  # slot 1: damaged
+        spoilt[offsets[2] + 100] ^= 4  # slot 2: not kept
+        spoilt[places[3] : places[3] + 64] = MODEL.entry(bytes(32), 64, 128)  # slot 3: not standing
+        # slot 4: over slot 2, and not kept
+        spoilt[places[4] : places[4] + 64] = MODEL.entry(bytes(32), offsets[2], 128)
+        spoilt[MIB + 63] |= 0xc0  # in no entry's area
+        spoilt[2 * MIB - 33] |= 0x40  # in the last slot
         self.put("deal", bytes(spoilt))
         value = self.object("fsck", "deal", status=DATA)
         self.assertEqual(value["stray"], [
@@ -642,8 +656,9 @@ class Fsck(Deals):
             {"offset": MIB + 63, "bits": 0xc0, "node": MIB // 32 + 1, "slots": []},
             {"offset": 2 * MIB - 33, "bits": 0x40, "node": 2 * MIB // 32 - 2, "slots": [], "index_slot": 15}])
         wrong = [(w["slot"], w["state"], w.get("overlaps")) for w in value["wrong"]]
-        self.assertEqual(wrong, [(0, "not kept", None), (1, "damaged", None), (2, "not kept", None), (3, "not standing", None),
-                                 (4, "overlapping", 2), (4, "not kept", 2), (15, "damaged", None)])
+        self.assertEqual(wrong,
+                         [(0, "not kept", None), (1, "damaged", None), (2, "not kept", None), (3, "not standing", None),
+                          (4, "overlapping", 2), (4, "not kept", 2), (15, "damaged", None)])
         out = self.answer("fsck", "deal", status=DATA)
         for line in (f"stray bits 0xc0 at byte {MIB + 63}, node {MIB // 32 + 1}, in no entry's area",
                      f"stray bits 0x80 at byte {offsets[0] + 31}, node {offsets[0] // 32}, in the area of slot 0",
@@ -672,7 +687,8 @@ class Fsck(Deals):
         _, n, start = index_numbers(1 << 24)
         for i in range(n):
             size = 1 << (23 - i % 3)
-            deal[start + 64 * i : start + 64 * i + 64] = MODEL.entry(bytes(31) + b"\1", i % 2 * size if i % 3 else 0, size)
+            deal[start + 64 * i : start + 64 * i + 64] = MODEL.entry(
+                bytes(31) + b"\1", i % 2 * size if i % 3 else 0, size)
         self.put_both(bytes(deal), bytes(n))
         once, _ = self.worked("commit", "deal")
         listed, out = self.worked("list", "deal")
@@ -795,8 +811,8 @@ class Salvage(Deals):
     def test_every_segment_that_is_whole(self):
         deal, segments, places = self.deal_of(2 * MIB, (128, 300, 5000, 77, 4096))
         offset = int.from_bytes(deal[places[2] + 32 : places[2] + 40], "little")
-        spoilt = self.changed(deal, (31, deal[31] | 0x80), (offset + 40, deal[offset + 40] ^ 1), (places[3] + 9, deal[places[3] + 9] ^ 2),
-                              (MIB + 31, 0xff))
+        spoilt = self.changed(deal, (31, deal[31] | 0x80), (offset + 40, deal[offset + 40] ^ 1),
+                              (places[3] + 9, deal[places[3] + 9] ^ 2), (MIB + 31, 0xff))
         value = self.object("salvage", "deal", "out", status=DATA)
         self.assertEqual([w["slot"] for w in value["written"]], [0, 1, 3, 4])
         self.assertEqual([w["slot"] for w in value["left_out"]], [2])
@@ -848,8 +864,8 @@ class Replacing(Deals):
         self.put("segment", self.segment())
         # Owner rw, user 1234 rw, group r, mask rw, others none.
         entries = ((1, 6, 0xffffffff), (2, 6, 1234), (4, 4, 0xffffffff), (16, 6, 0xffffffff), (32, 0, 0xffffffff))
-        acl = (2).to_bytes(4, "little") + b"".join(t.to_bytes(2, "little") + p.to_bytes(2, "little") + i.to_bytes(4, "little")
-                                                  for t, p, i in entries)
+        acl = (2).to_bytes(4, "little") + b"".join(
+            t.to_bytes(2, "little") + p.to_bytes(2, "little") + i.to_bytes(4, "little") for t, p, i in entries)
         try:
             os.setxattr(self.path("deal"), "system.posix_acl_access", acl)
         except OSError as error:
@@ -904,7 +920,8 @@ class Replacing(Deals):
         """Runs a script of the shell in a mount of its own; the test is left out where there can be none."""
         self.path("mount").mkdir()
         whole = f'mount -t tmpfs {options} none mount && cp deal deal.owners segment mount && cd mount && {script}'
-        ran = subprocess.run(["unshare", "-m", "sh", "-c", whole, self.program], cwd=self.folder, capture_output=True, text=True)
+        ran = subprocess.run(["unshare", "-m", "sh", "-c", whole, self.program], cwd=self.folder, capture_output=True,
+                             text=True)
         if "mount:" in ran.stderr or "unshare:" in ran.stderr:
             self.skipTest("no mounts here")
         return ran
@@ -925,7 +942,8 @@ class Replacing(Deals):
         self.deal_of(1024, (128,))
         self.put("segment", self.segment())
         self.path("deal").chmod(0o666)
-        calls = ("book deal segment", "cancel deal 768", "new other 512", "collect deal other", "pad segment -o out", "list deal")
+        calls = ("book deal segment", "cancel deal 768", "new other 512", "collect deal other", "pad segment -o out",
+                 "list deal")
         ran = self.mounted("", "mount -o remount,ro none . && { %s; }" % "; ".join(f'"$0" {call}' for call in calls))
         self.assertEqual(ran.stderr.count("Read-only file system"), 5, ran.stderr)
         self.assertEqual(ran.stderr.count("is read-only"), 3, ran.stderr)
@@ -951,9 +969,11 @@ class Replacing(Deals):
         self.assertEqual(len(self.files()), 4)
 
     def test_other_hands_are_noticed(self):
-        """The deal is replaced by another program while a booking waits for its segment: the booking sees the new one."""
+        """The deal is replaced by another program while a booking waits for its segment: the booking sees the new
+        one."""
         self.deal_of(1024, (128,))
-        call = subprocess.Popen([self.program, "book", "deal", "-"], cwd=self.folder, stdin=subprocess.PIPE, stdout=subprocess.PIPE)
+        call = subprocess.Popen([self.program, "book", "deal", "-"], cwd=self.folder, stdin=subprocess.PIPE,
+                                stdout=subprocess.PIPE)
         time.sleep(0.1)
         other, table, _ = self.keeping(1024, (self.segment(256),))
         self.put("other", other)
@@ -965,5 +985,6 @@ class Replacing(Deals):
 
 if __name__ == "__main__":
     if not BINARY.is_file():
-        raise SystemExit(f"deal_file_test: {BINARY} is not there; run: cargo build --release --offline --manifest-path rust/Cargo.toml")
+        raise SystemExit(f"deal_file_test: {BINARY} is not there; run: "
+                         "cargo build --release --offline --manifest-path rust/Cargo.toml")
     unittest.main()

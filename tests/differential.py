@@ -2,10 +2,10 @@
 
 Run from anywhere: python3 tests/differential.py [--count N] [--seed S] [--large] [--memcheck] [--replay PATH]
 
-The calls of tests/cases.py are answered by the model and by the program `replay`, which runs each of them by the C interface and by
-the safe Rust functions: codes, numbers, nodes, views, and the content of all lent memory before and after. The first difference ends
-the run; its case is written to target/differential-failure.bin. --large adds deals of 2^20 and 2^24 bytes, --memcheck runs the
-library under valgrind.
+The calls of tests/cases.py are answered by the model and by the program `replay`, which runs each of them by the C
+interface and by the safe Rust functions: codes, numbers, nodes, views, and the content of all lent memory before and
+after. The first difference ends the run; its case is written to target/differential-failure.bin. --large adds deals of
+2^20 and 2^24 bytes, --memcheck runs the library under valgrind.
 """
 import argparse
 import os
@@ -39,8 +39,8 @@ FAILURE = ROOT / "target" / "differential-failure.bin"
 ROUTINES = NAMES | {STREAM: "stream", PAD: "pad", UNPAD: "unpad"}
 BATCH = 2000
 
-# The codes that a run of the default length must meet. 17 needs a collision of SHA-256, or a tree that is not the deal's, and 2 of
-# sha256 a long message (--large).
+# The codes that a run of the default length must meet. 17 needs a collision of SHA-256, or a tree that is not the
+# deal's, and 2 of sha256 a long message (--large).
 CODES = {SHA256: {0}, COMMITMENT: {0, 2, 11}, NUMBERS: {0, 2}, MAKE: {0, 1, 8}, READ: {0, 2}, FIND: {0, 1, 2, 11, 16},
          BOOK: {0, 2, 4, 11, 13, 14, 15, 22, 23}, BUILD: {0, 2, 6, 11, 12, 16}, CHECK: {*range(11), 19, 21},
          SETTLE: {*range(11), 18, 19, 21}, SETTLE_DEAL: {0, *range(2, 12), 19, 21}, FIELDS: {0}, AUDIT: {0, 2, 11, 12},
@@ -57,7 +57,8 @@ class Difference(Exception):
 
 
 def code_of(op, line):
-    """The code that an answer's line begins with; of a wrong line of a log 256 and the code that the rules give for it."""
+    """The code that an answer's line begins with; of a wrong line of a log 256 and the code that the rules give for
+    it."""
     first, second, third, *_ = (*line.split(), "", "")
     if op == PLAYBACK:
         return 256 + int(third) if first == "1" else int(second)
@@ -74,18 +75,20 @@ class Comparison:
     def batch(self, calls):
         calls = [c for c in calls if c[0] in ROUTINES]
         with ThreadPoolExecutor(1) as beside:
-            running = beside.submit(subprocess.run, self.command, input=b"".join(map(encode, calls)), capture_output=True)
+            running = beside.submit(subprocess.run, self.command, input=b"".join(map(encode, calls)),
+                                    capture_output=True)
             expected = [answer(c) for c in calls]
         ran = running.result()
         got = ran.stdout.decode(errors="replace").splitlines(keepends=True)
         for i, call in enumerate(calls):
             if i >= len(got) or got[i] != expected[i]:
                 error = ran.stderr.decode(errors="replace").strip()
-                self.differs(call, got[i] if i < len(got) else f"no answer, exit status {ran.returncode}: {error}", expected[i])
+                self.differs(call, got[i] if i < len(got) else f"no answer, exit status {ran.returncode}: {error}",
+                             expected[i])
             self.counts[call[0]][code_of(call[0], expected[i])] += 1
         if ran.returncode or len(got) != len(calls):
-            raise Difference(f"the replay program ended with {ran.returncode} after {len(got)} answers to {len(calls)} calls:\n"
-                             + ran.stderr.decode(errors="replace"))
+            raise Difference(f"the replay program ended with {ran.returncode} after {len(got)} answers to {len(calls)} "
+                             "calls:\n" + ran.stderr.decode(errors="replace"))
 
     def differs(self, call, got, expected):
         FAILURE.parent.mkdir(exist_ok=True)
@@ -175,7 +178,8 @@ def limits():
 
 
 def long_runs(rng):
-    """Runs from 2^20 bytes on, which the safe functions take by parts: random ones, stray bits in every part, and other lengths."""
+    """Runs from 2^20 bytes on, which the safe functions take by parts: random ones, stray bits in every part, and other
+    lengths."""
     for d in (1 << 20, 1 << 20, 1 << 21):
         data = b"".join(node(rng) for _ in range(d // 32))
         tree = rng.randbytes(d - 32)
@@ -317,12 +321,15 @@ def batches(options):
     if options.large:
         rng = random.Random(f"{options.seed}/large")
         yield "lengths at their bounds", limits()
-        yield "deals of eight slots, and the longest deals", edge_cases.long_deals(random.Random(f"{options.seed}/edges"))
+        yield ("deals of eight slots, and the longest deals",
+               edge_cases.long_deals(random.Random(f"{options.seed}/edges")))
         for _ in range(4):
-            yield "deals of 2^20 bytes", large_calls(rng, 1 << 20, [128, 1 << 12, 128, 1 << 18, 1 << 19, 1 << 10, 256, 1 << 15, 128, 64])
+            yield ("deals of 2^20 bytes",
+                   large_calls(rng, 1 << 20, [128, 1 << 12, 128, 1 << 18, 1 << 19, 1 << 10, 256, 1 << 15, 128, 64]))
         yield "deals of 2^24 bytes", large_calls(rng, 1 << 24, [128, 1 << 23, 1 << 16, 1 << 10])
         for mixed in (False, True):
-            yield "trees of 2^20 bytes", tree_cases.kept_tree(rng, 1 << 20, [128, 1 << 12, 1 << 18, 130, 1 << 15, 1, 1 << 10, 128], mixed)
+            yield ("trees of 2^20 bytes",
+                   tree_cases.kept_tree(rng, 1 << 20, [128, 1 << 12, 1 << 18, 130, 1 << 15, 1, 1 << 10, 128], mixed))
         yield "trees of 2^24 bytes", tree_cases.kept_tree(rng, 1 << 24, [1 << 20, 130], False)
         yield "changes of deals of 2^20 bytes", change_cases.large_changes(rng, 1 << 20, 3)
         yield "changes of deals of 2^24 bytes", change_cases.large_changes(rng, 1 << 24, 1)
@@ -335,7 +342,8 @@ def arguments():
     parser.add_argument("--count", type=int,
                         help="random calls on deals of 512 to 4,096 bytes (default 96000; with --memcheck 2000)")
     parser.add_argument("--seed", help="seed of the calls (default: a fresh one, which is printed)")
-    parser.add_argument("--large", action="store_true", help="add deals of 2^20 and 2^24 bytes and lengths at the upper bounds")
+    parser.add_argument("--large", action="store_true",
+                        help="add deals of 2^20 and 2^24 bytes and lengths at the upper bounds")
     parser.add_argument("--memcheck", action="store_true", help="run the library under valgrind's memcheck")
     parser.add_argument("--replay", default=ROOT / "rust" / "target" / "release" / "examples" / "replay", type=Path,
                         help="the replay program")
@@ -360,7 +368,8 @@ def main():
         for name, calls in batches(options):
             comparison.batch(calls)
     except Difference as difference:
-        sys.exit(f"differential: seed {options.seed}, {name}: a difference after {comparison.total()} calls\n{difference}")
+        sys.exit(f"differential: seed {options.seed}, {name}: a difference after {comparison.total()} calls\n"
+                 f"{difference}")
     print(comparison.table())
     unmet = comparison.unmet()
     if unmet and options.count >= ENOUGH:

@@ -1,13 +1,14 @@
 """The examples of README.md and docs/EXAMPLES.md: what they show is what the program prints.
 
-    python3 tests/examples_test.py                       runs all of them and compares (VIZHUTHAMEN names another binary)
-    python3 tests/examples_test.py --show FILE FOLDER    runs those of one document in FOLDER, which is made, and prints them; they
-                                                         are compared too
-    python3 tests/examples_test.py --write               writes into the documents what is printed now
+    python3 tests/examples_test.py                     runs all of them and compares (VIZHUTHAMEN names another binary)
+    python3 tests/examples_test.py --show FILE FOLDER  runs those of one document in FOLDER, which is made, and prints
+                                                       them; they are compared too
+    python3 tests/examples_test.py --write             writes into the documents what is printed now
 
-An example is a block between lines of three back quotes whose first line begins with `$ `. Each line that begins so is a command for bash;
-what follows is what it prints, on standard output and standard error together, and `(exit status N)` where that is not 0. The blocks of a
-document run one after the other in one folder, so that a document shows every file that it uses being made.
+An example is a block between lines of three back quotes whose first line begins with `$ `. Each line that begins so is
+a command for bash; what follows is what it prints, on standard output and standard error together, and
+`(exit status N)` where that is not 0. The blocks of a document run one after the other in one folder, so that a
+document shows every file that it uses being made.
 """
 import difflib
 import os
@@ -72,12 +73,14 @@ def in_new_folder(name):
 
 def main(words):
     if not BINARY.is_file():
-        sys.exit(f"examples_test: {BINARY} is not there; run: cargo build --release --offline --manifest-path rust/Cargo.toml")
+        sys.exit(f"examples_test: {BINARY} is not there; run: "
+                 "cargo build --release --offline --manifest-path rust/Cargo.toml")
     if not words:
         counts = {name: compared(name, *in_new_folder(name)) for name in DOCUMENTS}
         if not all(counts.values()):
             sys.exit(f"examples_test: a document without examples: {counts}")
-        print("examples_test: commands as they are shown:", ", ".join(f"{name} {count}" for name, count in counts.items()))
+        print("examples_test: commands as they are shown:",
+              ", ".join(f"{name} {count}" for name, count in counts.items()))
     elif words == ["--write"]:
         for name in DOCUMENTS:
             (ROOT / name).write_text(in_new_folder(name)[1])

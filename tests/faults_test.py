@@ -1,22 +1,24 @@
 """Kills, signals, errors and races at the command line: python3 tests/faults_test.py [--large] [--seed S] [--folder F].
 
-A library between the program and the C library (tests/c/faults.c, compiled here) counts the calls that go to the system. Each command that
-writes is run once for every call of it and every way in which that call can go wrong:
+A library between the program and the C library (tests/c/faults.c, compiled here) counts the calls that go to the
+system. Each command that writes is run once for every call of it and every way in which that call can go wrong:
 
-  kill     the process is killed before the call, and later calls must find the old state or the new one, nothing between;
+  kill     the process is killed before the call, and later calls must find the old state or the new one, nothing
+           between;
   signal   SIGINT, SIGTERM or SIGHUP comes before the call, and nothing may be left behind, without any later call;
-  error    the call fails with ENOSPC, EIO, EINTR, EXDEV or EACCES, writes too little, or says that it failed when it did not; or it and
-           all later ones that write fail;
+  error    the call fails with ENOSPC, EIO, EINTR, EXDEV or EACCES, writes too little, or says that it failed when it
+           did not; or it and all later ones that write fail;
   pause    the process is stopped before the call, another one books into the same deal, and the first goes on.
 
-So are streams that keep their state: whatever goes wrong, going on from the state gives the answer of an unbroken run. Calls with a log
-(--log) add their lines with the deal or not at all, and whenever a call has ended or was recovered, playback confirms the log, and its rows
-are the deal's entries.
+So are streams that keep their state: whatever goes wrong, going on from the state gives the answer of an unbroken run.
+Calls with a log (--log) add their lines with the deal or not at all, and whenever a call has ended or was recovered,
+playback confirms the log, and its rows are the deal's entries.
 
-All of it is done with unnamed files and without them (`plain`), as on a system that has none. Then processes are killed at random
-moments, and 2 to 8 processes of two houses book into one deal at once, undisturbed, and, with some bookings cancelled again, while others
-of them are killed. Afterwards every booking that was answered with 0 and not cancelled must be in the deal where it was told to be, and
-its house in the table of owners; every deal must be a whole one with its own table, and no file may be there that nobody asked for.
+All of it is done with unnamed files and without them (`plain`), as on a system that has none. Then processes are killed
+at random moments, and 2 to 8 processes of two houses book into one deal at once, undisturbed, and, with some bookings
+cancelled again, while others of them are killed. Afterwards every booking that was answered with 0 and not cancelled
+must be in the deal where it was told to be, and its house in the table of owners; every deal must be a whole one with
+its own table, and no file may be there that nobody asked for.
 """
 import argparse
 import errno
@@ -48,14 +50,16 @@ ERRORS = (errno.ENOSPC, errno.EIO, errno.EINTR, errno.EXDEV, errno.EACCES)
 BREAKDOWNS = (errno.EROFS, errno.EIO, errno.ENOSPC)
 SIGNALS = (signal.SIGINT, signal.SIGTERM, signal.SIGHUP)
 
-# Functions of the C library that the program uses and that need no fault: they do not go to the system, or only at the start, or their
-# failure is not the program's to handle (memory, threads, time).
-PLAIN = set("""_ITM_deregisterTMCloneTable _ITM_registerTMCloneTable __cxa_finalize __cxa_thread_atexit_impl __errno_location __gmon_start__
-__libc_start_main __tls_get_addr __xpg_strerror_r abort bcmp calloc clock_gettime clock_nanosleep closedir dirfd dl_iterate_phdr dlsym free getauxval
-getenv getrandom gettid isatty malloc memcpy memmove memset memchr memcmp mmap64 mprotect munmap pause poll posix_memalign realloc
-sched_getaffinity sched_yield sigaction sigaltstack signal sigpending strlen syscall sysconf getpid geteuid nanosleep""".split())
+# Functions of the C library that the program uses and that need no fault: they do not go to the system, or only at the
+# start, or their failure is not the program's to handle (memory, threads, time).
+PLAIN = set("""_ITM_deregisterTMCloneTable _ITM_registerTMCloneTable __cxa_finalize __cxa_thread_atexit_impl
+__errno_location __gmon_start__ __libc_start_main __tls_get_addr __xpg_strerror_r abort bcmp calloc clock_gettime
+clock_nanosleep closedir dirfd dl_iterate_phdr dlsym free getauxval getenv getrandom gettid isatty malloc memcpy memmove
+memset memchr memcmp mmap64 mprotect munmap pause poll posix_memalign realloc sched_getaffinity sched_yield sigaction
+sigaltstack signal sigpending strlen syscall sysconf getpid geteuid nanosleep""".split())
 
-ELSEWHERE = "elsewhere/"  # what a name begins with that is no file of the folder, but of one on another file system where there is one
+# what a name begins with that is no file of the folder, but of one on another file system where there is one
+ELSEWHERE = "elsewhere/"
 
 
 class Wrong(Exception):
@@ -69,7 +73,8 @@ def check(condition, *what):
 
 def compile_shim(shim):
     source = ROOT / "tests" / "c" / "faults.c"
-    subprocess.run(["gcc", "-Wall", "-Wextra", "-Werror", "-O1", "-shared", "-fPIC", "-o", shim, source, "-ldl"], check=True)
+    subprocess.run(["gcc", "-Wall", "-Wextra", "-Werror", "-O1", "-shared", "-fPIC", "-o", shim, source, "-ldl"],
+                   check=True)
 
 
 def names_of(file, kind):
@@ -78,7 +83,8 @@ def names_of(file, kind):
 
 
 def check_names(shim):
-    """Every function that the program asks of the C library is one that can go wrong here, or is known to need no fault."""
+    """Every function that the program asks of the C library is one that can go wrong here, or is known to need no
+    fault."""
     asked = {n for n in names_of(BINARY, "--undefined-only") if not n.startswith(("_Unwind", "pthread_"))}
     unknown = asked - names_of(shim, "--defined-only") - PLAIN
     check(not unknown, "functions that are not looked at:", *sorted(unknown))
@@ -136,8 +142,8 @@ class Place:
 
 
 def check_flushed(names):
-    """A file is flushed to the disk after its last write and before it gets its name, and the folder is flushed after that; so is a log before
-    the journal goes."""
+    """A file is flushed to the disk after its last write and before it gets its name, and the folder is flushed after
+    that; so is a log before the journal goes."""
     naming = ("linkat", "rename", "renameat2", "unlink")
     written = flushed = named = 0
     for at, name in enumerate(names, 1):
@@ -154,9 +160,9 @@ def fault(at, what):
 
 
 class Scene:
-    """A command, the files before it, what it does to files, its exit statuses (done, and run once more afterwards), and the deal that it
-    makes, if it makes one, with the number that is to be kept of that; the log that it adds lines to. A deal that is made has its table, and its
-    manifest where it gets one, whenever it is there."""
+    """A command, the files before it, what it does to files, its exit statuses (done, and run once more afterwards),
+    and the deal that it makes, if it makes one, with the number that is to be kept of that; the log that it adds lines
+    to. A deal that is made has its table, and its manifest where it gets one, whenever it is there."""
 
     def __init__(self, name, words, before, effect, again, made=None, number=None, status=0, log=None):
         self.name, self.words, self.before, self.effect, self.again = name, words, before, effect, again
@@ -168,13 +174,15 @@ class Scene:
     def whole(self, state):
         """Every file that the command changes is the old one or the new one, and every other is as it was."""
         for name in self.changed:
-            grown = name == self.log and self.after[name].startswith(state.get(name, b"")) and state.get(name, b"").startswith(self.before.get(name, b""))
+            grown = (name == self.log and self.after[name].startswith(state.get(name, b""))
+                     and state.get(name, b"").startswith(self.before.get(name, b"")))
             check(grown or state.get(name) in (self.before.get(name), self.after[name]), self.name, "torn:", name)
         for name, data in self.before.items():
             check(name in state and (name in self.changed or state[name] == data), self.name, "lost:", name)
         check(self.made not in state or self.made + ".owners" in state, self.name, "a deal without its table")
         listed = f"{self.made}.manifest.json"
-        check(self.made not in state or listed not in self.after or listed in state, self.name, "a deal without its manifest")
+        check(self.made not in state or listed not in self.after or listed in state, self.name,
+              "a deal without its manifest")
 
     def litter(self, state):
         return [name for name in state if name not in self.before and name not in self.after]
@@ -182,7 +190,8 @@ class Scene:
     def tidy(self, state):
         """Neither a table nor a manifest is there without the deal that was to be made."""
         for end in (".owners", ".manifest.json"):
-            check(not self.made or self.made in state or self.made + end not in state, self.name, "without its deal:", end)
+            check(not self.made or self.made in state or self.made + end not in state, self.name, "without its deal:",
+                  end)
 
     def together(self, state):
         """All files of the command are the old ones, or all are the new ones."""
@@ -211,7 +220,8 @@ def booked(files, segment, house, name="deal"):
 
 
 def with_line(files, code, deal, table, line, log):
-    """The files after a call with a log that the model has answered: the deal and its table where it changed them, and one line more."""
+    """The files after a call with a log that the model has answered: the deal and its table where it changed them, and
+    one line more."""
     files = with_deal(files, deal, table) if code == 0 else files
     return {**files, log: files.get(log, b"") + line}
 
@@ -239,8 +249,8 @@ def manifest(lines):
 
 
 def packed(files, names, house, log=None):
-    """The files with these packed into the deal for a house, by falling area and then by name, and listed in a manifest where there is none;
-    with a log, which gets a line for each."""
+    """The files with these packed into the deal for a house, by falling area and then by name, and listed in a manifest
+    where there is none; with a log, which gets a line for each."""
     (deal, table), lines, log_lines = both(files), [], b""
     for name in sorted(names, key=lambda name: (-area(segment_length(len(files[name]))), name)):
         raw = files[name]
@@ -274,7 +284,8 @@ def scenes(rng):
     words = "book", "deal", "segment", "--house", 2
     yield Scene("book", words, {**files, "deal.vz": sidecar(old)}, book, (0, 15))
     yield Scene("book, nothing known", words, files, book, (0, 15))
-    yield Scene("book, no table", words, {"segment": segment, "deal": bytes(1024), "deal.vz": sidecar(old)}, book, (0, 15))
+    yield Scene("book, no table", words, {"segment": segment, "deal": bytes(1024), "deal.vz": sidecar(old)}, book,
+                (0, 15))
     cancel = lambda files: with_deal(files, *MODEL.cancel(*both(files), 1, 768)[1:])
     words, files = ("cancel", "deal", 768, "--house", 1), {"deal": new, "deal.owners": owned_new}
     yield Scene("cancel", words, {**files, "deal.vz": sidecar(new)}, cancel, (0, 16))
@@ -305,8 +316,10 @@ def scenes(rng):
     collected = lambda files: MODEL.collect(*both(files), bytes(1024), bytes(4))[1:]
     collect = lambda files: with_deal(still_listed(files, collected(files)[0], "new"), *collected(files), "new", 58)
     yield Scene("collect, listed", ("collect", "deal", "new"), cancel(listed), collect, (0, IO), "new", 58)
-    close = lambda files: {**files, "deal.vz": sidecar(files["deal"], 58) + b"closed %s\n" % MODEL.commitment(files["deal"])[1].hex().encode()}
-    yield Scene("close", ("close", "deal"), {"deal": old, "deal.owners": owned, "deal.vz": sidecar(old, 58)}, close, (0,))
+    close = lambda files: {**files, "deal.vz": sidecar(files["deal"], 58)
+                           + b"closed %s\n" % MODEL.commitment(files["deal"])[1].hex().encode()}
+    yield Scene("close", ("close", "deal"), {"deal": old, "deal.owners": owned, "deal.vz": sidecar(old, 58)}, close,
+                (0,))
     repair = lambda files: {**with_deal(files, old, owned), "deal.before-repair": spoilt}
     yield Scene("repair", ("repair", "deal"), {"deal": spoilt, "deal.owners": owned}, repair, (0, 0))
     output = lambda files: {**files, "record": record}
@@ -320,29 +333,37 @@ def scenes(rng):
 
 
 def logged_scenes(rng, first, segment):
-    """Calls with a log: a line is added with the deal, alone by a call that is refused, to a log that is made, and to one elsewhere."""
-    empty = {"deal": bytes(1024), "deal.owners": bytes(4), "deal.vz": sidecar(bytes(1024)), "segment": segment, "first": first}
+    """Calls with a log: a line is added with the deal, alone by a call that is refused, to a log that is made, and to
+    one elsewhere."""
+    empty = {"deal": bytes(1024), "deal.owners": bytes(4), "deal.vz": sidecar(bytes(1024)), "segment": segment,
+             "first": first}
     book = lambda log: lambda files: book_logged(files, segment, 2, log)
     words = "book", "deal", "segment", "--house", 2, "--log"
     one = book_logged(empty, first, 1)
     yield Scene("book, logged", (*words, "log"), one, book("log"), (0, 15), log="log")
     yield Scene("book, log made", (*words, "log"), empty, book("log"), (0, 15), log="log")
     elsewhere = book_logged(empty, first, 1, ELSEWHERE + "log")
-    yield Scene("book, log elsewhere", (*words, ELSEWHERE + "log"), elsewhere, book(ELSEWHERE + "log"), (0, 15), log=ELSEWHERE + "log")
-    yield Scene("book, log made elsewhere", (*words, ELSEWHERE + "log"), empty, book(ELSEWHERE + "log"), (0, 15), log=ELSEWHERE + "log")
+    yield Scene("book, log elsewhere", (*words, ELSEWHERE + "log"), elsewhere, book(ELSEWHERE + "log"), (0, 15),
+                log=ELSEWHERE + "log")
+    yield Scene("book, log made elsewhere", (*words, ELSEWHERE + "log"), empty, book(ELSEWHERE + "log"), (0, 15),
+                log=ELSEWHERE + "log")
     again = lambda files: book_logged(files, first, 1)
-    yield Scene("book again, logged", ("book", "deal", "first", "--house", 1, "--log", "log"), one, again, (15,), status=15, log="log")
+    yield Scene("book again, logged", ("book", "deal", "first", "--house", 1, "--log", "log"), one, again, (15,),
+                status=15, log="log")
     nothing = lambda files: cancel_logged(files, 2, 768)
-    yield Scene("cancel nothing, logged", ("cancel", "deal", 768, "--house", 2, "--log", "log"), one, nothing, (16,), status=16, log="log")
+    yield Scene("cancel nothing, logged", ("cancel", "deal", 768, "--house", 2, "--log", "log"), one, nothing, (16,),
+                status=16, log="log")
     raw = {"a": rng.randbytes(200), "b": rng.randbytes(100)}
     pack = lambda files: packed(files, raw, 2, "log")
-    yield Scene("pack, logged", ("pack", "a", "b", "--deal", "deal", "--house", 2, "--log", "log"), {**one, **raw}, pack, (0,), log="log")
+    yield Scene("pack, logged", ("pack", "a", "b", "--deal", "deal", "--house", 2, "--log", "log"), {**one, **raw},
+                pack, (0,), log="log")
 
     def cancel(files):
         after = cancel_logged(files, 2, 832)
         return still_listed(after, after["deal"]) if after["deal"] != files["deal"] else after
 
-    yield Scene("cancel, listed, logged", ("cancel", "deal", 832, "--house", 2, "--log", "log"), pack({**one, **raw}), cancel, (0, 16), log="log")
+    yield Scene("cancel, listed, logged", ("cancel", "deal", 832, "--house", 2, "--log", "log"), pack({**one, **raw}),
+                cancel, (0, 16), log="log")
 
 
 class Faults:
@@ -358,7 +379,8 @@ class Faults:
         check(rows == logs.rows(*both(self.place.state())), scene.name, "the log is not the deal's:", rows)
 
     def after_logged(self, scene, plain):
-        """What was begun is ended, whole or not at all; then the command once more, undisturbed, which adds its own line."""
+        """What was begun is ended, whole or not at all; then the command once more, undisturbed, which adds its own
+        line."""
         status, _, err = self.place.run(("fsck", "deal"), plain=plain)
         check(status == 0, scene.name, "fsck:", status, err)
         state = self.place.state()
@@ -427,8 +449,10 @@ class Faults:
         ignoring = {"preexec_fn": lambda: signal.signal(signal.SIGHUP, signal.SIG_IGN)}
         for at in range(1, len(self.place.calls_of(scene, plain)) + 1):
             self.place.put(scene.before)
-            status, *_ = self.place.run(scene.words, fault=fault(at, f"kill {int(signal.SIGHUP)}"), plain=plain, **ignoring)
-            check(status == scene.status and self.place.state() == scene.after, scene.name, at, "stopped by an ignored signal:", status)
+            status, *_ = self.place.run(scene.words, fault=fault(at, f"kill {int(signal.SIGHUP)}"), plain=plain,
+                                        **ignoring)
+            check(status == scene.status and self.place.state() == scene.after, scene.name, at,
+                  "stopped by an ignored signal:", status)
             self.counts["signals"] += 1
 
     def errors(self, scene, plain, numbers):
@@ -437,7 +461,8 @@ class Faults:
         naming = ("linkat", "rename", "renameat2", "unlink")
         for what in [*(f"error {n}" for n in numbers), "short", f"late {errno.EIO}", f"late {errno.EEXIST}"]:
             for at, name in enumerate(names, 1):
-                if name == "fcntl" or what == "short" and name != "write" or what.startswith("late") and name not in naming:
+                if (name == "fcntl" or what == "short" and name != "write"
+                        or what.startswith("late") and name not in naming):
                     continue
                 self.place.put(scene.before)
                 status, out, err = self.place.run(scene.words, fault=fault(at, what), plain=plain)
@@ -445,7 +470,8 @@ class Faults:
                 # A repair that cannot read the table mends the deal, and says what is left.
                 unread = scene.name == "repair" and status == DATA and b"deal.owners: " in out
                 check(status in (scene.status, IO) or unread, *here)
-                check(status == scene.status or unread or err.startswith(b"vizhuthamen: ") and err.count(b"\n") == 1, *here)
+                check(status == scene.status or unread or err.startswith(b"vizhuthamen: ") and err.count(b"\n") == 1,
+                      *here)
                 state = self.place.state()
                 scene.whole(state)
                 scene.tidy(state)
@@ -477,7 +503,8 @@ class Faults:
                 self.after(scene, plain)
 
     def recoveries(self, scene, plain, every):
-        """Killed after a change of several files was decided; then whoever ends it is killed before each of its calls."""
+        """Killed after a change of several files was decided; then whoever ends it is killed before each of its
+        calls."""
         decided = []
         for at in range(1, len(self.place.calls_of(scene, plain)) + 1):
             self.place.put(scene.before)
@@ -505,7 +532,8 @@ class Faults:
             self.after(scene, plain)
 
     def pauses(self, scene, plain, other):
-        """Stopped before each call while another process books; all files are then as if one call had come after the other."""
+        """Stopped before each call while another process books; all files are then as if one call had come after the
+        other."""
         words = ("book", "deal", "other", "--no-wait", "--house", 1, *(("--log", scene.log) if scene.log else ()))
         before = {**scene.before, "other": other}
         booking = lambda files: book_logged(files, other, 1, scene.log) if scene.log else booked(files, other, 1)
@@ -545,8 +573,9 @@ class Faults:
         return out
 
     def readers(self, scene, plain):
-        """Deal and table are listed without the lock, and yet as they were at one moment: while the change is stopped before each of its
-        calls, and with the reader stopped before each of its calls and the change made meanwhile, whole or in part."""
+        """Deal and table are listed without the lock, and yet as they were at one moment: while the change is stopped
+        before each of its calls, and with the reader stopped before each of its calls and the change made meanwhile,
+        whole or in part."""
         reader = "list", "deal"
         lists = self.listed(scene.before), self.listed(scene.after)
         check(lists[0] != lists[1], scene.name, "the lists do not differ")
@@ -570,7 +599,8 @@ class Faults:
             for stop in (None, renames[1]):
                 self.place.put(scene.before)
                 reading = self.stopped(reader, at, plain, "list")
-                call = self.stopped(scene.words, stop, plain, scene.name) if stop else self.place.start(scene.words, plain=plain)
+                call = (self.stopped(scene.words, stop, plain, scene.name) if stop
+                        else self.place.start(scene.words, plain=plain))
                 if not stop:
                     call.wait(timeout=60)
                 reading.send_signal(signal.SIGCONT)
@@ -586,7 +616,8 @@ class Faults:
                 self.counts["pauses"] += 1
 
     def log_readers(self, scene, plain):
-        """A log is played back while a call that adds to it is stopped before each of its calls: it is the old log or the new one."""
+        """A log is played back while a call that adds to it is stopped before each of its calls: it is the old log or
+        the new one."""
         reader = "playback", 1024, scene.log
         played = []
         for files in (scene.before, scene.after):
@@ -617,13 +648,15 @@ class Faults:
                 check(state.get(scene.log) == scene.before.get(scene.log), scene.name, "a line before its journal")
                 # Both can be moved where the log lies below the deal's folder.
                 name = str(self.place.path(scene.log)) if scene.log.startswith(ELSEWHERE) else scene.log
-                check(name.encode().hex() in state[".deal.vz-journal"].decode().split(), scene.name, "another name in the journal")
+                check(name.encode().hex() in state[".deal.vz-journal"].decode().split(), scene.name,
+                      "another name in the journal")
                 return state
         raise Wrong(f"{scene.name}: no journal was seen")
 
     def torn_logs(self, scene, plain):
-        """A kill or a power failure has left any part of the new lines, or zeros in their place: the next call completes them. What another
-        hand has left there is not touched, and the change waits until the log is brought back."""
+        """A kill or a power failure has left any part of the new lines, or zeros in their place: the next call
+        completes them. What another hand has left there is not touched, and the change waits until the log is brought
+        back."""
         begun, old = self.decided(scene, plain), scene.before.get(scene.log, b"")
         line = scene.after[scene.log][len(old):]
         torn = [old + line[:cut] + zeros for cut in range(len(line) + 1) for zeros in (b"", bytes(len(line) - cut))]
@@ -633,20 +666,24 @@ class Faults:
             check(status == 0 and scene.together(self.place.state()), scene.name, log.hex(), status, err)
             self.confirmed(scene)
             self.counts["torn logs"] += 1
-        foreign = [old + logs.cancelling(1, 704, 16), old + line[:5] + b"\xff", old + bytes(len(line) + 1), old + b"\3", *((old[:-1], None) if old else ())]
+        foreign = [old + logs.cancelling(1, 704, 16), old + line[:5] + b"\xff", old + bytes(len(line) + 1), old + b"\3",
+                   *((old[:-1], None) if old else ())]
         for log in foreign:
-            self.place.put({**begun, scene.log: log} if log is not None else {name: data for name, data in begun.items() if name != scene.log})
+            self.place.put({**begun, scene.log: log} if log is not None
+                           else {name: data for name, data in begun.items() if name != scene.log})
             before = self.place.state()
             for words in (("fsck", "deal"), ("list", "deal"), scene.words):
                 status, _, err = self.place.run(words, plain=plain)
-                check(status == IO and b"unfinished change" in err and b"take the line that begins with `log` out of" in err, scene.name, status, err)
+                check(status == IO and b"unfinished change" in err
+                      and b"take the line that begins with `log` out of" in err, scene.name, status, err)
             check(self.place.state() == before, scene.name, "a log of another hand was touched")
             self.place.path(scene.log).write_bytes(old)
             self.after(scene, plain)
             self.counts["torn logs"] += 1
 
     def paused_makers(self, scene, plain):
-        """Stopped before each call while another process makes the same deal: one of them does, and the deal has its table."""
+        """Stopped before each call while another process makes the same deal: one of them does, and the deal has its
+        table."""
         for at in range(1, len(self.place.calls_of(scene, plain)) + 1):
             self.place.put(scene.before)
             first = self.stopped(scene.words, at, plain, scene.name)
@@ -662,8 +699,9 @@ class Faults:
             self.counts["pauses"] += 1
 
     def abandoned_makers(self, scene):
-        """One process has put the table in place and is killed, and the table is taken away; a second was stopped while it looked at that
-        table; a third has put its own in place meanwhile. The third makes the deal, with its table, and the second does not."""
+        """One process has put the table in place and is killed, and the table is taken away; a second was stopped while
+        it looked at that table; a third has put its own in place meanwhile. The third makes the deal, with its table,
+        and the second does not."""
         links = [at for at, name in enumerate(self.place.calls_of(scene, 0), 1) if name == "linkat"]
         for at in range(links[0] - 12, links[0] + 8):
             self.place.put(scene.before)
@@ -685,7 +723,8 @@ class Faults:
             self.counts["pauses"] += 1
 
     def paused_outputs(self, scene, plain, raw):
-        """Stopped before each call, with a name in the way that a dead process has left, while another process writes the same output."""
+        """Stopped before each call, with a name in the way that a dead process has left, while another process writes
+        the same output."""
         other = pad(raw, bytes(segment_length(len(raw))))[2]
         for at in range(1, len(self.place.calls_of(scene, plain)) + 8):
             self.place.put({**scene.before, "raw": raw, ".record.vz-new.0": b"dead"})
@@ -707,7 +746,8 @@ class Faults:
 
 
 class Resumes:
-    """A stream that keeps its state: whatever ends it, the answer is that of an unbroken run, and nothing is left then."""
+    """A stream that keeps its state: whatever ends it, the answer is that of an unbroken run, and nothing is left
+    then."""
 
     # Every look at the clock finds ten seconds more gone, so that the state is kept after every piece.
     CLOCK = {"FAULT_CLOCK": "10"}
@@ -817,7 +857,8 @@ class Races:
 
     def prepare(self, size, bookings, log=()):
         self.log = log
-        segments = {f"s{i}": b"".join(node(self.rng) for _ in range(self.rng.choice((4, 8, 16, 32)))) for i in range(bookings)}
+        segments = {f"s{i}": b"".join(node(self.rng) for _ in range(self.rng.choice((4, 8, 16, 32))))
+                    for i in range(bookings)}
         self.place.clean()
         for name, data in segments.items():
             self.place.path(name).write_bytes(data)
@@ -832,20 +873,23 @@ class Races:
         return "book", "deal", name, "--house", self.house(name), *self.log
 
     def end(self, segments, answers):
-        """The deal keeps the segments that were answered, where they were told to be, and no others, and the table their houses; playback
-        confirms the log, with these as its rows."""
+        """The deal keeps the segments that were answered, where they were told to be, and no others, and the table
+        their houses; playback confirms the log, with these as its rows."""
         state = self.place.state()
-        check(sorted(state) == sorted([*segments, "deal", "deal.owners", "deal.vz", *self.log[1:]]), "left:", *sorted(state))
+        check(sorted(state) == sorted([*segments, "deal", "deal.owners", "deal.vz", *self.log[1:]]), "left:",
+              *sorted(state))
         if self.log:
             status, out, err = self.place.run(("playback", len(state["deal"]), self.log[1], "--json"))
             check(status == 0, "playback:", status, out, err)
             rows = [(row["place"], row["house"], row["offset"]) for row in json.loads(out)["rows"]]
-            check(rows == sorted((place, self.house(name), offset) for name, (offset, place) in answers.items()), "the log is not the deal's:", rows)
+            check(rows == sorted((place, self.house(name), offset) for name, (offset, place) in answers.items()),
+                  "the log is not the deal's:", rows)
             self.counts["raced lines"] += json.loads(out)["lines"]
         check(len(set(answers.values())) == len(answers), "a place was told twice:", answers)
         accounted(state, {where: (segments[name], self.house(name)) for name, where in answers.items()})
         check(MODEL.tally(state["deal"])[3] == len(answers), "a cancelled booking is there")
-        check(sum(byte != 0 for byte in state["deal.owners"]) == len(answers), "the owner of a cancelled booking is there")
+        check(sum(byte != 0 for byte in state["deal.owners"]) == len(answers),
+              "the owner of a cancelled booking is there")
         check(self.place.run(("fsck", "deal"))[0] == 0, "fsck")
 
     def undisturbed(self, processes, bookings, size, plain):
@@ -878,13 +922,15 @@ class Races:
                 self.counts["kills"] += 1
 
     def booked(self, name, segment, rng, plain):
-        """Books until it is answered, and then cancels every third booking in the same way. Gives where it is, if it was not cancelled."""
+        """Books until it is answered, and then cancels every third booking in the same way. Gives where it is, if it
+        was not cancelled."""
         status, out = self.answered(self.book(name), (0, 15), rng, plain)
         where = told(b"\n".join(out.splitlines()[status == 15:]))
         if rng.randrange(3):
             return where
         commitment = MODEL.tree(filled(segment))[-1][0].hex()
-        # One that was killed may have been done: then nothing of the house stands there (16), or another booking does by now (65).
+        # One that was killed may have been done: then nothing of the house stands there (16), or another booking does
+        # by now (65).
         words = "cancel", "deal", where[1], "--commitment", commitment, "--house", self.house(name), *self.log
         self.answered(words, (0, 16, DATA), rng, plain)
         with self.lock:
@@ -892,8 +938,8 @@ class Races:
         return None
 
     def disturbed(self, processes, bookings, size, plain):
-        """The same with workers that repeat a call until it is answered, while calls are killed at random moments; where their number is odd,
-        with a log."""
+        """The same with workers that repeat a call until it is answered, while calls are killed at random moments;
+        where their number is odd, with a log."""
         segments = self.prepare(size, bookings, ("--log", "log") if processes % 2 else ())
         queue, answers, failures, self.lock = list(segments), {}, [], threading.Lock()
         seeds = [self.rng.random() for _ in range(processes)]
@@ -937,8 +983,8 @@ class Races:
         self.counts["races"] += 1
 
     def writers(self, processes):
-        """Processes write one output at once: it is whole, and one of theirs. Without --force one of them writes it, and the others say
-        that it is there."""
+        """Processes write one output at once: it is whole, and one of theirs. Without --force one of them writes it,
+        and the others say that it is there."""
         self.place.clean()
         contents = [bytes([i]) * (1 << 16) for i in range(processes)]
         for i, data in enumerate(contents):
@@ -958,8 +1004,8 @@ class Races:
             self.counts["races"] += 1
 
     def random_kills(self, count, size, plain):
-        """One process at a time, killed at a random moment: deal and table are the old ones or the new ones, and a new deal is whole and
-        has its table."""
+        """One process at a time, killed at a random moment: deal and table are the old ones or the new ones, and a new
+        deal is whole and has its table."""
         segment = self.prepare(size, 1)["s0"]
         slots = max(4, size // 131072)
         place = size - 64 * slots
@@ -996,7 +1042,8 @@ def work(job):
     """One part of the test, in a folder of its own. Gives its counts and what it says."""
     kind, name, plain, options = job
     rng = random.Random(f"{options.seed}/{kind}/{name}/{plain}")
-    made = [tempfile.TemporaryDirectory(prefix="vizhuthamen-faults-", dir=folder) for folder in (options.folder, options.outside)]
+    made = [tempfile.TemporaryDirectory(prefix="vizhuthamen-faults-", dir=folder)
+            for folder in (options.folder, options.outside)]
     with made[0] as folder, made[1] as outside:
         place = Place(Path(folder) / "place", Path(outside), options.shim)
         place.folder.mkdir()
@@ -1022,7 +1069,8 @@ def disturb(place, rng, name, plain, options):
     every = options.large or (scene.name, plain) in EVERY_ERROR
     faults.errors(scene, plain, ERRORS if every else (errno.ENOSPC, errno.EIO))
     faults.breakdowns(scene, plain, BREAKDOWNS if options.large else BREAKDOWNS[:2] if plain else BREAKDOWNS[1:])
-    recovered = "book, nothing known", "repair", "pack", "book, log made elsewhere", "cancel, listed, logged", "book again, logged"
+    recovered = ("book, nothing known", "repair", "pack", "book, log made elsewhere", "cancel, listed, logged",
+                 "book again, logged")
     if scene.name in recovered or scene.name == "cancel, nothing known" and options.large:
         faults.recoveries(scene, plain, options.large)
     if scene.name in ("book", "cancel"):
@@ -1069,7 +1117,8 @@ def resume(place, rng, name, plain, options):
 
     def some(step):
         """Every call, at the gate every so many-th, from a random one on."""
-        return range(1, len(resumes.calls) + 1)[rng.randrange(step) if not options.large else 0 :: 1 if options.large else step]
+        return range(1, len(resumes.calls) + 1)[
+            rng.randrange(step) if not options.large else 0 :: 1 if options.large else step]
 
     resumes.kills(some(9 if raw else 3 if plain else 2))
     if options.large or not (raw or plain):
@@ -1102,7 +1151,8 @@ def large(place, rng, name, plain, options):
         counts["kills"] += status == -9
     check((status, out.decode()) == (0, root.hex() + "\n"), name, status, err)
     check([path.name for path in place.folder.iterdir()] == ["file"], name, "left:", *place.folder.iterdir())
-    return counts, f"{name}: {unbroken:.1f} s unbroken, {time.monotonic() - began - unbroken:.1f} s with {counts['kills']} kills"
+    return counts, (f"{name}: {unbroken:.1f} s unbroken, {time.monotonic() - began - unbroken:.1f} s "
+                    f"with {counts['kills']} kills")
 
 
 # With unnamed files (0), without them (1), and without a rename to a free name too (2). At the gate a cancellation and
@@ -1112,8 +1162,9 @@ WAYS = {"book, nothing known": (0, 1, 2), "collect": (0, 1, 2), "new": (0, 1, 2)
         "output": (0, 1, 2), "proof": (0, 1, 2)}
 WAYS_AT_THE_GATE = {**WAYS, "cancel": (0,), "cancel, nothing known": (1,), "number": (1,),
                     "number, nothing known": (0,), "collect": (0, 1), "new, numbered": (1, 2), "proof": (0,),
-                    "cancel, listed": (0,), "collect, listed": (1,), "close": (1,), "book, logged": (0,), "book, log made": (1,),
-                    "book, log elsewhere": (), "book, log made elsewhere": (0,), "book again, logged": (1,), "cancel nothing, logged": (0,),
+                    "cancel, listed": (0,), "collect, listed": (1,), "close": (1,), "book, logged": (0,),
+                    "book, log made": (1,), "book, log elsewhere": (), "book, log made elsewhere": (0,),
+                    "book again, logged": (1,), "cancel nothing, logged": (0,),
                     "pack, logged": (1,), "cancel, listed, logged": (0,)}
 # Commands and ways that get every error at the gate: one file, several files, a new deal, a log.
 EVERY_ERROR = (("book", 0), ("book, nothing known", 1), ("collect", 1), ("book, log made", 1))
@@ -1150,15 +1201,19 @@ def run(options):
 
 def arguments():
     parser = argparse.ArgumentParser(description="Kills, signals, errors and races at the command line.")
-    parser.add_argument("--large", action="store_true", help="every signal and every error for every command, larger races, more kills")
-    parser.add_argument("--seed", default=os.urandom(4).hex(), help="seed of the random moments (default: a fresh one, which is printed)")
-    parser.add_argument("--folder", help="where the files are made (default: /dev/shm, or else the system's temporary folder)")
+    parser.add_argument("--large", action="store_true",
+                        help="every signal and every error for every command, larger races, more kills")
+    parser.add_argument("--seed", default=os.urandom(4).hex(),
+                        help="seed of the random moments (default: a fresh one, which is printed)")
+    parser.add_argument("--folder",
+                        help="where the files are made (default: /dev/shm, or else the system's temporary folder)")
     options = parser.parse_args()
     if not options.folder and os.access("/dev/shm", os.W_OK):
         options.folder = "/dev/shm"
     # Another file system, where there is one.
     folders = [Path(tempfile.gettempdir()), ROOT / "target", Path("/dev/shm")]
-    others = [folder for folder in folders if folder.is_dir() and folder.stat().st_dev != Path(options.folder or folders[0]).stat().st_dev]
+    others = [folder for folder in folders
+              if folder.is_dir() and folder.stat().st_dev != Path(options.folder or folders[0]).stat().st_dev]
     options.outside = str((others or folders)[0])
     return options
 

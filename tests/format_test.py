@@ -1,7 +1,8 @@
-"""Reads the examples of docs/FORMAT.md and compares them with the independent model and with the library, through the Python package;
-the log also with the one that the command line writes (VIZHUTHAMEN names another binary).
+"""Reads the examples of docs/FORMAT.md and compares them with the independent model and with the library, through the
+Python package; the log also with the one that the command line writes (VIZHUTHAMEN names another binary).
 
-Run from anywhere, after make: python3 tests/format_test.py. Every table of the document is read; one that is not known ends the run.
+Run from anywhere, after make: python3 tests/format_test.py. Every table of the document is read; one that is not known
+ends the run.
 """
 import hashlib
 import json
@@ -20,7 +21,8 @@ from operations import MODEL
 from vectors_test import data, vz
 
 TEXT = (ROOT / "docs" / "FORMAT.md").read_text()
-CHECKS = [case for case in json.loads((ROOT / "vectors" / "vectors.json").read_text())["cases"] if case["routine"] == "check"]
+CHECKS = [case for case in json.loads((ROOT / "vectors" / "vectors.json").read_text())["cases"]
+          if case["routine"] == "check"]
 SEGMENTS = b"\x01" * 128, b"\x02" * 100  # as the document says of its example
 SIZE, PLACE, NUMBER = 512, 320, 2026
 
@@ -46,7 +48,8 @@ def tables():
 
 
 def laid_out(rows):
-    """The bytes of a table whose rows say where they start and how many they are; the numbers in its words are in its bytes."""
+    """The bytes of a table whose rows say where they start and how many they are; the numbers in its words are in its
+    bytes."""
     whole = b""
     for at, length, what, cell in rows:
         part = told(cell)
@@ -111,7 +114,8 @@ def owners_table(rows):
 
 def state_table(rows):
     """The numbers of the states, and their words."""
-    same("the states", [(int(number), words) for number, words, _ in rows], [(state.value, state.words()) for state in vz.SlotState])
+    same("the states", [(int(number), words) for number, words, _ in rows],
+         [(state.value, state.words()) for state in vz.SlotState])
 
 
 def states_table(rows):
@@ -140,7 +144,8 @@ def record_table(rows):
 def field_table(rows):
     """The record's fields: tags and lengths, for the example's D and A."""
     record = vz.build(booked()[1], NUMBER, PLACE)
-    lengths = {"32 × log2(D / A)": 32 * (SIZE // area(100)).bit_length() - 32, "32 × log2(D / 64)": 32 * (SIZE // 64).bit_length() - 32}
+    lengths = {"32 × log2(D / A)": 32 * (SIZE // area(100)).bit_length() - 32,
+               "32 × log2(D / 64)": 32 * (SIZE // 64).bit_length() - 32}
     stated = [(int(tag), lengths[length] if length in lengths else int(length)) for tag, _, length in rows]
     same("fields", stated, [(field.tag, len(field.content)) for field in vz.fields(record)])
 
@@ -199,13 +204,15 @@ def cancelling_line(rows):
 
 
 def log_table(rows):
-    """The whole log: of the model's day, and of the command line's; each row's words say its line, its house and its code."""
+    """The whole log: of the model's day, and of the command line's; each row's words say its line, its house and its
+    code."""
     lines, deal, table = day()
     same("the log", laid_out(rows), b"".join(lines), written_day())
     same("the deal at the end of the day", (deal, table), housed()[1])
     for number, ((_, _, what, cell), line) in enumerate(zip(rows, lines), 1):
         code = line[44] if line[0] == BOOKING else line[12]
-        same(f"'{what}'", re.fullmatch(r"line (\d), house (\d) .*, code (\d+)", what).groups(), (str(number), str(line[3]), str(code)))
+        same(f"'{what}'", re.fullmatch(r"line (\d), house (\d) .*, code (\d+)", what).groups(),
+             (str(number), str(line[3]), str(code)))
 
 
 def rows_table(rows):
@@ -226,7 +233,8 @@ def raw_table(rows):
 
 def cid_table(rows):
     zeros = laid_out(rows)
-    same("the piece CID's bytes", zeros, proofs.HEAD + MODEL.commitment(bytes(128))[1], proofs.HEAD + vz.commitment(bytes(128)))
+    same("the piece CID's bytes", zeros, proofs.HEAD + MODEL.commitment(bytes(128))[1],
+         proofs.HEAD + vz.commitment(bytes(128)))
 
 
 def zeros_table(rows):
@@ -259,8 +267,8 @@ def manifest_table(rows):
     deal, lent = booked()
     plain = unpad(99, SEGMENTS[1], bytes(99))[2]
     number = lambda at: int.from_bytes(deal[PLACE + at : PLACE + at + 8], "little")
-    values = {"names": ["letter.txt"], "length": 99, "sha256": hashlib.sha256(plain).hexdigest(), "place": PLACE, "offset": number(32),
-              "size": number(40), "commitment": deal[PLACE : PLACE + 32].hex()}
+    values = {"names": ["letter.txt"], "length": 99, "sha256": hashlib.sha256(plain).hexdigest(), "place": PLACE,
+              "offset": number(32), "size": number(40), "commitment": deal[PLACE : PLACE + 32].hex()}
     same("the example's plain file", plain, vz.unpad(99, bytes(lent[128:228])))
     same("a line of the manifest", {name.strip("`"): json.loads(cell.strip("`")) for name, _, cell in rows}, values)
     same("the order of its members", [name.strip("`") for name, _, _ in rows], list(values))
@@ -300,7 +308,8 @@ def main():
     lengths = [len(data(case["inputs"]["record"])) for case in CHECKS if case["code"] == 0]
     same("the lengths of accepted records", (shortest, longest), (min(lengths), max(lengths)))
     same("the longest record", longest, vz.MAX_RECORD, defined("VZ_MAX_RECORD"))
-    same("the longest raw archive", int(re.search(r"1 to (\d+) bytes becomes", TEXT)[1]), MAX_RAW, vz.MAX_RAW, defined("VZ_MAX_RAW"))
+    same("the longest raw archive", int(re.search(r"1 to (\d+) bytes becomes", TEXT)[1]), MAX_RAW, vz.MAX_RAW,
+         defined("VZ_MAX_RAW"))
     print(f"format_test: {len(read)} tables of docs/FORMAT.md are those of the model and the library")
 
 

@@ -1,7 +1,8 @@
 #!/usr/bin/env python3
 """Works out what crates/hash_test must print: its file `stdout` is this program's output.
 
-SHA-256 is hashlib's; node hash, commitments and codes follow document 01, "Nodes and trees" and "Codes and their order".
+SHA-256 is hashlib's; node hash, commitments and codes follow document 01, "Nodes and trees" and "Codes and their
+order".
 """
 import hashlib
 

@@ -6,7 +6,8 @@ ROOT = Path(__file__).resolve().parent.parent
 TEXT = (ROOT / "include" / "vizhuthamen.h").read_text()
 
 # How a parameter is written, and its kind; memory is a pointer and, next, its length.
-KINDS = {"const uint8_t *": "in", "uint8_t *": "out", "uint8_t ": "u8", "uint64_t ": "u64", "uint64_t *": "u64*", "uint32_t *": "u32*"}
+KINDS = {"const uint8_t *": "in", "uint8_t *": "out", "uint8_t ": "u8", "uint64_t ": "u64", "uint64_t *": "u64*",
+         "uint32_t *": "u32*"}
 
 
 def parameters(text):
@@ -38,7 +39,8 @@ def functions():
 
 def codes():
     """Number, name without VZ_, and meaning of every code."""
-    return [(int(number), name, meaning) for number, name, meaning in re.findall(r'code\((\d+), VZ_(\w+), "(.*)"\)', TEXT)]
+    return [(int(number), name, meaning)
+            for number, name, meaning in re.findall(r'code\((\d+), VZ_(\w+), "(.*)"\)', TEXT)]
 
 
 def defined(name):
@@ -47,8 +49,8 @@ def defined(name):
     return value.strip('"') if value.startswith('"') else int(value)
 
 
-LENGTHS = ("BOOKING_LINE", "CANCELLING_LINE", "MAX_DEAL", "MAX_RAW", "MAX_RECORD", "MAX_STREAM", "MAX_TABLE", "ROW", "ROWS",
-           "STREAM_STATE")
+LENGTHS = ("BOOKING_LINE", "CANCELLING_LINE", "MAX_DEAL", "MAX_RAW", "MAX_RECORD", "MAX_STREAM", "MAX_TABLE", "ROW",
+           "ROWS", "STREAM_STATE")
 
 
 def stated():

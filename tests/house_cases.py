@@ -169,8 +169,8 @@ def quotas(rng, share=1):
 
 
 def half(rng):
-    """A house at half of the slots and one below it, by entries that are kept and that are not, with a byte of the house
-    at each free slot; its own segments are 15 before 22, and room and slots are looked at after it."""
+    """A house at half of the slots and one below it, by entries that are kept and that are not, with a byte of the
+    house at each free slot; its own segments are 15 before 22, and room and slots are looked at after it."""
     for count, kept in product(range(5), (True, False)):
         deal = bytes(768) + b"".join(standing_at(rng, i, kept) if i < count else bytes(64) for i in range(4))
         tree = MODEL.fill(deal, bytes(992))[1]
@@ -229,8 +229,8 @@ def same_segment(rng):
 
 
 def lowest_own(rng):
-    """Four slots that keep one segment: its house's lowest one is answered, whoever owns the lower ones; and with a tree
-    in which the lowest one's area has another node, the next."""
+    """Four slots that keep one segment: its house's lowest one is answered, whoever owns the lower ones; and with a
+    tree in which the lowest one's area has another node, the next."""
     segment = nodes(rng, 4)
     deal = bytes(1024)
     for _ in range(4):
@@ -245,8 +245,8 @@ def lowest_own(rng):
 
 
 def collections(rng, values=range(256)):
-    """Bytes of the table for entries that move, whatever they are, and those of other slots, which do not: into a second
-    table that holds any bytes."""
+    """Bytes of the table for entries that move, whatever they are, and those of other slots, which do not: into a
+    second table that holds any bytes."""
     deals = [foreign_deal(rng, 1024) for _ in range(16)]
     for byte in values:
         deal = rng.choice(deals)
@@ -279,8 +279,8 @@ def other_segments(rng, deal, table, house):
 
 
 def asked(rng, house, table, twins):
-    """The same bookings and cancellations in each of these deals, with its own tree in hand and without: segments of the
-    first deal and the last one, at every standing entry and others; every place, and some that are none."""
+    """The same bookings and cancellations in each of these deals, with its own tree in hand and without: segments of
+    the first deal and the last one, at every standing entry and others; every place, and some that are none."""
     d = len(twins[0])
     _, n, start = index_numbers(d)
     rows = [(deal, MODEL.standing(deal, i)) for deal in twins for i in range(n)]
@@ -307,10 +307,11 @@ def twin_calls(rng, count, deal_sizes=(512, 1024, 2048)):
 
 
 def overlapped_twins(rng):
-    """House 1's entry of 128 bytes at 0, which is kept, lies in the other's of 256. Another byte there changes the other's
-    segment, and house 1's with it: it is kept in one deal and not in the other."""
+    """House 1's entry of 128 bytes at 0, which is kept, lies in the other's of 256. Another byte there changes the
+    other's segment, and house 1's with it: it is kept in one deal and not in the other."""
     segment = nodes(rng, 4)
-    first = segment + bytes(640) + MODEL.entry(MODEL.tree(segment)[-1][0], 0, 128) + MODEL.entry(node(rng), 0, 256) + bytes(128)
+    first = (segment + bytes(640) + MODEL.entry(MODEL.tree(segment)[-1][0], 0, 128)
+             + MODEL.entry(node(rng), 0, 256) + bytes(128))
     twins = first, bytes([first[0] ^ 1]) + first[1:]
     calls = [Case(BOOK, deal, segment, y=1, d=b"\1\2\0\0") for deal in twins]
     yield calls

@@ -3,11 +3,11 @@ the command line.
 
 Run from anywhere, after cargo build --release --examples: python3 tests/install_test.py
 
-The shared library has the header's functions for others and no other name, each proved one as a choice of levels. The C smoke program
-is linked with the shared and the static library by what pkg-config says. The programs of examples/ check records of
-vectors/vectors.json, and must say the same. The JavaScript package is found by its name, and its module beside it; without wasm-opt or node
-it is left out, which is said. The command line stands alone, chooses a level when it starts, and its man page and
-completions, which lie where man and the shells look for them, are those that it prints.
+The shared library has the header's functions for others and no other name, each proved one as a choice of levels. The C
+smoke program is linked with the shared and the static library by what pkg-config says. The programs of examples/ check
+records of vectors/vectors.json, and must say the same. The JavaScript package is found by its name, and its module
+beside it; without wasm-opt or node it is left out, which is said. The command line stands alone, chooses a level when
+it starts, and its man page and completions, which lie where man and the shells look for them, are those that it prints.
 """
 import json
 import os
@@ -24,14 +24,15 @@ from vectors_test import data
 
 VERSION = defined("VZ_VERSION")
 SONAME = "libvizhuthamen.so." + VERSION.rsplit(".", 1)[0]
-TEXTS = {"share/man/man1/vizhuthamen.1": ("help", "--man"), "share/bash-completion/completions/vizhuthamen": ("completions", "bash"),
+TEXTS = {"share/man/man1/vizhuthamen.1": ("help", "--man"),
+         "share/bash-completion/completions/vizhuthamen": ("completions", "bash"),
          "share/zsh/site-functions/_vizhuthamen": ("completions", "zsh"),
          "share/fish/vendor_completions.d/vizhuthamen.fish": ("completions", "fish")}
 PAGE = "share/vizhuthamen/vizhuthamen.html"
 JAVASCRIPT = "share/javascript/vizhuthamen"
 SCRIPT = "package.json", "vizhuthamen-simd.wasm", "vizhuthamen.d.mts", "vizhuthamen.mjs", "vizhuthamen.wasm"
-CHECKED = ("no-fault", "p4", "p7", "p7-other-node", "fault-size", "fault-form", "fault-number", "fault-path-bits", "fault-segment-path",
-           "fault-entry-path", "cut", "other-commitment")
+CHECKED = ("no-fault", "p4", "p7", "p7-other-node", "fault-size", "fault-form", "fault-number", "fault-path-bits",
+           "fault-segment-path", "fault-entry-path", "cut", "other-commitment")
 
 
 def fail(text):
@@ -53,9 +54,11 @@ def installed(folder):
 def expected_files():
     package = Path(sysconfig.get_path("purelib", "posix_prefix", {"base": ""})).relative_to("/") / "vizhuthamen"
     modules = [str(package / path.name) for path in (ROOT / "python" / "vizhuthamen").iterdir() if path.is_file()]
-    libraries = ["libvizhuthamen.a", "libvizhuthamen.so", SONAME, f"libvizhuthamen.so.{VERSION}", "pkgconfig/vizhuthamen.pc"]
+    libraries = ["libvizhuthamen.a", "libvizhuthamen.so", SONAME, f"libvizhuthamen.so.{VERSION}",
+                 "pkgconfig/vizhuthamen.pc"]
     script = [PAGE, *(f"{JAVASCRIPT}/{name}" for name in SCRIPT)] if shutil.which("wasm-opt") else []
-    return sorted(["bin/vizhuthamen", *TEXTS, "include/vizhuthamen.h", *(f"lib/{name}" for name in libraries), *modules, *script]), package.parent
+    return sorted(["bin/vizhuthamen", *TEXTS, "include/vizhuthamen.h", *(f"lib/{name}" for name in libraries), *modules,
+                   *script]), package.parent
 
 
 def install(folder):
@@ -82,7 +85,8 @@ def exported(library):
 
 
 def symbols(library):
-    """The header's functions and no other name; each proved one is chosen by the processor ('i'), from the levels of the archive."""
+    """The header's functions and no other name; each proved one is chosen by the processor ('i'), from the levels of
+    the archive."""
     proved = set(routines())
     expected = {name: "i" if name in proved else "T" for name in functions()}
     if exported(library) != expected:
@@ -108,8 +112,8 @@ class Prefix:
 
     def compiled(self, source, name, *words):
         program = self.root.parent / name
-        ran("gcc", "-std=c99", "-pedantic", "-Wall", "-Wextra", "-Werror", ROOT / source, *self.flags("--cflags", "--libs"), *words,
-            "-o", program)
+        ran("gcc", "-std=c99", "-pedantic", "-Wall", "-Wextra", "-Werror", ROOT / source,
+            *self.flags("--cflags", "--libs"), *words, "-o", program)
         return program
 
 
@@ -127,7 +131,8 @@ def smoke(prefix):
 
 
 def javascript(prefix):
-    """Whether the JavaScript package is there and can be run: a program that knows its name alone, and that loads what lies beside it."""
+    """Whether the JavaScript package is there and can be run: a program that knows its name alone, and that loads what
+    lies beside it."""
     missing = [tool for tool in ("wasm-opt", "node") if not shutil.which(tool)]
     if missing:
         print(f"install_test: the JavaScript package skipped: there is no {' and no '.join(missing)}")
@@ -135,7 +140,8 @@ def javascript(prefix):
     program = prefix.root.parent / "program.mjs"
     (prefix.root.parent / "node_modules").mkdir()
     (prefix.root.parent / "node_modules" / "vizhuthamen").symlink_to(prefix.root / JAVASCRIPT)
-    program.write_text('import { VERSION, load } from "vizhuthamen";\nconsole.log(VERSION, (await load()).indexNumbers(512).start);\n')
+    program.write_text('import { VERSION, load } from "vizhuthamen";\n'
+                       'console.log(VERSION, (await load()).indexNumbers(512).start);\n')
     if ran("node", program) != f"{VERSION} 256\n":
         fail("the JavaScript package answers something else")
     if json.loads((prefix.root / JAVASCRIPT / "package.json").read_text())["version"] != VERSION:
@@ -144,7 +150,8 @@ def javascript(prefix):
 
 
 def examples(prefix):
-    """Each program for each record: the code and its meaning, the code as exit status. The Python package finds its library itself."""
+    """Each program for each record: the code and its meaning, the code as exit status. The Python package finds its
+    library itself."""
     programs = [[prefix.compiled("examples/check.c", "check")], [ROOT / "rust/target/release/examples/check"],
                 [sys.executable, ROOT / "examples/check.py"]]
     if javascript(prefix):
@@ -157,19 +164,22 @@ def examples(prefix):
     for case in (cases[f"check/{name}"] for name in CHECKED):
         record = prefix.root.parent / "record"
         record.write_bytes(data(case["inputs"]["record"]))
-        words = [data(case["inputs"]["commitment"]).hex(), case["inputs"]["size"], case["inputs"]["number"], str(record)]
+        words = [data(case["inputs"]["commitment"]).hex(), case["inputs"]["size"], case["inputs"]["number"],
+                 str(record)]
         expected = case["code"], f"code {case['code']}: {meanings[case['code']]}\n"
         for program in programs:
-            env = {name: value for name, value in prefix.env.items() if name != "LD_LIBRARY_PATH" or program[0] != sys.executable}
+            env = {name: value for name, value in prefix.env.items()
+                   if name != "LD_LIBRARY_PATH" or program[0] != sys.executable}
             done = subprocess.run([*program, *words], env=env, capture_output=True, text=True)
             if (done.returncode, done.stdout) != expected:
-                fail(f"{program[-1]}, {case['name']}: {done.returncode} {done.stdout}{done.stderr}, expected {expected}")
+                fail(f"{program[-1]}, {case['name']}: {done.returncode} {done.stdout}{done.stderr}, "
+                     f"expected {expected}")
     return len(programs)
 
 
 def command_line(prefix):
-    """The installed program needs no library of ours beside it, has the functions of the archive that chooses, and printed its texts; man
-    finds its page below the prefix."""
+    """The installed program needs no library of ours beside it, has the functions of the archive that chooses, and
+    printed its texts; man finds its page below the prefix."""
     program = prefix.root / "bin/vizhuthamen"
     if f"vizhuthamen {VERSION}\n" != ran(program, "--version", env={}):
         fail("the command line tells another version")
@@ -181,7 +191,8 @@ def command_line(prefix):
         if (prefix.root / name).read_text() != ran(program, *words):
             fail(f"{name} is not what the command line prints")
     if shutil.which("man"):
-        found = ran("man", "--where", "vizhuthamen", env=os.environ | {"MANPATH": str(prefix.root / "share/man")}).strip()
+        found = ran("man", "--where", "vizhuthamen",
+                    env=os.environ | {"MANPATH": str(prefix.root / "share/man")}).strip()
         if found != str(prefix.root / "share/man/man1/vizhuthamen.1"):
             fail(f"man finds another page: {found}")
 
@@ -189,7 +200,8 @@ def command_line(prefix):
 def licence():
     """One licence, by its name in LICENSE, the crate, the packages and the README."""
     texts = {"LICENSE": "SPDX-License-Identifier: 0BSD", "rust/Cargo.toml": 'license = "0BSD"', "README.md": "(0BSD)",
-             "python/vizhuthamen/__init__.py": '__license__ = "0BSD"', "javascript/package.json.in": '"license": "0BSD"'}
+             "python/vizhuthamen/__init__.py": '__license__ = "0BSD"',
+             "javascript/package.json.in": '"license": "0BSD"'}
     for name, part in texts.items():
         if part not in (ROOT / name).read_text():
             fail(f"{name} does not say: {part}")
@@ -203,8 +215,8 @@ def main():
         prefix = Prefix(root, package)
         command_line(prefix)
         answers, programs = smoke(prefix), examples(prefix)
-        print(f"install_test: {len(installed(root))} files; {len(functions())} functions; {answers} answers of the C smoke program with "
-              f"either library; {len(CHECKED)} records checked by each of {programs} examples")
+        print(f"install_test: {len(installed(root))} files; {len(functions())} functions; {answers} answers of the C "
+              f"smoke program with either library; {len(CHECKED)} records checked by each of {programs} examples")
 
 
 if __name__ == "__main__":

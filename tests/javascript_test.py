@@ -1,4 +1,5 @@
-"""Runs the tests of the JavaScript module (tests/javascript) in node, and TypeScript over a program that uses its types.
+"""Runs the tests of the JavaScript module (tests/javascript) in node, and TypeScript over a program that uses its
+types.
 
 Run from anywhere, after make and tests/targets.py: python3 tests/javascript_test.py
 
@@ -14,7 +15,8 @@ from header import ROOT
 
 TESTS = ROOT / "tests" / "javascript"
 # Both ways in which TypeScript looks for the types of a module.
-RESOLUTIONS = ("--module", "nodenext", "--moduleResolution", "nodenext"), ("--module", "es2022", "--moduleResolution", "node")
+RESOLUTIONS = (("--module", "nodenext", "--moduleResolution", "nodenext"),
+               ("--module", "es2022", "--moduleResolution", "node"))
 
 
 def ran(*command):
@@ -36,7 +38,8 @@ def main():
         print("javascript_test: types skipped: there is no tsc (Debian: node-typescript)")
         return
     for words in RESOLUTIONS:
-        ran("tsc", "--noEmit", "--strict", "--target", "es2022", "--lib", "es2022,dom,dom.iterable", *words, TESTS / "typed.mts")
+        ran("tsc", "--noEmit", "--strict", "--target", "es2022", "--lib", "es2022,dom,dom.iterable", *words,
+            TESTS / "typed.mts")
     print(f"javascript_test: the types are right for TypeScript {ran('tsc', '--version').split()[-1]}")
 
 

@@ -1,7 +1,7 @@
 """Every command with every kind of failure, by --json: python3 tests/json_test.py (VIZHUTHAMEN names another binary).
 
-Whatever comes of a call is one JSON object of the form that docs/JSON.md tells: its tables are read, an object with a member that they
-do not have ends the run, and so does a member that no call shows. Standard error is as without --json.
+Whatever comes of a call is one JSON object of the form that docs/JSON.md tells: its tables are read, an object with a
+member that they do not have ends the run, and so does a member that no call shows. Standard error is as without --json.
 """
 import fcntl
 import hashlib
@@ -24,7 +24,8 @@ KINDS = {}  # the kind of each member that has been met, and where that was firs
 
 
 def table(head):
-    """The rows of the document's table with this head: the first cell's word, and the words of the other that stand in back quotes."""
+    """The rows of the document's table with this head: the first cell's word, and the words of the other that stand in
+    back quotes."""
     rows = re.search(rf"^\| {head} \|.*\n\|---\|---\|\n((?:\|.*\n)+)", TEXT, re.MULTILINE).group(1)
     cells = [line.strip("|").split("|") for line in rows.splitlines()]
     return {first.strip().strip("`"): set(re.findall(r"`([a-z][a-z0-9_]*)`", second)) for first, second in cells}
@@ -65,7 +66,8 @@ class Outcomes(Calls):
         self.put("lie", proofs.text(proofs.sealed({**proof, "offset": "128"})).encode())
         self.put("segment", self.segment())
         commitments = [deal[place : place + 32] for place in self.places]
-        log = self.put("log", logs.booking(1, commitments[0], 256, 0, 0, 768) + logs.booking(1, commitments[1], 128, 0, 256, 832))
+        log = self.put("log", logs.booking(1, commitments[0], 256, 0, 0, 768)
+                       + logs.booking(1, commitments[1], 128, 0, 256, 832))
         self.put("cut-log", log[:-1])
         self.put("wrong-log", log + log[:61])
         self.put("raw", b"raw" * 50)
@@ -79,11 +81,13 @@ class Outcomes(Calls):
         self.put("cut-deal.vz", b"vizhuthamen deal 1\nsize 1024\n")
         self.path("folder").mkdir()
         first = unpad(254, deal[:256], bytes(254))[2]
-        line = {"names": ["first"], "length": 254, "sha256": hashlib.sha256(first).hexdigest(), **entry(deal, self.places[0])}
+        line = {"names": ["first"], "length": 254, "sha256": hashlib.sha256(first).hexdigest(),
+                **entry(deal, self.places[0])}
         self.listed = self.put("deal.manifest.json", manifest([line]))
 
     def outcome(self, status, *words, **options):
-        """The object of a call, which must be of the documented form, and whose exit status must be the expected one."""
+        """The object of a call, which must be of the documented form, and whose exit status must be the expected
+        one."""
         # Before and after a word that is wrong.
         self.first = not self.first
         call = ("--json", *words) if self.first else (*words, "--json")
@@ -93,7 +97,8 @@ class Outcomes(Calls):
         command = words[0] if words and words[0] in COMMANDS else None
         self.assertEqual((value["code"], value["command"]), (status, command), words)
         self.assertTrue(value["meaning"] and isinstance(value["meaning"], str))
-        self.assertTrue(isinstance(value["hints"], list) and all(isinstance(hint, str) and hint for hint in value["hints"]), value)
+        self.assertTrue(isinstance(value["hints"], list)
+                        and all(isinstance(hint, str) and hint for hint in value["hints"]), value)
         self.members(words, value, err)
         self.assertNotIn("panicked", err)
         return value
@@ -121,18 +126,22 @@ class Outcomes(Calls):
 
     def cids(self, value):
         """The members of an object that are piece CIDs: of every commitment in it, and no other."""
-        commitment = lambda name: name.endswith("commitment") and isinstance(value[name], str) and len(value[name]) == 64
+        commitment = lambda name: (name.endswith("commitment") and isinstance(value[name], str)
+                                   and len(value[name]) == 64)
         named = {name: name.replace("commitment", "cid") for name in filter(commitment, value)}
         named.update({name: "closed_cid" for name in value if name == "closed"})
-        self.assertEqual({value[cid] for cid in named.values()}, {proofs.cid(bytes.fromhex(value[name])) for name in named})
+        self.assertEqual({value[cid] for cid in named.values()},
+                         {proofs.cid(bytes.fromhex(value[name])) for name in named})
         self.assertEqual({name for name in value if name.endswith("cid")}, set(named.values()))
         return set(named.values())
 
     def kinds(self, where, value):
-        """A member of one name has one kind, wherever it stands. A name that is no UTF-8 is an object, and a large number a text."""
+        """A member of one name has one kind, wherever it stands. A name that is no UTF-8 is an object, and a large
+        number a text."""
         for name, item in value.items():
             digits = isinstance(item, str) and item.isdecimal() and int(item) >= 1 << 53
-            kind = "number" if digits else {int: "number", str: "text", dict: "text", list: "list", type(None): "text"}[type(item)]
+            kind = ("number" if digits
+                    else {int: "number", str: "text", dict: "text", list: "list", type(None): "text"}[type(item)])
             first, at = KINDS.setdefault(name, (kind, where))
             self.assertEqual(kind, first, f"{name} in {where} is a {kind}, and in {at} a {first}")
             for each in item if isinstance(item, list) else ():
@@ -146,14 +155,16 @@ class Outcomes(Calls):
     def calls(self):
         """A call of each command that is answered with 0."""
         place, number = self.places[0], ("--number", NUMBER)
-        return {"new": ("made", 512), "number": ("deal",), "commit": ("deal",), "stream": ("deal",), "pad": ("raw",), "unpad": (150, "padded"),
-                "owner": ("deal",), "book": ("deal", "segment", "--house", 2), "cancel": ("deal", place, "--house", 1), "collect": ("deal", "new"), "list": ("deal",),
-                "audit": ("deal",), "tally": ("deal",),
-                "find": ("deal", self.commitment), "build": ("deal", place), "check": (self.root, 1024, "record", *number),
-                "settle": (self.root, 1024, "record", "record", *number), "settle-deal": ("deal", "record"), "show": ("record",),
-                "playback": (1024, "log"), "log": ("log",),
-                "prove": ("deal", "--segment", "kept", "--output", "proved"), "verify": ("proof", "kept"), "fsck": ("deal",), "repair": ("deal",), "salvage": ("deal", "out"), "help": ("book",), "completions": ("bash",),
-                "extract": ("deal", "--to", "extracted"), "pack": ("raw", "--deal", "deal", "--house", 2), "close": ("deal",)}
+        return {"new": ("made", 512), "number": ("deal",), "commit": ("deal",), "stream": ("deal",), "pad": ("raw",),
+                "unpad": (150, "padded"), "owner": ("deal",), "book": ("deal", "segment", "--house", 2),
+                "cancel": ("deal", place, "--house", 1), "collect": ("deal", "new"), "list": ("deal",),
+                "audit": ("deal",), "tally": ("deal",), "find": ("deal", self.commitment), "build": ("deal", place),
+                "check": (self.root, 1024, "record", *number), "settle": (self.root, 1024, "record", "record", *number),
+                "settle-deal": ("deal", "record"), "show": ("record",), "playback": (1024, "log"), "log": ("log",),
+                "prove": ("deal", "--segment", "kept", "--output", "proved"), "verify": ("proof", "kept"),
+                "fsck": ("deal",), "repair": ("deal",), "salvage": ("deal", "out"), "help": ("book",),
+                "completions": ("bash",), "extract": ("deal", "--to", "extracted"),
+                "pack": ("raw", "--deal", "deal", "--house", 2), "close": ("deal",)}
 
 
 class Answers(Outcomes):
@@ -175,7 +186,8 @@ class Answers(Outcomes):
     def test_the_examples_of_the_document(self):
         self.put("deal", bytes(1024))
         self.put("deal.owners", bytes(4))
-        self.put("segment", b"".join(b"%-31.31s\n" % f"archive-a, line {i}".encode() for i in range(1, 9)))  # as in docs/EXAMPLES.md
+        # as in docs/EXAMPLES.md
+        self.put("segment", b"".join(b"%-31.31s\n" % f"archive-a, line {i}".encode() for i in range(1, 9)))
         examples = re.findall(r"^    \$ vizhuthamen (.*)\n    (\{.*\})$", TEXT, re.MULTILINE)
         self.assertEqual(len(examples), 3)
         for words, expected in examples:
@@ -198,9 +210,12 @@ class Answers(Outcomes):
         self.outcome(0, "find", "two", "--raw", "raw")
         self.outcome(0, "prove", "two", "raw", "--slot", 0, "--output", "two.proof", "--number", 7)
         self.assertEqual(self.outcome(0, "verify", "two.proof", "raw")["verdict"], "yes")
-        self.assertEqual(self.outcome(0, "verify", "proof", "kept", "--commitment", self.root, "--size", 1024, "--number", NUMBER)["from_proof"], [])
-        for words in (("pad", "raw"), ("unpad", 150, "padded"), ("find", "deal", self.commitment), ("build", "deal", place)):
-            self.assertLess(len(self.outcome(0, *words, "--output", words[0])), len(self.outcome(0, *words)) + (words[0] == "find"))
+        self.assertEqual(self.outcome(0, "verify", "proof", "kept", "--commitment", self.root, "--size", 1024,
+                                      "--number", NUMBER)["from_proof"], [])
+        for words in (("pad", "raw"), ("unpad", 150, "padded"), ("find", "deal", self.commitment),
+                      ("build", "deal", place)):
+            self.assertLess(len(self.outcome(0, *words, "--output", words[0])),
+                            len(self.outcome(0, *words)) + (words[0] == "find"))
         self.outcome(0, "build", "deal", "--slot", 0)
         self.outcome(0, "cancel", "deal", "--slot", 1)
         for command in COMMANDS:
@@ -212,12 +227,15 @@ class Answers(Outcomes):
         self.outcome(0, "help", "--man")
 
     def logs(self):
-        """Calls that add lines, in a deal of their own; what playback says of them, and of wrong lines of both kinds."""
+        """Calls that add lines, in a deal of their own; what playback says of them, and of wrong lines of both
+        kinds."""
         self.outcome(0, "new", "logged", 512)
         log = "--log", "logged.log"
         self.put("letter", b"letter")
-        words = [(0, "book", "logged", "segment", "--house", 1), (15, "book", "logged", "segment", "--house", 1), (0, "pack", "letter", "--deal", "logged", "--house", 2),
-                 (14, "book", "logged", "--raw", "raw", "--house", 2), (16, "cancel", "logged", 320, "--house", 1), (0, "cancel", "logged", 320, "--house", 2)]
+        words = [(0, "book", "logged", "segment", "--house", 1), (15, "book", "logged", "segment", "--house", 1),
+                 (0, "pack", "letter", "--deal", "logged", "--house", 2),
+                 (14, "book", "logged", "--raw", "raw", "--house", 2), (16, "cancel", "logged", 320, "--house", 1),
+                 (0, "cancel", "logged", 320, "--house", 2)]
         for lines, call in enumerate(words, 1):
             told = self.outcome(*call, *log)
             self.assertEqual((told["log"], told["lines"]), ("logged.log", lines))
@@ -274,11 +292,13 @@ class Answers(Outcomes):
         for command in ("list", "audit", "fsck", "repair"):
             value = self.outcome(0 if command in ("list", "audit") else DATA, command, "deal")
             self.assertEqual((value["table"], value["table_bytes"]), ("wrong length", 3))
-        for words in (("owner", "deal"), ("owner", "deal", 1), ("book", "deal", "segment"), ("cancel", "deal", 768), ("collect", "deal", "new"), ("pack", "raw", "--deal", "deal")):
+        for words in (("owner", "deal"), ("owner", "deal", 1), ("book", "deal", "segment"), ("cancel", "deal", 768),
+                      ("collect", "deal", "new"), ("pack", "raw", "--deal", "deal")):
             self.assertEqual(self.outcome(23, *words)["refused"], ["table"])
         self.path("deal.owners").unlink()
         self.assertEqual(self.outcome(0, "list", "deal")["table"], "missing")
-        for words in (("owner", "deal"), ("book", "deal", "segment"), ("cancel", "deal", 768), ("pack", "raw", "--deal", "deal")):
+        for words in (("owner", "deal"), ("book", "deal", "segment"), ("cancel", "deal", 768),
+                      ("pack", "raw", "--deal", "deal")):
             hints = self.outcome(DATA, *words)["hints"]
             self.assertEqual(hints[0], "if deal is a copy, copy that table too")
         self.outcome(0, "collect", "deal", "new")
@@ -294,11 +314,13 @@ class Answers(Outcomes):
         deal[896:960] = MODEL.entry(bytes(32), (1 << 64) - 128, (1 << 64) - 1)
         self.put("overlapping", bytes(deal))
         listed = self.outcome(0, "list", "overlapping")
-        self.assertEqual([listed["slots"][2][name] for name in ("offset", "size")], [str((1 << 64) - 128), str((1 << 64) - 1)])
+        self.assertEqual([listed["slots"][2][name] for name in ("offset", "size")],
+                         [str((1 << 64) - 128), str((1 << 64) - 1)])
         self.assertEqual([slot["state"] for slot in listed["slots"]], ["kept", "kept", "not standing", "overlapping"])
         audited = self.outcome(DATA, "audit", "overlapping")
         self.assertEqual(audited["slots"], listed["slots"])
-        self.assertEqual([audited[name] for name in ("blank", "damaged", "not_standing", "overlapping", "wrong_commitment", "kept")],
+        self.assertEqual([audited[name]
+                          for name in ("blank", "damaged", "not_standing", "overlapping", "wrong_commitment", "kept")],
                          [0, 0, 1, 1, 0, 2])
         self.outcome(DATA, "fsck", "overlapping")
         self.outcome(20, "collect", "overlapping", "new")
@@ -311,30 +333,43 @@ class Answers(Outcomes):
 class Refusals(Outcomes):
     def test_codes_of_every_command(self):
         given = "--number", NUMBER
-        codes = [(2, "new", "made", 513), (2, "number", "short", 7), (2, "commit", "short"), (11, "commit", "stray"), (2, "stream", "short"),
-                 (11, "stream", "stray"), (2, "stream", "--raw", "empty"), (2, "pad", "empty"), (24, "unpad", 7, "padded"), (2, "unpad", 0, "padded"),
-                 (2, "owner", "short"), (6, "owner", "deal", 1, 7), (16, "owner", "deal", 1, 960), (23, "owner", "deal", 3),
-                 (22, "book", "deal", "segment"), (23, "book", "deal", "segment", "--house", (1 << 64) - 1), (23, "cancel", "deal", 768, "--house", 0),
-                 (2, "book", "short", "segment"), (4, "book", "deal", "empty"), (4, "book", "deal", "stray"), (15, "book", "deal", "kept"),
-                 (2, "cancel", "short", 0), (6, "cancel", "deal", 1), (16, "cancel", "deal", 960), (6, "cancel", "deal", "--slot", 4),
-                 (1, "cancel", "deal", 768, "--commitment", "00"), (2, "collect", "short", "new"), (11, "collect", "stray", "new"),
-                 (2, "list", "short"), (11, "list", "stray"), (2, "audit", "short"), (11, "audit", "stray"), (2, "tally", "short"), (11, "tally", "stray"), (1, "find", "deal", "00"),
-                 (2, "find", "short", ZEROS), (16, "find", "deal", ZEROS), (2, "build", "short", 0, *given), (6, "build", "deal", 7),
-                 (16, "build", "deal", 960), (6, "build", "deal", "--slot", (1 << 64) - 1), (1, "check", "00", 1024, "record", *given),
+        codes = [(2, "new", "made", 513), (2, "number", "short", 7), (2, "commit", "short"), (11, "commit", "stray"),
+                 (2, "stream", "short"), (11, "stream", "stray"), (2, "stream", "--raw", "empty"), (2, "pad", "empty"),
+                 (24, "unpad", 7, "padded"), (2, "unpad", 0, "padded"), (2, "owner", "short"),
+                 (6, "owner", "deal", 1, 7), (16, "owner", "deal", 1, 960), (23, "owner", "deal", 3),
+                 (22, "book", "deal", "segment"), (23, "book", "deal", "segment", "--house", (1 << 64) - 1),
+                 (23, "cancel", "deal", 768, "--house", 0), (2, "book", "short", "segment"),
+                 (4, "book", "deal", "empty"), (4, "book", "deal", "stray"), (15, "book", "deal", "kept"),
+                 (2, "cancel", "short", 0), (6, "cancel", "deal", 1), (16, "cancel", "deal", 960),
+                 (6, "cancel", "deal", "--slot", 4), (1, "cancel", "deal", 768, "--commitment", "00"),
+                 (2, "collect", "short", "new"), (11, "collect", "stray", "new"),
+                 (2, "list", "short"), (11, "list", "stray"), (2, "audit", "short"), (11, "audit", "stray"),
+                 (2, "tally", "short"), (11, "tally", "stray"), (1, "find", "deal", "00"), (2, "find", "short", ZEROS),
+                 (16, "find", "deal", ZEROS), (2, "build", "short", 0, *given), (6, "build", "deal", 7),
+                 (16, "build", "deal", 960), (6, "build", "deal", "--slot", (1 << 64) - 1),
+                 (1, "check", "00", 1024, "record", *given),
                  (2, "check", self.root, 1000, "record", *given), (3, "check", self.root, 1024, "cut", *given),
                  (9, "check", ZEROS, 1024, "record", *given), (21, "check", self.root, 1024, "other", *given),
-                 (3, "settle", self.root, 1024, "record", "cut", *given), (18, "settle", self.root, 1024, "record", "second", *given),
-                 (21, "settle", self.root, 1024, "record", "other", *given), (2, "settle-deal", "short", "record", *given),
-                 (3, "settle-deal", "deal", "cut"), (21, "settle-deal", "deal", "other"), (3, "show", "cut"), (2, "fsck", "short"),
-                 (1, "settle", "00", 1024, "record", "cut", *given), (2, "settle", self.root, 1000, "record", "cut", *given),
-                 (9, "settle-deal", "damaged", "record", *given), (2, "prove", "deal", "empty", "-o", "p"), (16, "prove", "deal", "raw", "-o", "p"),
-                 (11, "prove", "deal", "--segment", "stray", "-o", "p"), (16, "find", "deal", "--raw", "raw"), (NOT_PROVED, "verify", "proof", "segment"),
-                 (NOT_PROVED, "verify", "lie", "kept"), (21, "verify", "proof", "kept", "--number", 7), (2, "verify", "proof", "kept", "--size", 7),
+                 (3, "settle", self.root, 1024, "record", "cut", *given),
+                 (18, "settle", self.root, 1024, "record", "second", *given),
+                 (21, "settle", self.root, 1024, "record", "other", *given),
+                 (2, "settle-deal", "short", "record", *given), (3, "settle-deal", "deal", "cut"),
+                 (21, "settle-deal", "deal", "other"), (3, "show", "cut"), (2, "fsck", "short"),
+                 (1, "settle", "00", 1024, "record", "cut", *given),
+                 (2, "settle", self.root, 1000, "record", "cut", *given),
+                 (9, "settle-deal", "damaged", "record", *given), (2, "prove", "deal", "empty", "-o", "p"),
+                 (16, "prove", "deal", "raw", "-o", "p"), (11, "prove", "deal", "--segment", "stray", "-o", "p"),
+                 (16, "find", "deal", "--raw", "raw"), (NOT_PROVED, "verify", "proof", "segment"),
+                 (NOT_PROVED, "verify", "lie", "kept"), (21, "verify", "proof", "kept", "--number", 7),
+                 (2, "verify", "proof", "kept", "--size", 7),
                  (2, "repair", "short"), (1, "repair", "deal", "--commitment", "00"), (2, "salvage", "short", "out"),
-                 (2, "pack", "raw", "--deal", "short"), (2, "pack", "raw", "--deal", "made", "--size", 1000), (2, "close", "short"),
-                 (22, "pack", "raw", "--deal", "deal"), (23, "pack", "raw", "--deal", "deal", "--house", 3), (23, "pack", "raw", "--deal", "made", "--house", 0),
-                 (2, "playback", 1000, "log"), (3, "playback", 1024, "cut-log"), (3, "log", "cut-log"), (DATA, "playback", 1024, "wrong-log"),
-                 (23, "pack", "raw", "--deal", "short", "--house", 3), (11, "pack", "raw", "--deal", "stray"), (11, "close", "stray"), (2, "extract", "short")]
+                 (2, "pack", "raw", "--deal", "short"), (2, "pack", "raw", "--deal", "made", "--size", 1000),
+                 (2, "close", "short"),
+                 (22, "pack", "raw", "--deal", "deal"), (23, "pack", "raw", "--deal", "deal", "--house", 3),
+                 (23, "pack", "raw", "--deal", "made", "--house", 0), (2, "playback", 1000, "log"),
+                 (3, "playback", 1024, "cut-log"), (3, "log", "cut-log"), (DATA, "playback", 1024, "wrong-log"),
+                 (23, "pack", "raw", "--deal", "short", "--house", 3), (11, "pack", "raw", "--deal", "stray"),
+                 (11, "close", "stray"), (2, "extract", "short")]
         self.put("short.manifest.json", manifest([]))
         for words in codes:
             self.outcome(*words)
@@ -364,7 +399,8 @@ class Packed(Outcomes):
         for code, length in ((22, 1), (14, 300), (4, 600)):
             for i in range(5):
                 self.put(f"folder/{i}", bytes([i + 1]) * (length if i < 3 or code == 22 else 1))
-            self.outcome(code, "pack", *(f"folder/{i}" for i in range(5 if code == 22 else 2)), "--deal", "full", "--size", 1024)
+            self.outcome(code, "pack", *(f"folder/{i}" for i in range(5 if code == 22 else 2)), "--deal", "full",
+                         "--size", 1024)
         for i in range(257):
             self.put(f"folder/many-{i}", bytes(i + 1))
         self.outcome(22, "pack", *(f"folder/many-{i}" for i in range(257)), "--deal", "full")
@@ -372,7 +408,8 @@ class Packed(Outcomes):
         for command in ("list", "audit", "fsck"):
             self.outcome(0, command, "deal")
             self.outcome(0, command, "deal", "--cid")
-        for words in (("book", "deal", "segment"), ("cancel", "deal", self.places[0]), ("pack", "raw", "--deal", "deal")):
+        for words in (("book", "deal", "segment"), ("cancel", "deal", self.places[0]),
+                      ("pack", "raw", "--deal", "deal")):
             self.outcome(DATA, *words)
         self.outcome(0, "cancel", "deal", self.places[0], "--reopen", "--house", 1)
         self.put("deal.manifest.json", self.get("deal.manifest.json").replace(b'"length":150', b'"length":149'))
@@ -387,7 +424,8 @@ class Failures(Outcomes):
     def test_unknown_options(self):
         for command, words in self.calls().items():
             value = self.outcome(USAGE, command, *words, "--nothing")
-            self.assertEqual((value["error"], value["hints"][-1]), ("no such option: --nothing", f"see: vizhuthamen {command} --help"))
+            self.assertEqual((value["error"], value["hints"][-1]),
+                             ("no such option: --nothing", f"see: vizhuthamen {command} --help"))
             self.assertEqual(self.outcome(USAGE, command, *words, "--jso")["hints"][0], "did you mean: --json")
 
     def test_wrong_words(self):
@@ -429,15 +467,19 @@ class Failures(Outcomes):
             for name in ("/dev/full", "folder", "no/such/file", "empty"):
                 value = self.outcome(IO, command, *self.calls()[command], "-o", name)
                 self.assertIn(f"cannot write {name}", value["error"])
-            self.outcome(USAGE, command, *self.calls()[command], "-o", {"pad": "raw", "unpad": "padded"}.get(command, "deal"))
+            self.outcome(USAGE, command, *self.calls()[command], "-o",
+                         {"pad": "raw", "unpad": "padded"}.get(command, "deal"))
         for name in ("/dev/full", "folder", "no/such/file", "empty"):
-            self.assertIn(f"cannot write {name}", self.outcome(IO, "prove", "deal", "--segment", "kept", "-o", name)["error"])
+            self.assertIn(f"cannot write {name}",
+                          self.outcome(IO, "prove", "deal", "--segment", "kept", "-o", name)["error"])
         for name in ("deal", "kept"):
             self.outcome(USAGE, "prove", "deal", "--segment", "kept", "-o", name)
         for name in ("/dev/full", "folder", "no/such/file"):
-            self.assertIn(f"cannot add a line to {name}", self.outcome(IO, "book", "deal", "segment", "--house", 2, "--log", name)["error"])
+            self.assertIn(f"cannot add a line to {name}",
+                          self.outcome(IO, "book", "deal", "segment", "--house", 2, "--log", name)["error"])
         self.outcome(USAGE, "book", "deal", "segment", "--house", 2, "--log", "deal.owners")
-        for words in (("new", "deal", 1024, "--number", NUMBER), ("collect", "deal", "raw"), ("stream", "deal", "--state", "raw")):
+        for words in (("new", "deal", 1024, "--number", NUMBER), ("collect", "deal", "raw"),
+                      ("stream", "deal", "--state", "raw")):
             self.assertEqual(self.outcome(IO, *words)["hints"], ["give another name"])
 
     def test_what_is_not_as_it_is_known(self):
@@ -445,7 +487,8 @@ class Failures(Outcomes):
             if "deal" in words and command not in ("fsck", "salvage"):
                 self.outcome(DATA, command, *("cut-deal" if word == "deal" else word for word in words))
         self.outcome(DATA, "verify", "record", "kept")
-        self.assertEqual(self.outcome(DATA, "verify", "kept", "proof")["hints"], ["proof is one: the proof comes first, and then the file"])
+        self.assertEqual(self.outcome(DATA, "verify", "kept", "proof")["hints"],
+                         ["proof is one: the proof comes first, and then the file"])
         for log in ("cut-log", "wrong-log", "new-log", "record"):
             self.outcome(DATA, "book", "deal", "segment", "--house", 2, "--log", log)
         self.outcome(DATA, "number", "short")
@@ -498,6 +541,8 @@ class Documented(unittest.TestCase):
 
 if __name__ == "__main__":
     if not BINARY.is_file():
-        raise SystemExit(f"json_test: {BINARY} is not there; run: cargo build --release --offline --manifest-path rust/Cargo.toml")
-    order = [unittest.defaultTestLoader.loadTestsFromTestCase(case) for case in (Answers, Refusals, Packed, Failures, Documented)]
+        raise SystemExit(f"json_test: {BINARY} is not there; run: "
+                         "cargo build --release --offline --manifest-path rust/Cargo.toml")
+    order = [unittest.defaultTestLoader.loadTestsFromTestCase(case)
+             for case in (Answers, Refusals, Packed, Failures, Documented)]
     raise SystemExit(not unittest.TextTestRunner().run(unittest.TestSuite(order)).wasSuccessful())

@@ -1,7 +1,8 @@
-"""The vectors for other implementations: the calls of vector_deals.py, vector_logs.py and vector_records.py with the answers of the model.
+"""The vectors for other implementations: the calls of vector_deals.py, vector_logs.py and vector_records.py with the
+answers of the model.
 
-tests/vectors.py writes them to vectors/vectors.json, whose README says how to use them; tests/vectors_test.py replays them through the
-library.
+tests/vectors.py writes them to vectors/vectors.json, whose README says how to use them; tests/vectors_test.py replays
+them through the library.
 """
 import hashlib
 import json
@@ -131,7 +132,8 @@ def written():
     calls = (call for group in vector_deals.GROUPS + vector_logs.GROUPS + vector_records.GROUPS for call in group())
     for routine, name, how, inputs in calls:
         code, outputs = EXPECTED[routine](**inputs)
-        cases.append({"name": name, "routine": routine, "how": how, "inputs": {each: given(value) for each, value in inputs.items()},
+        cases.append({"name": name, "routine": routine, "how": how,
+                      "inputs": {each: given(value) for each, value in inputs.items()},
                       "code": code, "outputs": {each: told(value) for each, value in outputs.items()}})
     judge(cases)
     head = json.dumps(HEAD, indent=1)[:-2]
@@ -142,7 +144,9 @@ def judge(cases):
     """No name stands twice; every code is met; and of two faults the first one's code is given."""
     codes = {case["name"]: case["code"] for case in cases}
     missing = {number for number, _, _ in header.codes()} - set(codes.values())
-    wrong = [name for name, code in codes.items() if "/fault-" in name and code != (codes[name.split("-and-")[0]] or None)]
+    wrong = [name for name, code in codes.items()
+             if "/fault-" in name and code != (codes[name.split("-and-")[0]] or None)]
     wrong += [name for name, code in codes.items() if name.endswith("/no-fault") and code]
     if len(codes) < len(cases) or missing or wrong:
-        raise ValueError(f"{len(cases)} cases, {len(codes)} names; codes that no case has: {sorted(missing)}; not as meant: {wrong}")
+        raise ValueError(f"{len(cases)} cases, {len(codes)} names; codes that no case has: {sorted(missing)}; "
+                         f"not as meant: {wrong}")

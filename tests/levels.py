@@ -2,8 +2,8 @@
 
 Run from anywhere, after tools/levels: python3 tests/levels.py
 
-The levels are v1 (plain x86-64, the object of `rt staticlib`), v3, v4, and the archive that chooses by the processor. A level that
-this processor lacks is skipped, which is said. tests/replay_levels runs all the replay programs.
+The levels are v1 (plain x86-64, the object of `rt staticlib`), v3, v4, and the archive that chooses by the processor. A
+level that this processor lacks is skipped, which is said. tests/replay_levels runs all the replay programs.
 """
 import json
 import os
@@ -49,7 +49,8 @@ def smoke(name):
     program = MADE / f"smoke-{name}"
     archive = ARCHIVES[name] / "libvizhuthamen.a"
     source = ROOT / "tests" / "c" / "smoke.c"
-    subprocess.run(["gcc", "-Wall", "-Wextra", "-Werror", f"-I{ROOT / 'include'}", source, archive, "-o", program], check=True)
+    subprocess.run(["gcc", "-Wall", "-Wextra", "-Werror", f"-I{ROOT / 'include'}", source, archive, "-o", program],
+                   check=True)
     ran = subprocess.run([program], capture_output=True, text=True)
     if ran.returncode:
         sys.exit(f"levels: the C smoke program fails at level {name}:\n{ran.stdout}")
@@ -58,10 +59,11 @@ def smoke(name):
 
 def build_replay(name):
     """The replay program at a level; Cargo says where it puts it."""
-    built = subprocess.run(["cargo", "build", "--release", "--offline", "--quiet", "--manifest-path", ROOT / "rust" / "Cargo.toml",
-                            "--example", "replay", "--target-dir", ROOT / "rust" / "target" / "levels" / name,
-                            "--message-format", "json-render-diagnostics"],
-                           env=os.environ | {"VIZHUTHAMEN_LIB": str(ARCHIVES[name])}, check=True, stdout=subprocess.PIPE)
+    built = subprocess.run(["cargo", "build", "--release", "--offline", "--quiet", "--manifest-path",
+                            ROOT / "rust" / "Cargo.toml", "--example", "replay", "--target-dir",
+                            ROOT / "rust" / "target" / "levels" / name, "--message-format", "json-render-diagnostics"],
+                           env=os.environ | {"VIZHUTHAMEN_LIB": str(ARCHIVES[name])}, check=True,
+                           stdout=subprocess.PIPE)
     said = map(json.loads, built.stdout.splitlines())
     made = next(each["executable"] for each in said if each.get("target", {}).get("name") == "replay")
     shutil.copy2(made, replay(name))
@@ -75,7 +77,8 @@ def main():
             continue
         answers = smoke(name)
         build_replay(name)
-        print(f"levels: {name}: {len(answers.splitlines())} answers of the C smoke program are right; replay program built")
+        print(f"levels: {name}: {len(answers.splitlines())} answers of the C smoke program are right; "
+              "replay program built")
 
 
 if __name__ == "__main__":

@@ -1,7 +1,8 @@
-"""Logs: lines that calls add (--log), playback, and what logs are refused: python3 tests/log_test.py (VIZHUTHAMEN names another binary).
+"""Logs: lines that calls add (--log), playback, and what logs are refused: python3 tests/log_test.py
+(VIZHUTHAMEN names another binary).
 
-The answers and the lines are those of the independent model. Wherever a call has added a line, playback confirms the log, and its rows
-are the entries of the deal.
+The answers and the lines are those of the independent model. Wherever a call has added a line, playback confirms the
+log, and its rows are the entries of the deal.
 """
 import fcntl
 import json
@@ -59,7 +60,8 @@ class Days(Calls):
         """Playback confirms the log, and its rows are the deal's entries."""
         value = self.object("playback", len(self.get(deal)), log)
         self.assertEqual([tuple(row[name] for name in WHO) for row in value["rows"]], logs.rows(*self.both(deal)))
-        self.assertEqual((value["verdict"], value["lines"], value["size"]), ("confirmed", len(logs.lines(self.get(log))), len(self.get(deal))))
+        self.assertEqual((value["verdict"], value["lines"], value["size"]),
+                         ("confirmed", len(logs.lines(self.get(log))), len(self.get(deal))))
         return value
 
     def state(self):
@@ -97,7 +99,8 @@ class Keeping(Days):
     def test_codes_without_a_line(self):
         """What is refused before it is a booking or a cancellation by the rules gets none, and makes no log."""
         self.new()
-        for code, segment, house in ((4, b"", 1), (4, bytes(513), 1), (11, b"\xff" * 32, 1), (23, bytes(128), 3), (23, bytes(128), 0)):
+        for code, segment, house in ((4, b"", 1), (4, bytes(513), 1), (11, b"\xff" * 32, 1), (23, bytes(128), 3),
+                                     (23, bytes(128), 0)):
             self.assertEqual(self.booked(segment, house), code)
         for code, place, house in ((6, 1, 1), (6, 1024, 1), (6, 704, 2), (23, 768, 0)):
             self.assertEqual(self.cancelled(place, house), code)
@@ -145,7 +148,8 @@ class Keeping(Days):
         self.confirmed()
 
     def test_where_a_log_lies(self):
-        """In another folder, by a link, by a name that is no UTF-8; a log that is made has the permissions of a new file."""
+        """In another folder, by a link, by a name that is no UTF-8; a log that is made has the permissions of a new
+        file."""
         self.new()
         self.path("folder").mkdir()
         for name in ("folder/log", "./folder/../folder/log", str(self.path("folder/log"))):
@@ -173,7 +177,8 @@ class Keeping(Days):
             self.new()
             self.booked(self.segment(), log=f"{folder}/log")
             self.cancelled(832, log=f"{folder}/log")
-            self.assertEqual((os.listdir(folder), self.files()), (["log"], ["deal", "deal.owners", "deal.vz", "segment"]))
+            self.assertEqual((os.listdir(folder), self.files()),
+                             (["log"], ["deal", "deal.owners", "deal.vz", "segment"]))
 
     def test_a_deal_without_a_table_or_with_bytes_that_stand_for_nothing(self):
         self.put("deal", bytes([1]) * 768 + bytes(256))
@@ -247,7 +252,8 @@ class Packing(Days):
             self.assertEqual((value["lines"], len(value["files"])), (lines, 1))
         skipped = {one["name"]: one["why"] for one in value["skipped"]}
         self.assertEqual(skipped["log"], "it is the deal, or belongs to it")
-        self.assertIn("it is the deal, or belongs to it", self.failed(USAGE, "pack", "folder/log", "--deal", "folder/deal", "--log", "folder/log"))
+        self.assertIn("it is the deal, or belongs to it",
+                      self.failed(USAGE, "pack", "folder/log", "--deal", "folder/deal", "--log", "folder/log"))
 
     def test_nothing_is_packed_with_a_log_that_is_not_the_deals(self):
         self.new()
@@ -275,8 +281,10 @@ class NoLogs(Days):
 
     def calls(self, log):
         """Calls that would each add a line: booked, refused, cancelled, nothing to cancel, packed."""
-        return (("book", "deal", "other", "--house", 1, "--log", log), ("book", "deal", "kept", "--house", 1, "--log", log),
-                ("cancel", "deal", 768, "--house", 2, "--log", log), ("cancel", "deal", 960, "--house", 1, "--log", log),
+        return (("book", "deal", "other", "--house", 1, "--log", log),
+                ("book", "deal", "kept", "--house", 1, "--log", log),
+                ("cancel", "deal", 768, "--house", 2, "--log", log),
+                ("cancel", "deal", 960, "--house", 1, "--log", log),
                 ("pack", "other", "--deal", "deal", "--house", 1, "--log", log))
 
     def refused_by_all(self, status, log, *parts, calls=5, **options):
@@ -291,7 +299,8 @@ class NoLogs(Days):
         os.mkfifo(self.path("pipe"))
         self.path("folder").mkdir()
         for name in ("pipe", "folder", "/dev/null", "/dev/full"):
-            self.refused_by_all(IO, name, f"cannot add a line to {name}: it is not a regular file", "give --log a plain file")
+            self.refused_by_all(IO, name, f"cannot add a line to {name}: it is not a regular file",
+                                "give --log a plain file")
         self.path("nowhere").symlink_to("missing")
         self.refused_by_all(IO, "nowhere", "it is a link that leads nowhere", "give --log the file itself")
         self.refused_by_all(IO, "no/such/log", "make its folder first")
@@ -301,7 +310,8 @@ class NoLogs(Days):
             self.assertIn("--log must be a file", self.failed(USAGE, *words))
 
     def test_files_of_the_deal(self):
-        for name in ("deal", "deal.owners", "deal.vz", "deal.manifest.json", ".deal.vz-journal", "deal.before-repair", ".deal.vz-new.3"):
+        for name in ("deal", "deal.owners", "deal.vz", "deal.manifest.json", ".deal.vz-journal", "deal.before-repair",
+                     ".deal.vz-new.3"):
             message = self.refused_by_all(USAGE, name, "a file of the deal's own", "give a file of its own for the log")
         self.assertIn(".deal.vz-new.3", message)
         self.path("link").symlink_to("deal.owners")
@@ -341,7 +351,8 @@ class NoLogs(Days):
                 continue  # one whole line
             message = self.unchanged(DATA, *self.calls("log")[cut % 5])
             line, at = (1, 0) if cut < 61 else (2, 61)
-            self.assertIn(f"log is no log of a deal of 1024 bytes: line {line}, which begins at byte {at}: the log ends at byte {cut}", message)
+            self.assertIn(f"log is no log of a deal of 1024 bytes: line {line}, which begins at byte {at}: "
+                          f"the log ends at byte {cut}", message)
             self.assertIn("where it breaks is shown by: vizhuthamen playback 1024 log", message)
             self.assertEqual(self.object("playback", 1024, "log", status=MALFORMED)["byte"], len(torn))
         for end in (b"\0", b"\1", b"\2\12", b"\3", b"line\n", bytes(61)):
@@ -352,24 +363,29 @@ class NoLogs(Days):
 
     def test_a_log_that_is_wrong_by_itself(self):
         self.put("log", self.get("log")[:-8] + bytes(8))
-        self.refused_by_all(DATA, "log", "the rules do not give what line 2 of log says", "vizhuthamen playback 1024 log")
+        self.refused_by_all(DATA, "log", "the rules do not give what line 2 of log says",
+                            "vizhuthamen playback 1024 log")
 
     def test_a_log_of_another_deal(self):
-        """Of another size, of another deal of this size, of two deals in turn; and of a copy, whose log it is until one goes on."""
+        """Of another size, of another deal of this size, of two deals in turn; and of a copy, whose log it is until one
+        goes on."""
         self.new(4096, "large")
         self.booked(self.segment(1024), log="large.log", deal="large")
-        self.refused_by_all(DATA, "large.log", "large.log is no log of a deal of 1024 bytes", "a segment of 1024 bytes, and a segment here has 1 to 512 bytes")
+        self.refused_by_all(DATA, "large.log", "large.log is no log of a deal of 1024 bytes",
+                            "a segment of 1024 bytes, and a segment here has 1 to 512 bytes")
         self.new(1024, "second")
         for words in (("book", "second", "other"), ("cancel", "second", 960)):
             message = self.unchanged(DATA, *words, "--house", 1, "--log", "log")
-            self.assertIn("log is not the log of second: by its lines an entry stands at place 768, and none does", message)
+            self.assertIn("log is not the log of second: by its lines an entry stands at place 768, and none does",
+                          message)
             self.assertIn("compare: vizhuthamen playback 1024 log, vizhuthamen list second", message)
         self.assertEqual(self.get("second"), bytes(1024))
         for end in ("", ".owners", ".vz"):
             shutil.copy(self.path("deal" + end), self.path("copy" + end))
         self.log = self.get("log")
         self.assertEqual(self.booked(self.segment(), 2, deal="copy"), 0)
-        self.refused_by_all(DATA, "log", "log is not the log of deal: by its lines an entry stands at place 896, and none does")
+        self.refused_by_all(DATA, "log",
+                            "log is not the log of deal: by its lines an entry stands at place 896, and none does")
 
     def test_what_was_done_without_the_log(self):
         self.answer("book", "deal", "other", "--house", 2)
@@ -381,12 +397,14 @@ class NoLogs(Days):
 
     def test_other_changes_end_a_log(self):
         self.answer("owner", "deal", 1, 768, "--instead-of", 2)
-        self.refused_by_all(DATA, "log", "by its lines another entry stands at place 768", "collect, owner and repair end a log: leave --log out from then on", calls=4)
+        self.refused_by_all(DATA, "log", "by its lines another entry stands at place 768",
+                            "collect, owner and repair end a log: leave --log out from then on", calls=4)
         self.answer("owner", "deal", 2, 768, "--instead-of", 1)
         self.confirmed()
         self.answer("owner", "deal", 0, 832, "--instead-of", 1)
         for words in (("cancel", "deal", 832, "--house", 1), ("book", "deal", "other", "--house", 2)):
-            self.assertIn("by its lines another entry stands at place 832", self.unchanged(DATA, *words, "--log", "log"))
+            self.assertIn("by its lines another entry stands at place 832",
+                          self.unchanged(DATA, *words, "--log", "log"))
         self.answer("owner", "deal", 1, 832)
         self.confirmed()
         deal = self.get("deal")
@@ -401,8 +419,10 @@ class NoLogs(Days):
         self.assertIn("a collection ends a log, and the deal that it makes has none", message)
 
     def test_a_log_that_begins_late(self):
-        self.refused_by_all(DATA, "new.log", "new.log is not the log of deal: it has no line, and entries stand in deal",
-                            "a log begins with a deal in which no entry stands, and cannot begin later: leave --log out")
+        self.refused_by_all(DATA, "new.log",
+                            "new.log is not the log of deal: it has no line, and entries stand in deal",
+                            "a log begins with a deal in which no entry stands, and cannot begin later: "
+                            "leave --log out")
         self.assertNotIn("new.log", self.files())
         self.put("new.log", b"")
         self.refused_by_all(DATA, "new.log", "it has no line, and entries stand in deal")
@@ -413,7 +433,8 @@ class NoLogs(Days):
         self.put("full", deal)
         self.put("full.owners", bytes(4))
         self.refused(13, "book", "full", "other", "--house", 1)
-        self.assertIn("entries stand in full", self.unchanged(DATA, "book", "full", "other", "--house", 1, "--log", "full.log"))
+        self.assertIn("entries stand in full",
+                      self.unchanged(DATA, "book", "full", "other", "--house", 1, "--log", "full.log"))
         log = self.put("log", logs.booking(1, logs.commitment(self.get("other")), 128, 13))
         value = self.object("playback", 2048, "log", status=DATA)
         self.assertEqual([one["code"] for one in value["answers"]], [13, 0])
@@ -424,7 +445,8 @@ class NoLogs(Days):
         segment = self.get("segment")
         self.put("deal", deal[:256] + bytes([deal[256] ^ 1]) + deal[257:])
         message = self.unchanged(DATA, "book", "deal", "segment", "--house", 1, "--log", "log")
-        self.assertIn("by its lines the rules give another answer than deal, whose bytes other hands have changed", message)
+        self.assertIn("by its lines the rules give another answer than deal, whose bytes other hands have changed",
+                      message)
         self.assertIn("what is wrong with deal is shown by: vizhuthamen fsck deal", message)
         self.answer("repair", "deal", "--segment", "segment")
         self.assertEqual(self.get("deal")[:768], deal[:768])
@@ -445,8 +467,10 @@ class NoLogs(Days):
                     self.assertIn("log is in use by another process", self.unchanged(BUSY, *words, "--no-wait"))
             self.object("playback", 1024, "log")
             fcntl.flock(file, fcntl.LOCK_EX)
-            call = subprocess.Popen([self.program, *map(str, self.calls("log")[1])], cwd=self.folder, stdout=subprocess.PIPE, stderr=subprocess.PIPE)
-            self.assertEqual(call.stderr.readline(), b"vizhuthamen: waiting for another process to end its work on log\n")
+            call = subprocess.Popen([self.program, *map(str, self.calls("log")[1])], cwd=self.folder,
+                                    stdout=subprocess.PIPE, stderr=subprocess.PIPE)
+            self.assertEqual(call.stderr.readline(),
+                             b"vizhuthamen: waiting for another process to end its work on log\n")
         out, _ = call.communicate(timeout=30)
         self.assertEqual((call.returncode, out.splitlines()[-1]), (15, b"lines 3"))
 
@@ -454,8 +478,10 @@ class NoLogs(Days):
         for words in (("playback", "1024", "log"), ("log", "log")):
             with open(self.path("log"), "rb") as file:
                 fcntl.flock(file, fcntl.LOCK_EX)
-                call = subprocess.Popen([self.program, *words], cwd=self.folder, stdout=subprocess.PIPE, stderr=subprocess.PIPE)
-                self.assertEqual(call.stderr.readline(), b"vizhuthamen: waiting for another process to end its work on log\n")
+                call = subprocess.Popen([self.program, *words], cwd=self.folder, stdout=subprocess.PIPE,
+                                        stderr=subprocess.PIPE)
+                self.assertEqual(call.stderr.readline(),
+                                 b"vizhuthamen: waiting for another process to end its work on log\n")
                 self.assertIsNone(call.poll())
             out, _ = call.communicate(timeout=30)
             self.assertEqual((call.returncode, out.decode()), (0, self.answer(*words)))
@@ -467,8 +493,8 @@ class NoLogs(Days):
         self.put("empty", bytes(1024))
         self.put("empty.owners", bytes(4))
         fill = "cat /dev/zero > mount/zeros 2> /dev/null"
-        script = (f'mount -t tmpfs -o size=16k none mount && cp log mount/log && head -c 3974 /dev/zero > mount/pad && {fill}; '
-                  '"$0" book deal other --house 1 --log mount/log; echo $?; cmp log mount/log; '
+        script = ('mount -t tmpfs -o size=16k none mount && cp log mount/log && head -c 3974 /dev/zero > mount/pad && '
+                  f'{fill}; "$0" book deal other --house 1 --log mount/log; echo $?; cmp log mount/log; '
                   '"$0" book empty other --house 1 --log mount/new; echo $?; ls mount')
         # Lines up to the end of the page, so that the next one needs another.
         self.path("log").unlink()
@@ -481,7 +507,8 @@ class NoLogs(Days):
             self.log += logs.cancelling(1, 960, 16)
         self.put("log", self.log)
         before = self.state()
-        ran = subprocess.run(["unshare", "-m", "sh", "-c", script, self.program], cwd=self.folder, capture_output=True, text=True)
+        ran = subprocess.run(["unshare", "-m", "sh", "-c", script, self.program], cwd=self.folder, capture_output=True,
+                             text=True)
         if "mount:" in ran.stderr or "unshare:" in ran.stderr:
             self.skipTest("no mounts here")
         self.assertEqual(ran.stdout, "74\n74\nlog\npad\nzeros\n", ran.stderr)
@@ -516,7 +543,8 @@ class Unfinished(Days):
         self.put(".deal.vz-journal", text.encode())
 
     def test_a_line_is_added_by_whoever_comes_next(self):
-        for words in (("list", "deal"), ("fsck", "deal"), ("cancel", "deal", 960, "--house", 1), ("audit", "deal"), ("collect", "deal", "new")):
+        for words in (("list", "deal"), ("fsck", "deal"), ("cancel", "deal", 960, "--house", 1), ("audit", "deal"),
+                      ("collect", "deal", "new")):
             self.decided()
             self.answer(*words, status=16 if words[0] == "cancel" else 0)
             self.log += self.line
@@ -555,8 +583,10 @@ class Unfinished(Days):
         self.path("log").unlink()
         for words in (("list", "deal"), ("fsck", "deal"), ("book", "deal", "segment"), ("salvage", "deal", "out")):
             message = self.failed(IO, *words)
-            self.assertIn("an unfinished change of it cannot be ended (.deal.vz-journal): it has a line for the log log, which is not there", message)
-            self.assertIn("bring the log back; or, if it is lost for good, take the line that begins with `log` out of .deal.vz-journal", message)
+            self.assertIn("an unfinished change of it cannot be ended (.deal.vz-journal): "
+                          "it has a line for the log log, which is not there", message)
+            self.assertIn("bring the log back; or, if it is lost for good, "
+                          "take the line that begins with `log` out of .deal.vz-journal", message)
         self.put("log", log[:60])
         message = self.failed(IO, "list", "deal")
         self.assertIn("it has a line for the log log, at byte 61, and another program has changed the log", message)
@@ -584,13 +614,15 @@ class Unfinished(Days):
 
     @unittest.skipIf(os.getuid() != 0, "needs other users")
     def test_a_journal_of_another_user(self):
-        """It is obeyed only where he could have written the log himself: a log may lie outside of the folder that others may write."""
+        """It is obeyed only where he could have written the log himself: a log may lie outside of the folder that
+        others may write."""
         user = os.stat(self.path("deal")).st_uid + 65534
         self.decided()
         os.chown(self.path(".deal.vz-journal"), user, -1)
         message = self.failed(IO, "list", "deal")
         self.assertIn(f"it was begun by user {user}, and the log log is neither his nor yours", message)
-        self.assertIn(f"let user {user} call any command on the deal; or, if you trust it, make .deal.vz-journal your own (chown)", message)
+        self.assertIn(f"let user {user} call any command on the deal; "
+                      "or, if you trust it, make .deal.vz-journal your own (chown)", message)
         self.assertEqual(self.get("log"), self.log)
         os.chown(self.path("log"), user, -1)
         self.answer("list", "deal")
@@ -640,7 +672,8 @@ class Playing(Days):
         self.assertIn("all are shown by: vizhuthamen log log", err.splitlines()[0])
         self.assertEqual(err.splitlines()[1], "vizhuthamen: what the deal holds is shown by: vizhuthamen list DEAL")
         value = self.object("playback", size, "log", status=DATA)
-        self.assertEqual([value[name] for name in ("verdict", "sentence", "lines", "line", "at", "size")], ["not confirmed", sentence, number, number, at, size])
+        self.assertEqual([value[name] for name in ("verdict", "sentence", "lines", "line", "at", "size")],
+                         ["not confirmed", sentence, number, number, at, size])
         self.assertEqual([one["by"] for one in value["answers"]], ["line", "rules"])
         self.assertEqual([one["code"] for one in value["answers"]], [says[0], gives[0]])
         self.assertNotIn("rows", value)
@@ -648,13 +681,16 @@ class Playing(Days):
 
     def test_every_two_answers(self):
         a, b, c, d = (self.line(0, 128 * i, 768 + 64 * i, 1 + i // 2, i) for i in range(4))
-        house = lambda house, which, size=128: f"house {house} books a segment of {size} bytes with the commitment {self.commitments[which].hex()}"
+        house = lambda house, which, size=128: (f"house {house} books a segment of {size} bytes "
+                                                f"with the commitment {self.commitments[which].hex()}")
         booked = lambda offset, place: (0, f"booked at offset {offset}, entry place {place}")
         kept = lambda offset, place: (15, f"already kept at offset {offset}, entry place {place}")
-        no_slot, no_place, quota = (13, "no slot is free"), (14, "no free place"), (22, "the house holds half the slots or more")
+        no_slot, no_place, quota = ((13, "no slot is free"), (14, "no free place"),
+                                    (22, "the house holds half the slots or more"))
         self.wrong(house(1, 0), booked(0, 960), booked(0, 768), self.line(0, 0, 960))
         value, err = self.wrong(house(1, 0), booked(0, 448), kept(0, 768), a, self.line(0, 0, 448))
-        self.assertEqual(value["answers"][1], {"by": "rules", "code": 15, "answer": "already kept", "offset": 0, "place": 768})
+        self.assertEqual(value["answers"][1],
+                         {"by": "rules", "code": 15, "answer": "already kept", "offset": 0, "place": 768})
         self.assertIn("every line before it is confirmed; no line after it is judged", err)
         self.assertIn("448 is no entry place of a deal of 1024 bytes: give the size of the log's own deal", err)
         self.wrong(house(1, 0), no_slot, booked(0, 768), self.line(13))
@@ -672,12 +708,15 @@ class Playing(Days):
         with_numbers = lambda offset, place: (14, f"no free place, with offset {offset} and entry place {place}")
         self.wrong(house(2, 4, 512), with_numbers(0, 832), with_numbers(0, 0), a, self.line(14, 0, 832, 2, 4, 512))
         self.wrong(house(2, 4, 512), with_numbers(128, 0), with_numbers(0, 0), a, self.line(14, 128, 0, 2, 4, 512))
-        self.wrong(house(1, 0), (22, "the house holds half the slots or more, with offset 1 and entry place 2"), booked(0, 768), self.line(22, 1, 2))
+        self.wrong(house(1, 0), (22, "the house holds half the slots or more, with offset 1 and entry place 2"),
+                   booked(0, 768), self.line(22, 1, 2))
         cancels = lambda house, place: f"house {house} cancels at entry place {place}"
-        done, nothing, outside = (0, "cancelled"), (16, "nothing of the house to cancel there"), (6, "the place is not in the index")
+        done, nothing, outside = ((0, "cancelled"), (16, "nothing of the house to cancel there"),
+                                  (6, "the place is not in the index"))
         value, _ = self.wrong(cancels(1, 768), done, nothing, logs.cancelling(1, 768, 0))
         self.assertEqual((value["call"], value["house"], value["place"]), ("cancel", 1, 768))
-        self.assertEqual(value["answers"], [{"by": "line", "code": 0, "answer": "cancelled"}, {"by": "rules", "code": 16, "answer": "nothing to cancel"}])
+        self.assertEqual(value["answers"], [{"by": "line", "code": 0, "answer": "cancelled"},
+                                            {"by": "rules", "code": 16, "answer": "nothing to cancel"}])
         self.wrong(cancels(2, 768), done, nothing, a, logs.cancelling(2, 768, 0))
         self.wrong(cancels(1, 768), nothing, done, a, logs.cancelling(1, 768, 16))
         for place in (0, 767, 769, 1024, (1 << 64) - 64):
@@ -694,7 +733,8 @@ class Playing(Days):
         self.assertEqual(self.object("playback", 1024, "log", status=MALFORMED)["line"], 2)
         for size in (0, 1, 511, 513, 1000, 1 << 25, (1 << 64) - 1):
             out, err = self.call("playback", size, "log", status=SIZE)
-            self.assertEqual((out[:7], err), ("code 2:", "vizhuthamen: a deal has a power of two from 512 to 16777216 bytes\n"))
+            self.assertEqual((out[:7], err),
+                             ("code 2:", "vizhuthamen: a deal has a power of two from 512 to 16777216 bytes\n"))
             self.assertEqual(self.object("playback", size, "log", status=SIZE).get("lines"), None)
 
     def malformed(self, log, line, at, byte, why, size=1024):
@@ -704,7 +744,8 @@ class Playing(Days):
         self.assertEqual(out.splitlines()[0], f"malformed: {sentence}")
         self.assertTrue(out.splitlines()[1].startswith("code 3: "), out)
         value = self.object("playback", size, "log", status=MALFORMED)
-        self.assertEqual([value[name] for name in ("verdict", "sentence", "line", "at", "byte")], ["malformed", sentence, line, at, byte])
+        self.assertEqual([value[name] for name in ("verdict", "sentence", "line", "at", "byte")],
+                         ["malformed", sentence, line, at, byte])
         self.assertEqual("vizhuthamen log log" in err, line > 1)
         return err
 
@@ -714,40 +755,56 @@ class Playing(Days):
         for tag in (0, 3, 97, 255):
             self.malformed(a + bytes([tag]) + a, 2, 61, 61, f"byte 61 is {tag}, {begins}")
         for length in (0, 10, 57, 59, 58 + 256):
-            self.malformed(b"\1" + length.to_bytes(2, "little") + a[3:], 1, 0, 1, f"bytes 1 and 2 say {length}, and the content of a booking's line has 58 bytes")
-        self.malformed(a + b"\2\13\0" + cancel[3:], 2, 61, 62, "bytes 62 and 63 say 11, and the content of a cancellation's line has 10 bytes")
+            self.malformed(b"\1" + length.to_bytes(2, "little") + a[3:], 1, 0, 1,
+                           f"bytes 1 and 2 say {length}, and the content of a booking's line has 58 bytes")
+        self.malformed(a + b"\2\13\0" + cancel[3:], 2, 61, 62,
+                       "bytes 62 and 63 say 11, and the content of a cancellation's line has 10 bytes")
         for house in (0, 3, 255):
             self.malformed(a[:3] + bytes([house]) + a[4:], 1, 0, 3, f"byte 3 says house {house}, and a house is 1 or 2")
-            self.malformed(cancel[:3] + bytes([house]) + cancel[4:], 1, 0, 3, f"byte 3 says house {house}, and a house is 1 or 2")
+            self.malformed(cancel[:3] + bytes([house]) + cancel[4:], 1, 0, 3,
+                           f"byte 3 says house {house}, and a house is 1 or 2")
         for size in (0, 513, (1 << 64) - 1):
-            self.malformed(self.line(0, 0, 768, size=size), 1, 0, 36, f"the 8 bytes from byte 36 on say a segment of {size} bytes, and a segment here has 1 to 512 bytes")
+            self.malformed(self.line(0, 0, 768, size=size), 1, 0, 36,
+                           f"the 8 bytes from byte 36 on say a segment of {size} bytes, "
+                           "and a segment here has 1 to 512 bytes")
         for code in (1, 12, 16, 23, 255):
-            self.malformed(self.line(code), 1, 0, 44, f"byte 44 says code {code}, and a booking's line has 0, 13, 14, 15 or 22")
+            self.malformed(self.line(code), 1, 0, 44,
+                           f"byte 44 says code {code}, and a booking's line has 0, 13, 14, 15 or 22")
         for code in (6, 15, 22):
-            self.malformed(a + logs.cancelling(1, 768, code), 2, 61, 73, f"byte 73 says code {code}, and a cancellation's line has 0 or 16")
+            self.malformed(a + logs.cancelling(1, 768, code), 2, 61, 73,
+                           f"byte 73 says code {code}, and a cancellation's line has 0 or 16")
         for cut in range(1, 61):
-            err = self.malformed(a + a[:cut], 2, 61, 61 + cut, f"the log ends at byte {61 + cut}, after {cut} of the 61 bytes of a booking's line")
-        self.assertIn("a line that a call was cut short in is completed by the next command on its deal: vizhuthamen fsck DEAL", err)
+            err = self.malformed(a + a[:cut], 2, 61, 61 + cut,
+                                 f"the log ends at byte {61 + cut}, after {cut} of the 61 bytes of a booking's line")
+        self.assertIn("a line that a call was cut short in is completed by the next command on its deal: "
+                      "vizhuthamen fsck DEAL", err)
         for cut in range(1, 13):
-            self.malformed(cancel[:cut], 1, 0, cut, f"the log ends at byte {cut}, after {cut} of the 13 bytes of a cancellation's line")
+            self.malformed(cancel[:cut], 1, 0, cut,
+                           f"the log ends at byte {cut}, after {cut} of the 13 bytes of a cancellation's line")
 
     def test_an_empty_log(self):
         self.put("log", b"")
-        self.assertEqual(self.answer("playback", 512, "log"), "confirmed: log has no line, and no segment is booked by it\n")
+        self.assertEqual(self.answer("playback", 512, "log"),
+                         "confirmed: log has no line, and no segment is booked by it\n")
         value = self.object("playback", 512, "log")
         self.assertEqual((value["lines"], value["rows"]), (0, []))
 
     def test_from_a_pipe_and_as_piece_cids(self):
         log = self.line(0, 0, 768) + self.line(0, 128, 832, 2)
         shown = self.answer("playback", 1024, "-", stdin=log)
-        self.assertEqual(shown.splitlines()[0], "confirmed: the rules give the answers of all 2 lines of standard input, in a deal of 1024 bytes")
-        self.assertEqual(rows_of("\n".join(shown.splitlines()[1:])), [["place", "house", "offset", "size", "commitment"],
-                         ["768", "1", "0", "128", self.commitments[0].hex()], ["832", "2", "128", "128", self.commitments[0].hex()]])
+        self.assertEqual(shown.splitlines()[0],
+                         "confirmed: the rules give the answers of all 2 lines of standard input, "
+                         "in a deal of 1024 bytes")
+        self.assertEqual(rows_of("\n".join(shown.splitlines()[1:])),
+                         [["place", "house", "offset", "size", "commitment"],
+                          ["768", "1", "0", "128", self.commitments[0].hex()],
+                          ["832", "2", "128", "128", self.commitments[0].hex()]])
         self.assertIn(cid(self.commitments[0]), self.answer("playback", 1024, "-", "--cid", stdin=log))
         self.assertIn("the one line of", self.answer("playback", 1024, "-", stdin=log[:61]))
         self.assertIn("vizhuthamen log -", self.call("playback", 1024, "-", stdin=log[:61] + log[:61], status=DATA)[1])
         os.mkfifo(self.path("pipe"))
-        with subprocess.Popen([self.program, "playback", "1024", "pipe"], cwd=self.folder, stdout=subprocess.PIPE) as call:
+        with subprocess.Popen([self.program, "playback", "1024", "pipe"], cwd=self.folder,
+                              stdout=subprocess.PIPE) as call:
             with open(self.path("pipe"), "wb", buffering=0) as pipe:
                 pipe.write(log[:70])
                 pipe.write(log[70:])
@@ -756,7 +813,8 @@ class Playing(Days):
     def test_128_rows(self):
         """The largest deal, with every slot booked; and one line more, which gets 22."""
         size, start = 1 << 24, (1 << 24) - 128 * 64
-        log = b"".join(logs.booking(1 + i % 2, i.to_bytes(32, "little"), 128, 0, 128 * i, start + 64 * i) for i in range(128))
+        log = b"".join(logs.booking(1 + i % 2, i.to_bytes(32, "little"), 128, 0, 128 * i, start + 64 * i)
+                       for i in range(128))
         self.put("log", log + logs.booking(1, bytes([9]) * 32, 128, 22))
         rows = self.object("playback", size, "log")["rows"]
         self.assertEqual([row["place"] for row in rows], [start + 64 * i for i in range(128)])
@@ -776,7 +834,8 @@ class Playing(Days):
             changed = bytearray(log)
             changed[at] ^= 1 << self.rng.randrange(8)
             self.put("log", bytes(changed))
-            ran = subprocess.run([self.program, "playback", "1024", "log", "--json"], cwd=self.folder, capture_output=True)
+            ran = subprocess.run([self.program, "playback", "1024", "log", "--json"], cwd=self.folder,
+                                 capture_output=True)
             value = json.loads(ran.stdout)
             (kind, said), ruling, rows = MODEL.playback(1024, bytes(changed))
             self.assertEqual((ran.returncode, value.get("line", 0) * kind), (DATA, said) if kind else (said, 0))
@@ -787,7 +846,8 @@ class Playing(Days):
             if ran.returncode:
                 self.assertEqual(value["at"], sum(len(line) for line in logs.lines(log)[: value["line"] - 1]))
             else:
-                self.assertEqual([tuple(row[name] for name in WHO) for row in value["rows"]], [(r.place, r.house, r.offset, r.size, r.commitment.hex()) for r in rows])
+                self.assertEqual([tuple(row[name] for name in WHO) for row in value["rows"]],
+                                 [(r.place, r.house, r.offset, r.size, r.commitment.hex()) for r in rows])
         self.assertEqual(statuses, {0, MALFORMED, DATA})
 
 
@@ -810,26 +870,33 @@ class Listing(Days):
                                     ["6", "257", "cancel", "1", "0, cancelled", "-", "768", "-", "-"]])
         value = self.object("log", "log")
         self.assertEqual((value["lines"], [call["at"] for call in value["calls"]]), (6, [0, 61, 122, 183, 244, 257]))
-        self.assertEqual(value["calls"][0], {"line": 1, "at": 0, "call": "book", "house": 1, "code": 0, "answer": "booked", "offset": 0,
-                                             "place": 768, "size": 256, "commitment": a})
-        self.assertEqual(value["calls"][5], {"line": 6, "at": 257, "call": "cancel", "house": 1, "code": 0, "answer": "cancelled", "place": 768})
+        self.assertEqual(value["calls"][0],
+                         {"line": 1, "at": 0, "call": "book", "house": 1, "code": 0, "answer": "booked", "offset": 0,
+                          "place": 768, "size": 256, "commitment": a})
+        self.assertEqual(value["calls"][5], {"line": 6, "at": 257, "call": "cancel", "house": 1, "code": 0,
+                                             "answer": "cancelled", "place": 768})
         self.assertEqual(rows_of(self.answer("log", "-", stdin=self.log)), [head, *rows])
 
     def test_a_malformed_log_is_shown_as_far_as_it_goes(self):
         line = logs.booking(1, bytes(32), 1 << 40, 13, 5, 7)
         self.put("log", line + b"\1")
         out = self.answer("log", "log", status=MALFORMED)
-        self.assertEqual(out.splitlines()[0], "malformed: log, line 2, which begins at byte 61: the log ends at byte 62, after 1 of the 61 bytes of a booking's line")
-        self.assertEqual(rows_of("\n".join(out.splitlines()[2:]))[1][:8], ["1", "0", "book", "1", "13, no slot", "5", "7", str(1 << 40)])
+        self.assertEqual(out.splitlines()[0],
+                         "malformed: log, line 2, which begins at byte 61: "
+                         "the log ends at byte 62, after 1 of the 61 bytes of a booking's line")
+        self.assertEqual(rows_of("\n".join(out.splitlines()[2:]))[1][:8],
+                         ["1", "0", "book", "1", "13, no slot", "5", "7", str(1 << 40)])
         value = self.object("log", "log", status=MALFORMED)
         self.assertEqual([value[name] for name in ("lines", "line", "at", "byte")], [1, 2, 61, 62])
         self.put("log", logs.booking(1, bytes(32), 0, 0))
-        self.assertIn("say a segment of 0 bytes, and a segment has 1 byte or more, and at most half of its deal's", self.answer("log", "log", status=MALFORMED))
+        self.assertIn("say a segment of 0 bytes, and a segment has 1 byte or more, and at most half of its deal's",
+                      self.answer("log", "log", status=MALFORMED))
 
     def test_an_empty_log(self):
         self.put("log", b"")
         self.assertEqual(rows_of(self.answer("log", "log"))[1:], [])
-        self.assertEqual(self.object("log", "log"), {"code": 0, "meaning": "the log is well formed", "lines": 0, "calls": []})
+        self.assertEqual(self.object("log", "log"),
+                         {"code": 0, "meaning": "the log is well formed", "lines": 0, "calls": []})
 
 
 class Races(Days):
@@ -837,7 +904,8 @@ class Races(Days):
 
     def at_once(self, calls, statuses):
         """Starts calls at once; their exit statuses, which must be among these."""
-        started = [subprocess.Popen([self.program, *map(str, call)], cwd=self.folder, stdout=subprocess.PIPE, stderr=subprocess.PIPE) for call in calls]
+        started = [subprocess.Popen([self.program, *map(str, call)], cwd=self.folder, stdout=subprocess.PIPE,
+                                    stderr=subprocess.PIPE) for call in calls]
         ended = []
         for call, process in zip(calls, started):
             _, err = process.communicate(timeout=120)
@@ -892,13 +960,15 @@ class Races(Days):
             for name, data in segment.items():
                 self.new(1024, name)
                 self.put(name + ".segment", data)
-            statuses = self.at_once([("book", name, name + ".segment", "--log", "log") for name in segment], (0, DATA, IO))
+            statuses = self.at_once([("book", name, name + ".segment", "--log", "log") for name in segment],
+                                    (0, DATA, IO))
             self.assertEqual(sorted(statuses)[0], 0)
             self.assertNotEqual(sorted(statuses)[1], 0)
             booked, other = ("a", "b") if statuses[0] == 0 else ("b", "a")
             self.confirmed(booked)
             self.assertEqual(self.both(other), (bytes(1024), bytes(4)))
-            self.assertEqual(self.files(), sorted(["log", *(f"{name}{end}" for name in "ab" for end in ("", ".owners", ".vz", ".segment"))]))
+            self.assertEqual(self.files(), sorted(["log", *(f"{name}{end}" for name in "ab"
+                                                            for end in ("", ".owners", ".vz", ".segment"))]))
 
     def test_readers_meanwhile(self):
         """Playback beside bookings: the log is whole and confirmed whenever it is read."""
@@ -915,5 +985,6 @@ class Races(Days):
 
 if __name__ == "__main__":
     if not BINARY.is_file():
-        raise SystemExit(f"log_test: {BINARY} is not there; run: cargo build --release --offline --manifest-path rust/Cargo.toml")
+        raise SystemExit(f"log_test: {BINARY} is not there; run: "
+                         "cargo build --release --offline --manifest-path rust/Cargo.toml")
     unittest.main()

@@ -11,8 +11,8 @@ ZERO32, ZERO64 = bytes(32), bytes(64)
 
 BLANK, DAMAGED, VALID = range(3)  # the kinds of an entry
 
-# The states of a slot in an audit: blank; damaged; valid but not standing; standing and overlapping a standing entry in a lower slot;
-# standing but its commitment is wrong; kept.
+# The states of a slot in an audit: blank; damaged; valid but not standing; standing and overlapping a standing entry in
+# a lower slot; standing but its commitment is wrong; kept.
 SLOT_BLANK, SLOT_DAMAGED, SLOT_NOT_STANDING, SLOT_OVERLAPPING, SLOT_WRONG, SLOT_KEPT = range(6)
 
 
@@ -184,7 +184,8 @@ class Booking(NamedTuple):
     place: int = 0
 
     def to_bytes(self):
-        content = bytes([self.house]) + self.commitment + le(self.size) + bytes([self.code]) + le(self.offset) + le(self.place)
+        content = (bytes([self.house]) + self.commitment + le(self.size) + bytes([self.code]) + le(self.offset)
+                   + le(self.place))
         return field(BOOKING, content)
 
 
@@ -256,7 +257,8 @@ class Ledger:
         return [row for row in self.rows.values() if row]
 
     def lowest_offset(self, a):
-        """The lowest multiple of the area that ends by the index start and overlaps no row's area; None where there is none."""
+        """The lowest multiple of the area that ends by the index start and overlaps no row's area; None where there is
+        none."""
         used = [(row.offset, row.offset + area(row.size)) for row in self.held()]
         free = (o for o in range(0, self.start - a + 1, a) if all(end <= o or o + a <= first for first, end in used))
         return next(free, None)
@@ -316,7 +318,8 @@ class Model:
         return 0, self.tree(run)[-1][0]
 
     def stream(self, pieces):
-        """Code, commitment and count at the end, and the code that sticks after each piece. Bytes are judged in turn."""
+        """Code, commitment and count at the end, and the code that sticks after each piece. Bytes are judged in
+        turn."""
         taken, sticks, codes = bytearray(), 0, []
         for piece in pieces:
             for byte in piece:
@@ -390,7 +393,8 @@ class Model:
         return None
 
     def kept(self, deal, i, tree=None):
-        """What is kept in slot i: (commitment, offset, size) or None. With a tree buffer, by the node that stands there."""
+        """What is kept in slot i: (commitment, offset, size) or None. With a tree buffer, by the node that stands
+        there."""
         row = self.standing(deal, i)
         if row is None:
             return None
@@ -505,7 +509,8 @@ class Model:
 
     # ---- cancel and collect
     def cancel(self, deal, table, house, place, tree=None):
-        """Code, the deal and the table afterwards. A tree buffer is judged by its length alone; see `cancel_with_tree`."""
+        """Code, the deal and the table afterwards. A tree buffer is judged by its length alone; see
+        `cancel_with_tree`."""
         d = len(deal)
         code = self.house_refusal(d, table, house)
         if code:
@@ -580,7 +585,8 @@ class Model:
         return 0, b"".join(self.h.node(below[i : i + 64]) for i in range(0, len(below), 64))
 
     def levels(self, deal, tree):
-        """All levels, the nodes of level 0 first: hashed from the deal, or with a tree buffer the others as they stand there."""
+        """All levels, the nodes of level 0 first: hashed from the deal, or with a tree buffer the others as they stand
+        there."""
         if tree is None:
             return self.tree(deal)
         nodes = lambda data: [data[i : i + 32] for i in range(0, len(data), 32)]
@@ -592,7 +598,8 @@ class Model:
         return levels
 
     def renewed(self, deal, tree, parts):
-        """The tree buffer once every node above these parts (start, length) of the deal is worked out anew, from the bottom up."""
+        """The tree buffer once every node above these parts (start, length) of the deal is worked out anew, from the
+        bottom up."""
         levels = self.levels(deal, tree)
         for h in range(1, len(levels)):
             for i in range(len(levels[h])):
@@ -619,8 +626,8 @@ class Model:
 
     # ---- a log played back
     def playback(self, d, log):
-        """What is said, the kind first: 0 and a code, or 1 and the number of a line; what the rules give for that line (code, offset,
-        place); the rows."""
+        """What is said, the kind first: 0 and a code, or 1 and the number of a line; what the rules give for that line
+        (code, offset, place); the rows."""
         if not self.lent_allowed(d):
             return (0, 2), (0, 0, 0), []
         lines = log_lines(d, log)
@@ -755,7 +762,8 @@ class Model:
             return code, ZERO64, ZERO64
         _, o, s, p, *_ = self.parse(record)
         pairs = lambda size, q: self.pairs(levels, size, q)
-        return self.settled(self.strings(record), pairs(64, p // 64) + [deal[p : p + 64]] + pairs(area(s), o // area(s)))
+        return self.settled(self.strings(record),
+                            pairs(64, p // 64) + [deal[p : p + 64]] + pairs(area(s), o // area(s)))
 
     @staticmethod
     def pairs(levels, size, q):

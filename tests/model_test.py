@@ -1,4 +1,5 @@
-"""Runs the independent model on the papers' own worked values. Prints one line; exits non-zero at the first difference."""
+"""Runs the independent model on the papers' own worked values. Prints one line; exits non-zero at the first
+difference."""
 import random
 import sys
 from itertools import product
@@ -13,11 +14,11 @@ import playback_days
 import playback_edge_cases
 import refusal_cases
 from cases import sparse_record
-from model import (BLANK, DAMAGED, MAX_RAW, SLOT_BLANK, SLOT_DAMAGED, SLOT_KEPT, SLOT_NOT_STANDING, SLOT_OVERLAPPING, SLOT_WRONG, VALID,
-                   Booking, Model, Weak, area, filled, index_numbers, node_in, node_place, owners, pad, segment_length, sha256, stray, unpad,
-                   ZERO32, ZERO64)
-from operations import (BOOK, BOOK_TREE, CANCEL, CANCEL_TREE, CHECK, CHECK_INPUT, COLLECT, COLLECT_TREE, PLAIN_FORM, SETTLE,
-                        SETTLE_TREE, answer)
+from model import (BLANK, DAMAGED, MAX_RAW, SLOT_BLANK, SLOT_DAMAGED, SLOT_KEPT, SLOT_NOT_STANDING, SLOT_OVERLAPPING,
+                   SLOT_WRONG, VALID, Booking, Model, Weak, area, filled, index_numbers, node_in, node_place, owners,
+                   pad, segment_length, sha256, stray, unpad, ZERO32, ZERO64)
+from operations import (BOOK, BOOK_TREE, CANCEL, CANCEL_TREE, CHECK, CHECK_INPUT, COLLECT, COLLECT_TREE, PLAIN_FORM,
+                        SETTLE, SETTLE_TREE, answer)
 
 NUMBER = 0x1122334455667788  # a deal's number
 
@@ -36,8 +37,10 @@ def segment(rng, size):
 
 
 def published_values():
-    expect("SHA-256 of abc", sha256(b"abc")[1].hex(), "ba7816bf8f01cfea414140de5dae2223b00361a396177a9cb410ff61f20015ad")
-    expect("SHA-256 of nothing", sha256(b"")[1].hex(), "e3b0c44298fc1c149afbf4c8996fb92427ae41e4649b934ca495991b7852b855")
+    expect("SHA-256 of abc", sha256(b"abc")[1].hex(),
+           "ba7816bf8f01cfea414140de5dae2223b00361a396177a9cb410ff61f20015ad")
+    expect("SHA-256 of nothing", sha256(b"")[1].hex(),
+           "e3b0c44298fc1c149afbf4c8996fb92427ae41e4649b934ca495991b7852b855")
     for d, n, start in ((512, 4, 256), (524288, 4, 524032), (1048576, 8, 1048064), (16777216, 128, 16769024),
                         (34359738368, 262144, 34342961152), (68719476736, 524288, 68685922304)):
         expect(f"index of {d}", index_numbers(d), (0, n, start))
@@ -58,7 +61,8 @@ def streams():
             expect(f"{total} bytes by {n}", m.stream(pieces), (code, c, 0 if code else total, [0] * len(pieces)))
     stray = bytes(31) + b"\x40"
     expect("33 bytes as a run", m.commitment(stray + b"\0"), (2, ZERO32))
-    expect("33 bytes as a stream", m.stream([stray[:31], stray[31:], b"\0", bytes(31)]), (11, ZERO32, 0, [0, 11, 11, 11]))
+    expect("33 bytes as a stream", m.stream([stray[:31], stray[31:], b"\0", bytes(31)]),
+           (11, ZERO32, 0, [0, 11, 11, 11]))
     expect("no piece", m.stream([]), (2, ZERO32, 0, []))
 
 
@@ -76,7 +80,8 @@ def paddings():
 
 
 def bookings(what, d, calls):
-    """A run of bookings: house, segment, and what is answered, one after the other; the deal and the table afterwards."""
+    """A run of bookings: house, segment, and what is answered, one after the other; the deal and the table
+    afterwards."""
     m, deal = Model(), bytes(d)
     table = owners(deal, 0)
     for i, (house, s, *wanted) in enumerate(calls):
@@ -88,8 +93,8 @@ def bookings(what, d, calls):
 
 
 def worked_runs():
-    """Document 01's runs: done by one house they show 22 at the third new segment (document 02, request (x)); two houses
-    meet 14 in 512 bytes, and in 1,024 bytes 22 at the fifth segment, not 13, which needs nobody's entries."""
+    """Document 01's runs: done by one house they show 22 at the third new segment (document 02, request (x)); two
+    houses meet 14 in 512 bytes, and in 1,024 bytes 22 at the fifth segment, not 13, which needs nobody's entries."""
     m, rng = Model(), random.Random(1)
     a, b, c = (segment(rng, 128) for _ in range(3))
     for house in (1, 2):
@@ -100,7 +105,8 @@ def worked_runs():
     four = [segment(rng, 128) for _ in range(4)]
     row = lambda i, house: (house, four[i], 0, 128 * i, 768 + 64 * i)
     bookings("1,024 bytes, one house", 1024, (row(0, 2), row(1, 2), (2, four[2], 22, 0, 0)))
-    full, table = bookings("1,024 bytes, two houses", 1024, (*map(row, range(4), (1, 1, 2, 2)), (1, a, 22, 0, 0), (2, a, 22, 0, 0)))
+    full, table = bookings("1,024 bytes, two houses", 1024,
+                           (*map(row, range(4), (1, 1, 2, 2)), (1, a, 22, 0, 0), (2, a, 22, 0, 0)))
     expect("the table", table, b"\1\1\2\2")
     for byte in (0, 3, 7, 255):
         for house in (1, 2):
@@ -111,7 +117,8 @@ def worked_runs():
 
 
 def kinds():
-    """An all-zero slot is blank whatever its checksum, an entry with one bit flipped is damaged, and the tally counts each slot once."""
+    """An all-zero slot is blank whatever its checksum, an entry with one bit flipped is damaged, and the tally counts
+    each slot once."""
     m, rng = Model(), random.Random(3)
     expect("an all-zero slot", m.read_entry(bytes(64)), (0, BLANK, ZERO32, 0, 0))
     expect("the checksum of an all-zero slot is wrong", m.h.checksum(bytes(48)) != bytes(16), True)
@@ -270,7 +277,8 @@ def shown_strings():
 
 
 def collisions():
-    """With a node hash of four bits, forged records are accepted, and settling shows a collision, never anything else."""
+    """With a node hash of four bits, forged records are accepted, and settling shows a collision, never anything
+    else."""
     shown = 0
     for seed in range(3000):
         rng = random.Random(seed)
@@ -369,7 +377,8 @@ def true_trees():
 
 
 def stale_trees():
-    """Filled, then booked by the plain form: the segment is not kept by that tree, so building says 16, and it is booked again."""
+    """Filled, then booked by the plain form: the segment is not kept by that tree, so building says 16, and it is
+    booked again."""
     m, rng = Model(), random.Random(9)
     tree = m.fill(bytes(1024), bytes(992))[1]
     for s in (b"x", segment(rng, 130)):
@@ -384,7 +393,8 @@ def stale_trees():
 
 
 def other_trees():
-    """Whatever a tree holds, its nodes are taken as they stand there: kept, the paths, the last node, the deal's strings."""
+    """Whatever a tree holds, its nodes are taken as they stand there: kept, the paths, the last node, the deal's
+    strings."""
     m, rng = Model(), random.Random(10)
     deal, s = bytes(1024), segment(rng, 256)
     _, o, p, deal = m.put(m.put(deal, segment(rng, 128))[3], s)
@@ -403,7 +413,8 @@ def other_trees():
     code, v, w = m.settle_deal(deal, NUMBER, record, sibling)
     expect("a pair that does not collide", (code, v[32:], m.h.node(v) == m.h.node(w)), (17, w[32:], False))
     own = put(node_of(rng), 3, 1)
-    expect("kept by the bytes alone", (m.build(deal, NUMBER, p, own)[0], m.book_with_tree(deal, own, own_table, 1, s)[0]), (16, 0))
+    expect("kept by the bytes alone",
+           (m.build(deal, NUMBER, p, own)[0], m.book_with_tree(deal, own, own_table, 1, s)[0]), (16, 0))
     named = node_of(rng)
     forged = deal[:p] + m.entry(named, o, 256) + deal[p + 64:]
     own = put(named, 3, 1)
@@ -413,8 +424,8 @@ def other_trees():
 
 
 def renewed_trees():
-    """Booking works out anew the nodes above what is written and writes no other, whatever the tree holds; the segment's nodes and the
-    entry's may be worked out one after the other, in either order."""
+    """Booking works out anew the nodes above what is written and writes no other, whatever the tree holds; the
+    segment's nodes and the entry's may be worked out one after the other, in either order."""
     m, rng = Model(), random.Random(11)
     for d in (512, 1024, 4096):
         for size in (1, 128, 130, d // 2):
@@ -637,9 +648,9 @@ def kept_rows(m, deal, table):
 
 def whole_runs():
     """Bookings, cancellations and collections of both houses from zeros: each segment that was booked and not cancelled
-    since is kept for its house, with its size and bytes; nothing else stands; no house has a segment twice, or more than
-    half of the slots; areas do not overlap, so that 20 is never met, and neither is 13; bytes at free slots are zero; the
-    tree kept over all of it is the deal's own."""
+    since is kept for its house, with its size and bytes; nothing else stands; no house has a segment twice, or more
+    than half of the slots; areas do not overlap, so that 20 is never met, and neither is 13; bytes at free slots are
+    zero; the tree kept over all of it is the deal's own."""
     for seed in range(60):
         rng = random.Random(f"whole/{seed}")
         m, d = Model() if seed % 2 else Model(Weak(4)), rng.choice((512, 1024, 2048))
@@ -661,7 +672,8 @@ def whole_runs():
                 if code == 0:
                     wanted.remove((house, deal[row[1] : row[1] + row[2]]))
             else:
-                code, deal, tree, table = m.collect_with_tree(deal, table, rng.randbytes(d), rng.randbytes(d - 32), rng.randbytes(4))
+                code, deal, tree, table = m.collect_with_tree(
+                    deal, table, rng.randbytes(d), rng.randbytes(d - 32), rng.randbytes(4))
                 expect("a collection", code, 0)
             expect("what is kept", kept_rows(m, deal, table), sorted(wanted))
             expect("no house has more than half", max(table.count(1), table.count(2)) <= 2, True)
@@ -671,7 +683,8 @@ def whole_runs():
 
 def house_orders():
     """23, 2, 23, 4, 11, 12, 15, 22, 13, 14 for a booking; 23, 2, 23, 11, 12, 6, 16 for a cancellation; 2, 23 for either
-    table, 12, 11, 12, 20 for a collection. A fault alone gets its code, of two the earlier one's; nothing is written."""
+    table, 12, 11, 12, 20 for a collection. A fault alone gets its code, of two the earlier one's; nothing is
+    written."""
     met = {op: set() for op in (*house_cases.FAULTS, *map(PLAIN_FORM.get, house_cases.FAULTS))}
     for codes, lent in house_cases.faulty(random.Random(25)):
         code, *after = answer(lent).split()
@@ -700,13 +713,15 @@ def quotas():
     expect("numbers of slots held", seen, {(4, held) for held in range(5)} | {(8, 3), (8, 4), (8, 5)})
     for count in range(5):
         for kept in (0, 1):
-            deal = bytes(768) + b"".join(house_cases.standing_at(rng, i, kept) for i in range(count)) + bytes(256 - 64 * count)
+            deal = bytes(768) + b"".join(house_cases.standing_at(rng, i, kept)
+                                         for i in range(count)) + bytes(256 - 64 * count)
             code = m.book(deal, b"\1" * 4, 1, b"x")[0]
             expect(f"{count} entries, kept or not: {kept}", code, 22 if count >= 2 else 0)
 
 
 def written_owners():
-    """Booking sets the slot's byte to the house whatever it was, cancelling clears it, and neither changes another one."""
+    """Booking sets the slot's byte to the house whatever it was, cancelling clears it, and neither changes another
+    one."""
     m, rng = Model(), random.Random(27)
     for byte in range(256):
         for house in (1, 2):
@@ -717,7 +732,8 @@ def written_owners():
             slot = (p - 768) // 64
             expect("booked", (code, owned), (0, put(table, slot, bytes([house]))))
             expect("the other house", m.cancel(after, owned, 3 - house, p), (16, after, owned))
-            expect("cancelled", m.cancel(after, owned, house, p), (0, put(after, p, bytes(64)), put(table, slot, b"\0")))
+            expect("cancelled", m.cancel(after, owned, house, p),
+                   (0, put(after, p, bytes(64)), put(table, slot, b"\0")))
 
 
 def own_entries():
@@ -731,12 +747,13 @@ def own_entries():
             got = m.book(deal, bytes(table), house, s)[:3]
             expect(f"owners {table}", got, (15, 128 * own[0], 768 + 64 * own[0]) if own else (13, 0, 0))
             for i, owner in enumerate(table):
-                expect(f"owners {table}", m.cancel(deal, bytes(table), house, 768 + 64 * i)[0], 0 if owner == house else 16)
+                expect(f"owners {table}", m.cancel(deal, bytes(table), house, 768 + 64 * i)[0],
+                       0 if owner == house else 16)
 
 
 def moved_owners():
-    """Collection carries each standing entry's byte as it was to its new slot, with zeros after them; bytes at other slots
-    are left behind."""
+    """Collection carries each standing entry's byte as it was to its new slot, with zeros after them; bytes at other
+    slots are left behind."""
     m, rng = Model(), random.Random(29)
     deal = m.drop(booked(m, 1024, *(segment(rng, size) for size in (128, 128, 256, 128))), 832)[1]
     for a, b, c, free in product((0, 1, 2, 7, 255), repeat=4):
@@ -745,8 +762,8 @@ def moved_owners():
 
 
 def isolated():
-    """Where no standing area overlaps another, a house's bookings and cancellations have the same code, offset and place
-    in two deals that differ in segments which are not its own; where one does, they may not."""
+    """Where no standing area overlaps another, a house's bookings and cancellations have the same code, offset and
+    place in two deals that differ in segments which are not its own; where one does, they may not."""
     differ, codes = 0, set()
     for calls in house_cases.twin_calls(random.Random(30), 60):
         numbers = 3 if calls[0].op in (BOOK, BOOK_TREE) else 1
@@ -762,8 +779,8 @@ def isolated():
 
 
 def one_rule_decides():
-    """The calls of edge_cases.py have the codes that are written beside them, and bookings their offset and place. Of the
-    valid entries there that do not stand each breaks one rule alone."""
+    """The calls of edge_cases.py have the codes that are written beside them, and bookings their offset and place. Of
+    the valid entries there that do not stand each breaks one rule alone."""
     m = Model()
     rng = random.Random(32)
     for numbers, lent in (*edge_cases.judged(rng), *edge_cases.eight_slots(rng), *edge_cases.longest_deals()):
@@ -776,8 +793,8 @@ def one_rule_decides():
 
 
 def audits():
-    """The calls of audit_cases.py and audit_edge_cases.py have the codes and states that are written beside them; the rest of the
-    buffer stays, and with a refusal all of it."""
+    """The calls of audit_cases.py and audit_edge_cases.py have the codes and states that are written beside them; the
+    rest of the buffer stays, and with a refusal all of it."""
     m, rng, codes, states = Model(), random.Random(33), set(), set()
     for code, written, lent in (*audit_cases.judged(rng), *audit_cases.long_deals(rng, 1 << 20), *audit_cases.longest(),
                                 *audit_edge_cases.small(rng), *audit_edge_cases.large()):
@@ -810,9 +827,9 @@ def audited_orders():
 
 
 def audited_laws():
-    """The states of deals that others have made, by what other routines say of them: the kinds are those of the tally, a slot is free for
-    booking below 3, an entry is overlapping somewhere exactly where collecting is refused with 20, and what can be built is 5 or
-    overlapping."""
+    """The states of deals that others have made, by what other routines say of them: the kinds are those of the tally,
+    a slot is free for booking below 3, an entry is overlapping somewhere exactly where collecting is refused with 20,
+    and what can be built is 5 or overlapping."""
     m, seen = Model(), set()
     for lent in audit_cases.foreign(random.Random(35), 150):
         d, n = len(lent.a), len(owners(lent.a, 0))
@@ -821,7 +838,8 @@ def audited_laws():
         expect("free slots", [state < 3 for state in states], [m.standing(lent.a, i) is None for i in range(n)])
         expect("overlaps", 3 in states, m.pack(lent.a, bytes(d))[0] == 20)
         codes = [m.build(lent.a, NUMBER, d - 64 * n + 64 * i)[0] for i in range(n)]
-        expect("what can be built", all(code == (16, 0)[state == 5] for code, state in zip(codes, states) if state != 3), True)
+        expect("what can be built",
+               all(code == (16, 0)[state == 5] for code, state in zip(codes, states) if state != 3), True)
         seen.update(zip(states, codes))
     expect("states and codes of building", seen, {(0, 16), (1, 16), (2, 16), (3, 16), (3, 0), (4, 16), (5, 0)})
 
@@ -837,7 +855,8 @@ def audited_runs():
 
 
 def played_logs():
-    """The calls of playback_cases.py and playback_edge_cases.py say what is written beside them, and have the rows that are."""
+    """The calls of playback_cases.py and playback_edge_cases.py say what is written beside them, and have the rows that
+    are."""
     m, said = Model(), set()
     for each in (*playback_cases.judged(), *playback_cases.longest(), *playback_edge_cases.judged(),
                  *playback_edge_cases.past_the_store()):
@@ -849,7 +868,8 @@ def played_logs():
 
 
 def played_days():
-    """The log of a day from an all-zero deal is confirmed, and its rows are the standing entries; calls with other codes have no line."""
+    """The log of a day from an all-zero deal is confirmed, and its rows are the standing entries; calls with other
+    codes have no line."""
     m, rng, codes, calls = Model(), random.Random(37), set(), 0
     for i in range(60):
         clerk, cases = playback_days.deal_day(rng, rng.choice((512, 1024, 2048)), 20, with_tree=i % 2 == 1)
@@ -857,13 +877,14 @@ def played_days():
         expect("a day", m.playback(len(clerk.deal), log), ((0, 0), (0, 0, 0), clerk.standing()))
         codes.update((type(line).__name__, line.code) for line in clerk.log)
         calls += len(cases) - len(clerk.log)
-    expect("the codes", codes, {("Booking", 0), ("Booking", 14), ("Booking", 15), ("Booking", 22), ("Cancelling", 0), ("Cancelling", 16)})
+    expect("the codes", codes,
+           {("Booking", 0), ("Booking", 14), ("Booking", 15), ("Booking", 22), ("Cancelling", 0), ("Cancelling", 16)})
     expect("calls without a line", calls > 50, True)
 
 
 def played_collisions():
-    """Without the claim's premise it fails: two segments with one commitment, of a weak hash, are booked with 0, and the second line is
-    wrong, as is one that was refused with 22."""
+    """Without the claim's premise it fails: two segments with one commitment, of a weak hash, are booked with 0, and
+    the second line is wrong, as is one that was refused with 22."""
     m = Model(Weak(4))
     segments = {}
     for i in range(40):

@@ -1,27 +1,30 @@
 """The operations that a case can ask for, and the answers of the independent model.
 
-A case is a header of eight little-endian u64 (operation, lengths of a, b, c, d and e, x, y), then the bytes a, b, c, d and e. Its answer
-is one line of text: the code, the numbers in decimal, the bytes in hex. `encode` writes it; ANSWERS says what each operation takes and
-prints.
+A case is a header of eight little-endian u64 (operation, lengths of a, b, c, d and e, x, y), then the bytes a, b, c, d
+and e. Its answer is one line of text: the code, the numbers in decimal, the bytes in hex. `encode` writes it; ANSWERS
+says what each operation takes and prints.
 """
 import hashlib
 from typing import NamedTuple
 
 from model import Model, index_numbers, le, pad, sha256, unpad
 
-# The operations by number, as crates/vectors and rust/examples/replay/operation.rs have them. CHECK_INPUT is of the program check_record,
-# and COMPARE of the code that settling shares (two paths from one position): no routines of their own.
-(SHA256, COMMITMENT, NUMBERS, MAKE, READ, FIND, BOOK, BUILD, CHECK, SETTLE, SETTLE_DEAL, FIELDS, CHECK_INPUT, AUDIT, COMPARE, STREAM, PAD,
- UNPAD, TALLY, FILL, BOOK_TREE, BUILD_TREE, SETTLE_TREE, CANCEL, CANCEL_TREE, COLLECT, COLLECT_TREE, ROW, PLAYBACK) = range(1, 30)
+# The operations by number, as crates/vectors and rust/examples/replay/operation.rs have them. CHECK_INPUT is of the
+# program check_record, and COMPARE of the code that settling shares (two paths from one position): no routines of their
+# own.
+(SHA256, COMMITMENT, NUMBERS, MAKE, READ, FIND, BOOK, BUILD, CHECK, SETTLE, SETTLE_DEAL, FIELDS, CHECK_INPUT, AUDIT,
+ COMPARE, STREAM, PAD, UNPAD, TALLY, FILL, BOOK_TREE, BUILD_TREE, SETTLE_TREE, CANCEL, CANCEL_TREE, COLLECT,
+ COLLECT_TREE, ROW, PLAYBACK) = range(1, 30)
 
-NAMES = {SHA256: "sha256", COMMITMENT: "commitment", NUMBERS: "index_numbers", MAKE: "make_entry", READ: "read_entry", FIND: "find",
-         BOOK: "book", BUILD: "build", CHECK: "check", SETTLE: "settle_records", SETTLE_DEAL: "settle_with_deal", FIELDS: "read_field",
+NAMES = {SHA256: "sha256", COMMITMENT: "commitment", NUMBERS: "index_numbers", MAKE: "make_entry", READ: "read_entry",
+         FIND: "find", BOOK: "book", BUILD: "build", CHECK: "check", SETTLE: "settle_records",
+         SETTLE_DEAL: "settle_with_deal", FIELDS: "read_field",
          AUDIT: "audit", TALLY: "tally", FILL: "tree_fill", BOOK_TREE: "book_with_tree", BUILD_TREE: "build_with_tree",
          SETTLE_TREE: "settle_with_tree", CANCEL: "cancel", CANCEL_TREE: "cancel_with_tree", COLLECT: "collect",
          COLLECT_TREE: "collect_with_tree", ROW: "tree_row", PLAYBACK: "playback"}
 
-# The forms that take a tree, in c; their other arguments are those of the plain forms. A table of owners is in d, a second one in e,
-# and a house in y.
+# The forms that take a tree, in c; their other arguments are those of the plain forms. A table of owners is in d, a
+# second one in e, and a house in y.
 PLAIN_FORM = {BOOK_TREE: BOOK, BUILD_TREE: BUILD, SETTLE_TREE: SETTLE_DEAL, CANCEL_TREE: CANCEL, COLLECT_TREE: COLLECT}
 
 MODEL = Model()
@@ -92,8 +95,8 @@ ROWS = 128 * 57  # the bytes of a ledger's rows
 
 
 def played_back(case):
-    """a is the log, x the deal's size. The kind of the answer, 0 or 1, and the code or the number of the line; what the rules give for
-    that line: code, offset, place; the number of rows, and their bytes, with zeros after them."""
+    """a is the log, x the deal's size. The kind of the answer, 0 or 1, and the code or the number of the line; what the
+    rules give for that line: code, offset, place; the number of rows, and their bytes, with zeros after them."""
     verdict, ruling, rows = MODEL.playback(case.x, case.a)
     return *verdict, *ruling, len(rows), digest(b"".join(row.to_bytes() for row in rows).ljust(ROWS, b"\0"))
 
@@ -120,8 +123,8 @@ def cancelled(case):
 
 
 def collected(case):
-    """b is the second deal before, d the table, e the second table before; the second deal, with a tree for it in hand the tree, and the
-    second table afterwards."""
+    """b is the second deal before, d the table, e the second table before; the second deal, with a tree for it in hand
+    the tree, and the second table afterwards."""
     if case.op == COLLECT:
         code, *after = MODEL.collect(case.a, case.d, case.b, case.e)
     else:
@@ -143,7 +146,8 @@ def built(case):
 
 
 def fields(case):
-    """The fields read in turn from place 0, whatever their tags: tag, start, length, next; then the place that is no field."""
+    """The fields read in turn from place 0, whatever their tags: tag, start, length, next; then the place that is no
+    field."""
     record, at, out = case.a, 0, []
     while at + 3 <= len(record):
         n = record[at + 1] + 256 * record[at + 2]

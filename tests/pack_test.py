@@ -1,8 +1,9 @@
 """From files to a deal and back at the command line: python3 tests/pack_test.py (VIZHUTHAMEN names another binary).
 
-`pack`, `extract` and `close`, the manifest beside a deal, and what the other commands do to it. What `pack` writes is compared with what
-`pad`, `book` and `build` write one by one, and each record with the model's check. At every system call of a `pack` the process is
-killed: deal, table of owners and manifest agree afterwards, and the same call again ends it.
+`pack`, `extract` and `close`, the manifest beside a deal, and what the other commands do to it. What `pack` writes is
+compared with what `pad`, `book` and `build` write one by one, and each record with the model's check. At every system
+call of a `pack` the process is killed: deal, table of owners and manifest agree afterwards, and the same call again
+ends it.
 """
 import fcntl
 import hashlib
@@ -24,7 +25,8 @@ from model import MAX_RAW, area, segment_length
 
 SHIM = Path(tempfile.mkdtemp(prefix="vizhuthamen-pack-")) / "faults.so"
 PLACE = (1 << 20) - 512  # of the first slot in a deal of 1 MiB, which has eight
-ODD = ["plain.pdf", "with space", "new\nline", "quote\"'", "back\\slash", "-dash", "ünïcödé", ".hidden", "sub/same", "sub/deep/er/same",
+ODD = ["plain.pdf", "with space", "new\nline", "quote\"'", "back\\slash", "-dash", "ünïcödé", ".hidden", "sub/same",
+       "sub/deep/er/same",
        "tab\there", "x" * 255, os.fsdecode(b"latin-\xe9"), "sub/...", "%s%n", "*", "~", "a.record", "b;rm"]
 
 
@@ -69,7 +71,8 @@ class Packs(Calls):
 
     def manifest(self, name="deal"):
         value = json.loads(self.get(name + ".manifest.json"))
-        self.assertEqual((value["form"], value["version"], sorted(value)), ("vizhuthamen manifest", 1, ["files", "form", "version"]))
+        self.assertEqual((value["form"], value["version"], sorted(value)),
+                         ("vizhuthamen manifest", 1, ["files", "form", "version"]))
         return value["files"]
 
     def names(self, name="deal"):
@@ -78,7 +81,8 @@ class Packs(Calls):
                 for line in self.manifest(name) for n in line["names"]}
 
     def agree(self, files, deal="deal"):
-        """Every file is in the manifest, as it is and where the deal keeps it, and no other is; so says the deal itself."""
+        """Every file is in the manifest, as it is and where the deal keeps it, and no other is; so says the deal
+        itself."""
         names, data = self.names(deal), self.get(deal)
         self.assertEqual(sorted(names), sorted(files))
         slots = {slot["place"]: slot for slot in self.object("list", deal)["slots"]}
@@ -104,9 +108,11 @@ class Story(Packs):
         began, worked = time.monotonic(), processors()
         answer = self.object("pack", "in", "--deal", "deal", "--number", 5801, "--records", "records")
         packing = time.monotonic() - began, processors() - worked
-        self.assertEqual((answer["booked"], answer["kept_already"], answer["number"], answer["size"]), (39, 0, 5801, 1 << 24))
+        self.assertEqual((answer["booked"], answer["kept_already"], answer["number"], answer["size"]),
+                         (39, 0, 5801, 1 << 24))
         self.assertEqual(answer["commitment"], self.answer("commit", "deal").strip())
-        self.assertEqual((answer["manifest"], answer["records"], answer["skipped"]), ("deal.manifest.json", "records", []))
+        self.assertEqual((answer["manifest"], answer["records"], answer["skipped"]),
+                         ("deal.manifest.json", "records", []))
         states = [line.pop("state") for line in answer["files"]]
         self.assertEqual((set(states), answer["files"]), ({"booked"}, self.manifest()))
         deal = self.agree(files)
@@ -128,7 +134,8 @@ class Story(Packs):
         self.assertEqual((answer["booked"], answer["kept_already"], self.found(".")), (0, 39, before))
 
     def one_by_one(self, files, deal, packing):
-        """By falling area and then by name, padded, booked and built by a call each: the same deal and the same records."""
+        """By falling area and then by name, padded, booked and built by a call each: the same deal and the same
+        records."""
         began, worked = time.monotonic(), processors()
         self.answer("new", "single", 1 << 24, "--number", 5801)
         order = sorted(files, key=lambda n: (-area(segment_length(len(files[n]))), os.fsencode(n)))
@@ -149,16 +156,17 @@ class Story(Packs):
             mine = name + ".record" if len(os.fsencode(last)) <= 248 else f"place-{names[name]['place']}.record"
             self.assertEqual(self.get("record"), records[mine], name)
         building, worked = time.monotonic() - began, processors() - worked
-        self.assertEqual((self.get("single"), records["sub/the same bytes.record"]), (deal, records["plain.pdf.record"]))
+        self.assertEqual((self.get("single"), records["sub/the same bytes.record"]),
+                         (deal, records["plain.pdf.record"]))
         self.assertEqual(self.get("single.owners"), self.get("deal.owners"))
         self.assertEqual(len(records), 40)
         root = MODEL.commitment(deal)[1]
         for record in records.values():
             self.assertEqual(MODEL.check(root, len(deal), 5801, record), 0)
         single = padding + booking + building
-        print(f"pack: 40 files with records in {packing[0]:.2f} s; one by one {single:.2f} s (padding {padding:.2f}, booking {booking:.2f}, "
-              f"building {building:.2f}): {packing[0] / single:.3f} of it; of the processors {packing[1]:.2f} s and {worked:.2f} s: "
-              f"{packing[1] / worked:.3f}")
+        print(f"pack: 40 files with records in {packing[0]:.2f} s; one by one {single:.2f} s (padding {padding:.2f}, "
+              f"booking {booking:.2f}, building {building:.2f}): {packing[0] / single:.3f} of it; "
+              f"of the processors {packing[1]:.2f} s and {worked:.2f} s: {packing[1] / worked:.3f}")
         # The aim, by the time of processors, which other work on the machine hardly changes: some 0.05.
         self.assertLess(packing[1], 0.1 * worked)
 
@@ -188,8 +196,8 @@ manifest deal.manifest.json
         self.some(12)
         controller, terminal = pty.openpty()
         environment = {**os.environ, "LD_PRELOAD": str(SHIM), "FAULT_CLOCK": "1"}
-        ran = subprocess.run([self.program, "pack", "in", "--deal", "deal", "--number", "7", "--records", "r"], cwd=self.folder,
-                             stdout=subprocess.DEVNULL, stderr=terminal, env=environment)
+        ran = subprocess.run([self.program, "pack", "in", "--deal", "deal", "--number", "7", "--records", "r"],
+                             cwd=self.folder, stdout=subprocess.DEVNULL, stderr=terminal, env=environment)
         os.close(terminal)
         shown = all_of(controller).decode()
         self.assertEqual(ran.returncode, 0, shown)
@@ -224,13 +232,16 @@ class Batches(Packs):
     def test_one_name_and_other_bytes(self):
         self.tree({"a": b"1"})
         self.tree({"a": b"2"}, "other")
-        self.assertIn("two files have the name a and different bytes", self.failed(DATA, "pack", "in", "other", "--deal", "deal"))
+        self.assertIn("two files have the name a and different bytes",
+                      self.failed(DATA, "pack", "in", "other", "--deal", "deal"))
         self.assertEqual(self.files(), ["in", "other"])
         self.answer("pack", "in", "in/a", "--deal", "deal")
         before = self.found(".")
-        self.assertIn("a was packed before with other bytes, at place 256", self.failed(DATA, "pack", "other", "--deal", "deal"))
+        self.assertIn("a was packed before with other bytes, at place 256",
+                      self.failed(DATA, "pack", "other", "--deal", "deal"))
         self.tree({"a/b": b"3"}, "third")
-        self.assertIn("a is the name of a file and that of a folder", self.failed(DATA, "pack", "third", "--deal", "deal"))
+        self.assertIn("a is the name of a file and that of a folder",
+                      self.failed(DATA, "pack", "third", "--deal", "deal"))
         self.assertEqual({n: d for n, d in self.found(".").items() if "third" not in n}, before)
         # Trailing zeros alone are other bytes.
         self.tree({"zero": b"1\0", "zeros": b"1\0\0"}, "zeros")
@@ -253,7 +264,8 @@ class Batches(Packs):
             answer = self.object("pack", "in", "--deal", deal, "--records", "in/records")
             skipped = {s["name"]: s["why"] for s in answer["skipped"]}
             own = ["deal", "deal.manifest.json", "deal.owners", "deal.vz", "records"]
-            self.assertEqual((answer["booked"], sorted(skipped)), (0, sorted([*own, "empty", "folder", "link", "pipe", "sub/e"])))
+            self.assertEqual((answer["booked"], sorted(skipped)),
+                             (0, sorted([*own, "empty", "folder", "link", "pipe", "sub/e"])))
         self.agree(files, "in/deal")
         for word in ("in/empty", "in/pipe", "in/deal", "in/deal.vz", "in/deal.owners", "/dev/null"):
             self.assertIn("cannot be packed", self.failed(USAGE, "pack", "in/a", word, "--deal", "in/deal"))
@@ -301,8 +313,9 @@ vizhuthamen: or let the other house book them here, as far as it may: --house 2
         """65 files of a house: the one that does not fit goes into a second deal, or to the other house."""
         files = self.tree({f"f{i}": b"%d" % i for i in range(65)})
         out, err = self.call("pack", "in", "--deal", "deal", "--number", 1, status=22)
-        self.assertEqual(out.splitlines()[1:], ["f9: the house has no slot left for it",
-                                                "house 1 may hold 64 of the 128 slots of deal, half of them, and holds 0: it books 64 more"])
+        self.assertEqual(out.splitlines()[1:],
+                         ["f9: the house has no slot left for it",
+                          "house 1 may hold 64 of the 128 slots of deal, half of them, and holds 0: it books 64 more"])
         self.assertIn("no deal holds all 65 for one house: pack those that are named into further ones", err)
         self.assertIn("or let the other house book them here, as far as it may: --house 2", err)
         self.assertEqual(self.files(), ["in"])
@@ -321,9 +334,11 @@ vizhuthamen: or let the other house book them here, as far as it may: --house 2
         self.path("in/f7").chmod(0)  # nobody can read it
         out, err = self.call("pack", "in", "--deal", "deal", status=22, **nobody())
         self.assertIn("300 files are given, at least 300 of them different, which take up", out)
-        self.assertTrue(out.endswith("bytes; a deal has at most 64 files of a house, and 16769024 bytes for them: they need 5 deals or more\n"))
-        self.assertEqual(err, "vizhuthamen: no file was read; nothing is written\n"
-                              "vizhuthamen: pack them in parts, each into a deal of its own (--deal, with its --number)\n")
+        self.assertTrue(out.endswith("bytes; a deal has at most 64 files of a house, and 16769024 bytes for them: "
+                                     "they need 5 deals or more\n"))
+        self.assertEqual(err,
+                         "vizhuthamen: no file was read; nothing is written\n"
+                         "vizhuthamen: pack them in parts, each into a deal of its own (--deal, with its --number)\n")
         self.tree({f"s{i}": b"%03d" % i for i in range(300)}, "same")
         answer = self.object("pack", "same", "--deal", "deal", status=22)
         self.assertEqual((answer["given"], answer["different"]), (300, 257))
@@ -337,7 +352,8 @@ vizhuthamen: or let the other house book them here, as far as it may: --house 2
         self.assertEqual((answer["booked"], sum(len(f["names"]) for f in answer["files"])), (3, 300))
 
     def test_the_smallest_deal_and_a_deal_that_is_full(self):
-        for lengths, size in (((1,), 512), ((127, 127), 512), ((127, 127, 1), 1 << 20), ((128,), 512), ((300,), 1024), ((1,) * 4, 1 << 20), ((1,) * 5, 1 << 21)):
+        for lengths, size in (((1,), 512), ((127, 127), 512), ((127, 127, 1), 1 << 20), ((128,), 512), ((300,), 1024),
+                              ((1,) * 4, 1 << 20), ((1,) * 5, 1 << 21)):
             shutil.rmtree(self.path("in"), ignore_errors=True)
             files = self.tree({f"f{i}": self.rng.randbytes(n) for i, n in enumerate(lengths)})
             if len(set(files.values())) == len(lengths):
@@ -352,14 +368,17 @@ vizhuthamen: or let the other house book them here, as far as it may: --house 2
 
     def test_the_number(self):
         files = self.tree({"a": b"1"})
-        self.assertIn("the number of deal is not known", self.failed(DATA, "pack", "in", "--deal", "deal", "--records", "r"))
+        self.assertIn("the number of deal is not known",
+                      self.failed(DATA, "pack", "in", "--deal", "deal", "--records", "r"))
         self.answer("pack", "in", "--deal", "deal")
         self.failed(DATA, "number", "deal")
         self.answer("pack", "in", "--deal", "deal", "--number", 7)
         self.assertEqual(self.answer("number", "deal"), "number 7\n")
-        self.assertIn("has the number 7, and --number says 8", self.failed(DATA, "pack", "in", "--deal", "deal", "--number", 8))
+        self.assertIn("has the number 7, and --number says 8",
+                      self.failed(DATA, "pack", "in", "--deal", "deal", "--number", 8))
         answer = self.object("pack", "in", "--deal", "deal", "--records", "r")
-        self.assertEqual(self.answer("check", answer["commitment"], 512, "r/a.record", "--number", 7), "code 0: the record is accepted\n")
+        self.assertEqual(self.answer("check", answer["commitment"], 512, "r/a.record", "--number", 7),
+                         "code 0: the record is accepted\n")
         self.agree(files)
 
     def test_records_that_are_there(self):
@@ -373,12 +392,14 @@ vizhuthamen: or let the other house book them here, as far as it may: --house 2
         self.assertEqual(self.found("."), before)
         self.answer(*pack, "--force")
         new = self.found("r")
-        self.assertEqual((sorted(new), [n for n in old if old[n] == new[n]]), (["a.record", "c.record", "sub/b.record"], []))
+        self.assertEqual((sorted(new), [n for n in old if old[n] == new[n]]),
+                         (["a.record", "c.record", "sub/b.record"], []))
         self.tree({"a.record/x": b"4"}, "more")
         more = "pack", "more", "--deal", "deal", "--force", "--records"
         self.assertIn("r/a.record is no folder", self.failed(IO, *more, "r"))
         self.assertIn("a folder of new/a.record/x.record would be a file", self.failed(DATA, *more, "new"))
-        self.assertEqual((self.found("r"), "a.record/x" in self.names(), self.path("new").exists()), (new, False, False))
+        self.assertEqual((self.found("r"), "a.record/x" in self.names(), self.path("new").exists()),
+                         (new, False, False))
         shutil.rmtree(self.path("r/sub"))
         os.symlink("/tmp", self.path("r/sub"))
         self.assertIn("r/sub is no folder", self.failed(IO, *pack))
@@ -435,7 +456,8 @@ class Manifests(Packs):
         for command in ("list", "audit"):
             self.assertEqual(self.shown(command), [*names, *["-"] * 5])
         slots = self.object("audit", "deal")["slots"]
-        self.assertEqual([slot.get("names") for slot in slots], [["a", "copy of a"], ["c"], ["sub/b", "b"], *[None] * 5])
+        self.assertEqual([slot.get("names") for slot in slots],
+                         [["a", "copy of a"], ["c"], ["sub/b", "b"], *[None] * 5])
         # What the other house has booked of it has the name too, and so has a slot that was damaged.
         self.answer("pack", "in/c", "--deal", "deal", "--house", 2)
         self.assertEqual(self.shown()[4:6], ["c", "-"])
@@ -443,7 +465,8 @@ class Manifests(Packs):
         deal[self.names()["a"]["place"]] ^= 1
         self.put("deal", bytes(deal))
         self.assertEqual(self.shown("audit", status=DATA)[1], "a, copy of a")
-        self.assertEqual(self.object("list", "deal")["slots"][0], {"slot": 0, "place": PLACE, "state": "damaged", "names": ["a", "copy of a"]})
+        self.assertEqual(self.object("list", "deal")["slots"][0],
+                         {"slot": 0, "place": PLACE, "state": "damaged", "names": ["a", "copy of a"]})
         # A segment that was booked by hand has none, and a deal without a manifest no such column.
         self.put("segment", self.segment(128))
         self.answer("book", "deal", "segment", "--force", "--house", 1)
@@ -494,8 +517,8 @@ class Manifests(Packs):
     def test_one_that_cannot_be_understood(self):
         files = self.packed()
         listed = self.get("deal.manifest.json")
-        for text in (b"", b"{", listed[:-3], listed.replace(b"\"version\":1", b"\"version\":2"), b"\xff", b"[]", b"[" * 10000,
-                     listed.replace(b"\"sub/b\"", b"\"a\""), listed.replace(b"\"length\"", b"\"len\"")):
+        for text in (b"", b"{", listed[:-3], listed.replace(b"\"version\":1", b"\"version\":2"), b"\xff", b"[]",
+                     b"[" * 10000, listed.replace(b"\"sub/b\"", b"\"a\""), listed.replace(b"\"length\"", b"\"len\"")):
             self.put("deal.manifest.json", text)
             before = self.found(".")
             for words in (("pack", "in", "--deal", "deal"), ("extract", "deal")):
@@ -531,7 +554,8 @@ class Manifests(Packs):
         self.packed()
         self.path("deal").unlink()
         self.path("deal.owners").unlink()
-        for words in (("new", "deal", 1 << 20, "--number", 7), ("pack", "in", "--deal", "deal", "--size", 1 << 20, "--number", 7)):
+        for words in (("new", "deal", 1 << 20, "--number", 7),
+                      ("pack", "in", "--deal", "deal", "--size", 1 << 20, "--number", 7)):
             self.assertIn("deal.manifest.json is there, of an older deal", self.failed(DATA, *words))
         self.assertEqual([n for n in self.files() if n.startswith(".") or n.endswith(".owners")], [])
 
@@ -558,17 +582,21 @@ class Extracts(Packs):
 
     def test_names_and_folders(self):
         files = self.packed()
-        for words, names in ((["a"], ["a"]), (["sub"], ["sub/b", "sub/c"]), (["sub/c", "subs"], ["sub/c", "subs"]), ([], list(files))):
+        for words, names in ((["a"], ["a"]), (["sub"], ["sub/b", "sub/c"]), (["sub/c", "subs"], ["sub/c", "subs"]),
+                             ([], list(files))):
             self.answer("extract", "deal", *words, "--to", "out")
             self.assertEqual(self.found(), {n: files[n] for n in names})
             shutil.rmtree(self.path("out"))
         for name in ("b", "sub/", "su", "", "/", "../a", "sub/d"):
             self.assertIn("nothing is written", self.failed(DATA, "extract", "deal", "a", name, "--to", "out"))
-        for name, near in (("b", "sub/b"), ("sbu/b", "sub/b"), ("SUBS", None), ("sub/d", "sub/b, sub/c"), ("sus", "subs")):
-            self.assertEqual(re.findall("did you mean: ([^;]*);", self.failed(DATA, "extract", "deal", name)), [near] if near else [])
+        for name, near in (("b", "sub/b"), ("sbu/b", "sub/b"), ("SUBS", None), ("sub/d", "sub/b, sub/c"),
+                           ("sus", "subs")):
+            self.assertEqual(re.findall("did you mean: ([^;]*);", self.failed(DATA, "extract", "deal", name)),
+                             [near] if near else [])
         self.assertNotIn("out", self.files())
         self.path("here").mkdir()
-        subprocess.run([self.program, "extract", "../deal", "a"], cwd=self.path("here"), check=True, capture_output=True)
+        subprocess.run([self.program, "extract", "../deal", "a"], cwd=self.path("here"), check=True,
+                       capture_output=True)
         self.assertEqual(self.found("here"), {"a": files["a"]})
         self.assertEqual(self.answer("extract", "deal", "a"), "a (300 bytes)\n")
         self.assertEqual(self.object("extract", "deal", "a")["folder"], ".")
@@ -611,10 +639,12 @@ class Extracts(Packs):
         spoilt[names["sub/b"]["offset"] + 7] ^= 1
         self.put("deal", bytes(spoilt))
         value = self.object("extract", "deal", "--to", "out", status=DATA)
-        self.assertEqual([(left["name"], left["why"].split(":")[0]) for left in value["not_extracted"]], [("sub/b", "its entry is not kept")])
+        self.assertEqual([(left["name"], left["why"].split(":")[0]) for left in value["not_extracted"]],
+                         [("sub/b", "its entry is not kept")])
         self.assertEqual(self.found(), {n: d for n, d in files.items() if n != "sub/b"})
         self.put("deal", deal)
-        changes = (names["a"]["sha256"].encode(), b"0" * 64), (b"\"length\":300", b"\"length\":299"), (b"\"length\":300", b"\"length\":0")
+        changes = ((names["a"]["sha256"].encode(), b"0" * 64), (b"\"length\":300", b"\"length\":299"),
+                   (b"\"length\":300", b"\"length\":0"))
         for old, new in changes:
             self.put("deal.manifest.json", text.replace(old, new))
             shutil.rmtree(self.path("out"))
@@ -636,7 +666,8 @@ class Houses(Packs):
         # The first house has its half of the slots; the second books for itself what the first has too.
         before = self.found(".")
         answer = self.object("pack", "more/c", "--deal", "deal", status=22)
-        self.assertEqual((answer["house"], answer["held"], answer["unfit"], answer["largest_segment"]), (1, 2, [{"names": ["c"], "code": 22}], 0))
+        self.assertEqual((answer["house"], answer["held"], answer["unfit"], answer["largest_segment"]),
+                         (1, 2, [{"names": ["c"], "code": 22}], 0))
         self.assertEqual(self.found("."), before)
         answer = self.object("pack", "more", "--deal", "deal", "--house", 2)
         self.assertEqual((answer["house"], answer["booked"], answer["kept_already"]), (2, 2, 0))
@@ -646,7 +677,8 @@ class Houses(Packs):
             self.assertEqual(self.object("pack", "in/a", "--deal", "deal", "--house", house)["kept_already"], 1)
         # Two houses are in the deal: which one packs must be said, by the option or by the environment.
         self.assertIn("say which with --house", self.failed(USAGE, "pack", "in", "--deal", "deal"))
-        self.assertEqual(self.object("pack", "in", "--deal", "deal", env={**os.environ, "VIZHUTHAMEN_HOUSE": "1"})["house"], 1)
+        self.assertEqual(self.object("pack", "in", "--deal", "deal",
+                                     env={**os.environ, "VIZHUTHAMEN_HOUSE": "1"})["house"], 1)
         # Each cancels its own: the name stays as long as one of them has the segment.
         place = self.names()["a"]["place"]
         self.answer("cancel", "deal", place, "--house", 2, status=16)
@@ -663,7 +695,8 @@ class Houses(Packs):
         files = self.tree({"a": b"1", "b": b"2"})
         for there in (["in"], ["deal", "deal.manifest.json", "deal.owners", "deal.vz", "in"]):
             answer = self.object("pack", "in", "--deal", "deal", "--house", 3, status=23)
-            self.assertEqual((answer["house"], answer["refused"], [f["names"] for f in answer["unfit"]]), (3, ["house"], [["a"], ["b"]]))
+            self.assertEqual((answer["house"], answer["refused"], [f["names"] for f in answer["unfit"]]),
+                             (3, ["house"], [["a"], ["b"]]))
             self.assertEqual(self.files(), there)
             self.answer("pack", "in", "--deal", "deal", "--size", 1024)
         self.put("deal.owners", b"\1\1\0")
@@ -681,22 +714,26 @@ class Houses(Packs):
         self.tree({"a": b"1"})
         packed = self.object("pack", "in", "--deal", "deal", "--cid")
         cid = self.answer("commit", "deal", "--cid").strip()
-        self.assertEqual((packed["cid"], self.answer("close", "deal", "--cid").splitlines()[0]), (cid, f"commitment {cid}"))
+        self.assertEqual((packed["cid"], self.answer("close", "deal", "--cid").splitlines()[0]),
+                         (cid, f"commitment {cid}"))
         self.assertEqual(self.object("list", "deal", "--cid")["closed_cid"], cid)
 
 
 class Closing(Packs):
     def test_proofs_of_all_files(self):
         """NAME.proof for each name, as `prove` writes it, and `verify` says yes with what closing has printed."""
-        files = self.tree({"a": b"1" * 300, "sub/b": b"2", "sub/same": b"1" * 300, os.fsdecode(b"odd-\xff"): b"3" * 99, "x" * 252: b"4"})
+        files = self.tree({"a": b"1" * 300, "sub/b": b"2", "sub/same": b"1" * 300, os.fsdecode(b"odd-\xff"): b"3" * 99,
+                           "x" * 252: b"4"})
         self.answer("pack", "in", "--deal", "deal", "--number", 7)
         out, err = self.call("close", "deal", "--proofs", "p", "--records", "r")
-        self.assertEqual(err, "vizhuthamen: deal is closed: records and proofs are built from now on, for this commitment; book, cancel and "
-                              "pack refuse it without --reopen\n")
+        self.assertEqual(err,
+                         "vizhuthamen: deal is closed: records and proofs are built from now on, for this commitment; "
+                         "book, cancel and pack refuse it without --reopen\n")
         closed, written = self.told(out), self.found("p")
         self.assertEqual((closed["proofs"], closed["records"], len(self.found("r"))), ("p", "r", 5))
         place = self.names()["x" * 252]["place"]
-        self.assertEqual(sorted(written), sorted([f"place-{place}.proof", *(f"{name}.proof" for name in files if len(name) < 200)]))
+        self.assertEqual(sorted(written),
+                         sorted([f"place-{place}.proof", *(f"{name}.proof" for name in files if len(name) < 200)]))
         known = "--commitment", closed["commitment"], "--size", closed["size"], "--number", closed["number"]
         for name in files:
             proof = f"p/{name}.proof" if len(name) < 200 else f"p/place-{place}.proof"
@@ -721,7 +758,8 @@ class Closing(Packs):
         self.put("deal.manifest.json", listed.replace(self.names()["c"]["sha256"].encode(), b"0" * 64))
         out, err = self.call("close", "deal", "--proofs", "p", "--records", "r", status=DATA)
         self.assertEqual(out.splitlines()[0], "code 65: the deal is closed, and some files have no record or no proof")
-        self.assertEqual([line.split(":")[:2] for line in out.splitlines()[-3:]], [["b", " no record"], ["b", " no proof"], ["c", " no proof"]])
+        self.assertEqual([line.split(":")[:2] for line in out.splitlines()[-3:]],
+                         [["b", " no record"], ["b", " no proof"], ["c", " no proof"]])
         self.assertIn("the manifest of deal has no names for 1 of its entries, and nothing is written for these", err)
         self.assertEqual((sorted(self.found("p")), sorted(self.found("r"))), (["a.proof"], ["a.record", "c.record"]))
         answer = self.object("close", "deal", "--proofs", "p", status=DATA)
@@ -736,7 +774,8 @@ class Closing(Packs):
         self.assertEqual(self.answer("close", "deal", "--records", "r"),
                          f"commitment {commitment}\nsize 1048576\nnumber 7\nentries 2\nrecords r\n")
         self.assertEqual(sorted(self.found("r")), ["a.record", "b.record"])
-        self.assertEqual(self.get("deal.vz"), f"vizhuthamen deal 1\nsize 1048576\nnumber 7\nclosed {commitment}\n".encode())
+        self.assertEqual(self.get("deal.vz"),
+                         f"vizhuthamen deal 1\nsize 1048576\nnumber 7\nclosed {commitment}\n".encode())
         for words in (("list",), ("fsck",)):
             self.assertTrue(self.answer(*words, "deal").endswith(f"\nclosed {commitment}\n"))
             self.assertEqual(self.object(*words, "deal")["closed"], commitment)
@@ -764,7 +803,8 @@ class Closing(Packs):
         # What says that an older deal is closed is not taken for a new one.
         for name in ("deal", "deal.owners", "deal.manifest.json"):
             self.path(name).unlink()
-        for words in (("new", "deal", 1 << 20, "--number", 7), ("pack", "in", "--deal", "deal", "--size", 1 << 20, "--number", 7)):
+        for words in (("new", "deal", 1 << 20, "--number", 7),
+                      ("pack", "in", "--deal", "deal", "--size", 1 << 20, "--number", 7)):
             self.assertIn("deal.vz is there and says that the deal is closed", self.failed(DATA, *words))
 
     def test_a_deal_that_is_another_one_than_was_closed(self):
@@ -818,7 +858,8 @@ class Kills(Packs):
         return state["deal"], state["deal.owners"], state.get("deal.manifest.json")
 
     def killed_everywhere(self, words, start, ends, what, step):
-        """Killed before every so many-th call. Then deal, table and manifest are all the old ones or all the new ones; the same call ends it."""
+        """Killed before every so many-th call. Then deal, table and manifest are all the old ones or all the new ones;
+        the same call ends it."""
         start()
         calls = self.calls(words)
         after = self.state()
@@ -876,12 +917,15 @@ class Kills(Packs):
             self.assertEqual(self.state(), after, here)
 
     def test_several_at_once(self):
-        """Packs of folders that share files into one deal, which none of them finds, some of them killed: nothing is lost."""
+        """Packs of folders that share files into one deal, which none of them finds, some of them killed: nothing is
+        lost."""
         for turn in range(6):
             self.clear()
-            folders = {f"in/{i}": self.tree({f"{i}/own": self.rng.randbytes(300 + i), f"{i}/sub/x": self.rng.randbytes(50),
-                                             "shared": b"s" * 200}, f"in/{i}") for i in range(3)}
-            pack = lambda folder: [self.program, "pack", folder, "--deal", "deal", "--size", str(1 << 21), "--number", "7"]
+            folders = {f"in/{i}": self.tree({f"{i}/own": self.rng.randbytes(300 + i),
+                                             f"{i}/sub/x": self.rng.randbytes(50), "shared": b"s" * 200}, f"in/{i}")
+                       for i in range(3)}
+            pack = lambda folder: [self.program, "pack", folder, "--deal", "deal", "--size", str(1 << 21),
+                                   "--number", "7"]
             run = lambda words: subprocess.Popen(words, cwd=self.folder, stdout=subprocess.PIPE, stderr=subprocess.PIPE)
             running = [run(pack(folder)) for folder in folders]
             if turn % 2:

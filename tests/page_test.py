@@ -1,8 +1,10 @@
-"""The page that checks proofs, in a real browser: python3 tests/page_test.py (VIZHUTHAMEN names another binary of the command line).
+"""The page that checks proofs, in a real browser: python3 tests/page_test.py
+(VIZHUTHAMEN names another binary of the command line).
 
-After `make`. The page is opened from disk and is given right and wrong files, forged records, deals of every kind. What it says is what the
-command line says, to the word where both speak; proofs that it saves are those that `prove` writes. Without a browser (tests/browser.py)
-that part is left out, which is said; likewise the part that runs the page's worker in node. With --shots FOLDER pictures are left there.
+After `make`. The page is opened from disk and is given right and wrong files, forged records, deals of every kind. What
+it says is what the command line says, to the word where both speak; proofs that it saves are those that `prove` writes.
+Without a browser (tests/browser.py) that part is left out, which is said; likewise the part that runs the page's worker
+in node. With --shots FOLDER pictures are left there.
 """
 import base64
 import json
@@ -30,7 +32,8 @@ BROWSER = None
 DOWNLOADS = Path(tempfile.gettempdir()) / f"vizhuthamen-page-{os.getpid()}"
 LIGHTS = [(dark, width) for dark in (False, True) for width in (1000, 360)]
 STATES = "blank", "damaged", "not standing", "overlapping", "wrong commitment", "kept"
-STEPS = {1: 2, 2: 2, 21: 3, 4: 4, 5: 4, 6: 4, 7: 4, 8: 5, 19: 5, 9: 6, 10: 7}  # the step that fails, by the code of the check
+# the step that fails, by the code of the check
+STEPS = {1: 2, 2: 2, 21: 3, 4: 4, 5: 4, 6: 4, 7: 4, 8: 5, 19: 5, 9: 6, 10: 7}
 
 
 def flipped(data, at, bits=1):
@@ -66,8 +69,8 @@ class Proofs(Houses):
 
         commitment = record[3:35]
         return proofs.sealed({**self.members, "record": record.hex(), "segment_commitment": commitment.hex(),
-                              "segment_cid": proofs.cid(commitment), "offset": number(38), "segment_size": number(49), "place": number(60),
-                              "deal_number": number(len(record) - 8)})
+                              "segment_cid": proofs.cid(commitment), "offset": number(38), "segment_size": number(49),
+                              "place": number(60), "deal_number": number(len(record) - 8)})
 
     def forged(self):
         """Names, and proofs with a record that is changed in one place."""
@@ -91,12 +94,14 @@ class Proofs(Houses):
 
     def command_line(self, *words, given=()):
         """What `verify` says: verdict, sentence, code, meaning, member, condition; or the error."""
-        ran = subprocess.run([self.program, "verify", "--json", *words, *map(str, given)], cwd=self.folder, capture_output=True)
+        ran = subprocess.run([self.program, "verify", "--json", *words, *map(str, given)], cwd=self.folder,
+                             capture_output=True)
         return json.loads(ran.stdout)
 
 
 # Of members of proofs that are changed.
-VALUES = ("", "0", "1", "00", "x", "ab" * 32, "AB" * 32, str(2**64), "é\n\"\\\u202e'", "e\u0301\u200b\u00a0\u00ad\0\x7f\U0001f600")
+VALUES = ("", "0", "1", "00", "x", "ab" * 32, "AB" * 32, str(2**64), "é\n\"\\\u202e'",
+          "e\u0301\u200b\u00a0\u00ad\0\x7f\U0001f600")
 
 
 class Words(Proofs):
@@ -104,7 +109,8 @@ class Words(Proofs):
 
     def asked(self, questions):
         lines = "".join(json.dumps(question) + "\n" for question in questions)
-        ran = subprocess.run(["node", ROOT / "tests/page_calls.mjs", MODULE], input=lines, capture_output=True, text=True, check=True)
+        ran = subprocess.run(["node", ROOT / "tests/page_calls.mjs", MODULE], input=lines, capture_output=True,
+                             text=True, check=True)
         return [json.loads(line) for line in ran.stdout.splitlines()]
 
     def dropped(self, name):
@@ -117,7 +123,8 @@ class Words(Proofs):
                 changed = {**self.members, name: value}
                 yield proofs.text(changed).encode()
                 if name in ("name", "length", "sha256", "padding"):
-                    yield proofs.text(proofs.sealed(changed)).encode() if changed["padding"] in ("Fr32", "none") else b"{}"
+                    yield (proofs.text(proofs.sealed(changed)).encode() if changed["padding"] in ("Fr32", "none")
+                           else b"{}")
             yield proofs.text(self.members, [other for other in proofs.MEMBERS if other != name]).encode()
             yield text.replace(b"{\n", b'{\n  "%s": "x",\n' % name.encode(), 1)
             yield text.replace(b'"%s": ' % name.encode(), b'"%s": 1, ' % name.encode())
@@ -135,18 +142,20 @@ class Words(Proofs):
             yield text, "certificate.pdf", {}
         for _, members in self.forged():
             yield proofs.text(members).encode(), "certificate.pdf", {}
-            yield proofs.text(members).encode(), "certificate.pdf", {"commitment": root, "size": "4096", "number": str(NUMBER)}
+            yield (proofs.text(members).encode(), "certificate.pdf",
+                   {"commitment": root, "size": "4096", "number": str(NUMBER)})
         text = proofs.text(self.members).encode()
         for file in ("certificate.pdf", "128", "letter", "empty", "long"):
             for padding in ("Fr32", "none"):
                 yield proofs.text(proofs.sealed({**self.members, "padding": padding})).encode(), file, {}
         lie = {**self.second, "sha256": self.members["sha256"], "name": "x"}
         yield proofs.text(proofs.sealed(lie)).encode(), "certificate.pdf", {}
-        for given in ({"commitment": root}, {"commitment": proofs.cid(bytes.fromhex(root))}, {"size": "4096"}, {"number": str(NUMBER)},
-                      {"commitment": root, "size": "4096"}, {"commitment": root, "number": str(NUMBER)},
-                      {"size": "4096", "number": str(NUMBER)}, {"commitment": root, "size": "4096", "number": str(NUMBER)},
-                      {"commitment": other}, {"commitment": root[:-2]},
-                      {"size": "8192"}, {"size": "1024"}, {"size": "1000"}, {"size": "0"}, {"number": str(OTHER)}, {"number": str(2**64 - 1)}):
+        for given in ({"commitment": root}, {"commitment": proofs.cid(bytes.fromhex(root))}, {"size": "4096"},
+                      {"number": str(NUMBER)}, {"commitment": root, "size": "4096"},
+                      {"commitment": root, "number": str(NUMBER)}, {"size": "4096", "number": str(NUMBER)},
+                      {"commitment": root, "size": "4096", "number": str(NUMBER)},
+                      {"commitment": other}, {"commitment": root[:-2]}, {"size": "8192"}, {"size": "1024"},
+                      {"size": "1000"}, {"size": "0"}, {"number": str(OTHER)}, {"number": str(2**64 - 1)}):
             yield text, "certificate.pdf", given
 
     def test_every_verdict_is_that_of_the_command_line(self):
@@ -156,7 +165,8 @@ class Words(Proofs):
         questions = []
         for i, (text, file, given) in enumerate(cases):
             self.put(f"p{i}", text)
-            questions.append({"task": "verify", "files": {"proof": self.dropped(f"p{i}"), "file": self.dropped(file)}, "given": given})
+            questions.append({"task": "verify", "files": {"proof": self.dropped(f"p{i}"), "file": self.dropped(file)},
+                              "given": given})
         met = set()
         for i, ((text, file, given), said) in enumerate(zip(cases, self.asked(questions), strict=True)):
             options = [word for name, value in given.items() for word in (f"--{name}", value)]
@@ -187,14 +197,15 @@ class Words(Proofs):
             names.append(f"forged{i}")
             self.put(names[-1], bytes.fromhex(members["record"]))
         pairs = [(a, b) for a in names for b in names if "record0" in (a, b) or "record1" in (a, b)]
-        terms = [(self.root, 4096, NUMBER)] * len(pairs) + [(self.root[2:], 4096, NUMBER), (self.root, 4097, NUMBER), (self.root, 4096, OTHER)]
+        terms = ([(self.root, 4096, NUMBER)] * len(pairs)
+                 + [(self.root[2:], 4096, NUMBER), (self.root, 4097, NUMBER), (self.root, 4096, OTHER)])
         pairs += [("record0", "record0")] * 3
         given = [{"commitment": root, "size": str(size), "number": str(number)} for root, size, number in terms]
         questions = [{"task": "settle", "files": {"first": self.dropped(a), "second": self.dropped(b)}, "given": of}
                      for (a, b), of in zip(pairs, given, strict=True)]
         for (first, second), (root, size, number), said in zip(pairs, terms, self.asked(questions), strict=True):
-            ran = subprocess.run([self.program, "settle", root, str(size), first, second, "--number", str(number)], cwd=self.folder,
-                                 capture_output=True, text=True)
+            ran = subprocess.run([self.program, "settle", root, str(size), first, second, "--number", str(number)],
+                                 cwd=self.folder, capture_output=True, text=True)
             lines = ran.stdout.splitlines()
             self.assertNotIn("fault", said)
             self.assertEqual((said["code"], f"code {said['code']}: {said['meaning']}"), (ran.returncode, lines[0]))
@@ -232,7 +243,8 @@ class Seen(Proofs):
     def verdict(self, panel):
         """The word and the sentences of an answer."""
         word = self.page.text(f"#{panel} .card h3").strip()
-        return word, [lower(text) for text in self.page.texts(f"#{panel} .card > p:not(.condition):not(.code-line):not(.hint)")]
+        return word, [lower(text)
+                      for text in self.page.texts(f"#{panel} .card > p:not(.condition):not(.code-line):not(.hint)")]
 
     def choose(self, tab):
         self.page.run("document.getElementById(arguments[0]).click()", f"tab-{tab}")
@@ -271,7 +283,8 @@ class CheckAProof(Seen):
         word, sentences = self.verdict("verify")
         self.assertEqual(sentences, [told["sentence"]])
         conditional = "condition" in told
-        self.assertEqual(word, "\u2717 No" if told["code"] else "! Yes, on a condition" if conditional else "\u2713 Yes")
+        self.assertEqual(word,
+                         "\u2717 No" if told["code"] else "! Yes, on a condition" if conditional else "\u2713 Yes")
         conditions = self.page.texts("#verify .condition")
         expected = [f"Condition: {before_advice(told['condition'])}"] if conditional else []
         self.assertEqual([before_advice(text) for text in conditions], expected)
@@ -295,7 +308,8 @@ class CheckAProof(Seen):
             self.assertEqual(len(self.page.all("#verify .steps .failed")), 1)
             self.assertTrue(self.page.all("#verify .compare tr.bad"))
             # It is not the path that is wrong. Zeros at the end of a file change its size alone.
-            self.assertEqual(self.page.texts("#verify .drawing .sign"), ["=", "="] if file == "longer" else ["=", "\u2260", "="])
+            self.assertEqual(self.page.texts("#verify .drawing .sign"),
+                             ["=", "="] if file == "longer" else ["=", "\u2260", "="])
         self.shown("verify-other-file")
 
     def test_forged_records(self):
@@ -330,7 +344,8 @@ class CheckAProof(Seen):
 
         words, focus = fault(verify_commitment="baga6ea4seaqxyz")
         self.assertTrue(words.startswith("no commitment in hex, and no piece CID ("), words)
-        self.assertEqual((focus, self.page.one("#verify-commitment").get_attribute("aria-invalid")), ("verify-commitment", "true"))
+        self.assertEqual((focus, self.page.one("#verify-commitment").get_attribute("aria-invalid")),
+                         ("verify-commitment", "true"))
         self.shown("verify-fault")
         words, focus = fault(verify_size="4k")
         self.assertEqual((words, focus), ("not a decimal number below 2^64: 4k", "verify-size"))
@@ -349,7 +364,8 @@ class CheckAProof(Seen):
             file.truncate(1 << 33)
         self.page.fill(verify_proof=self.path("proof"), verify_file=self.path("huge"))
         self.page.press("#verify form")
-        self.assertIn(f"huge is another file: it has {1 << 33} bytes, and the proof is of one of 1000", self.page.text("#verify .answer"))
+        self.assertIn(f"huge is another file: it has {1 << 33} bytes, and the proof is of one of 1000",
+                      self.page.text("#verify .answer"))
 
     def test_no_answer_outlives_its_question(self):
         """A verdict is gone as soon as something else is asked."""
@@ -420,7 +436,8 @@ class SettleTwoRecords(Seen):
             shutil.copy(module, root / "target/lib")
         library = root / "javascript/vizhuthamen.mjs"
         text = library.read_text()
-        made = re.sub(r"settleRecords: \(.*?\) =>\n.*?,\n", 'settleRecords: () => ({ kind: "collision", left: new Uint8Array(64).fill(1), '
+        made = re.sub(r"settleRecords: \(.*?\) =>\n.*?,\n",
+                      'settleRecords: () => ({ kind: "collision", left: new Uint8Array(64).fill(1), '
                       "right: new Uint8Array(64).fill(2) }),\n", text, flags=re.S, count=1)
         self.assertNotEqual(made, text)
         library.write_text(made)
@@ -465,7 +482,8 @@ class LookIntoADeal(Seen):
         self.assertEqual(self.page.text("#deal-cid"), self.answer("commit", "deal", "--cid").strip())
         self.assertEqual([" ".join(state) for state in self.states()], ["kept", "kept", "kept", "blank"])
         for name, (raw, place) in self.kept.items():
-            self.assertIn(f"{name} is kept by deal, in slot {(place - 3840) // 64} (place {place}): its {len(raw)} bytes", self.found(name))
+            self.assertIn(f"{name} is kept by deal, in slot {(place - 3840) // 64} (place {place}): "
+                          f"its {len(raw)} bytes", self.found(name))
             self.answer("prove", "deal", name, "-o", "own", "--force")
             proof = self.saved(name)
             self.assertEqual(proof, self.get("own"))
@@ -527,7 +545,8 @@ class LookIntoADeal(Seen):
         lines = [line for line in self.answer("fsck", "odd", status=65).splitlines() if line.startswith("stray bits")]
         self.assertEqual(self.page.texts("#deal .strays li"), lines)
         states = [" ".join(state) for state in self.states()]
-        expected = ["kept", "damaged", "wrong commitment", "wrong commitment", "overlapping", "not standing", "damaged", "kept"]
+        expected = ["kept", "damaged", "wrong commitment", "wrong commitment", "overlapping", "not standing", "damaged",
+                    "kept"]
         self.assertEqual(states, expected)
         self.assertEqual(len(self.page.all("#deal .scale .tick")), 3)
         self.shown("deal-stray")
@@ -540,7 +559,8 @@ class LookIntoADeal(Seen):
             self.assertTrue(self.page.one("#deal-find").get_attribute("hidden"))
 
     def test_a_large_deal(self):
-        """16 MiB: the page goes on while the worker works, tells how far it is, and gives the proof of a file of 5 MB."""
+        """16 MiB: the page goes on while the worker works, tells how far it is, and gives the proof of a file of 5
+        MB."""
         self.answer("new", "large", 2**24, *GIVEN)
         self.put("film", self.rng.randbytes(5_000_000))
         self.put("note", b"x" * 77)
@@ -568,13 +588,14 @@ class LookIntoADeal(Seen):
             self.assertEqual(self.saved(name), self.get("own"))
         self.assertEqual(len(self.states()), 128)
         self.shown("deal-large")
-        print(f"page_test: 16 MiB committed in {page:.0f} ms by the page, in {native:.0f} ms by the command line, start and reading "
+        print(f"page_test: 16 MiB committed in {page:.0f} ms by the page, "
+              f"in {native:.0f} ms by the command line, start and reading "
               f"included; shown after {shown:.1f} s, in which the page was never busy for more than {gap:.0f} ms")
 
 
 # What a screen reader needs a name of.
-NAMED = ("button", "tab", "tabpanel", "textbox", "img", "image", "link", "table", "region", "columnheader", "rowheader", "heading",
-         "DisclosureTriangle")
+NAMED = ("button", "tab", "tabpanel", "textbox", "img", "image", "link", "table", "region", "columnheader", "rowheader",
+         "heading", "DisclosureTriangle")
 
 
 class ForEveryone(Seen):
@@ -593,14 +614,16 @@ class ForEveryone(Seen):
         for _ in range(9):
             body(Keys.TAB)
             met.append(self.focus())
-        self.assertEqual(met, ["skip", "tab-verify", "verify-proof", "verify-file", "verify-commitment", "verify-size", "verify-number",
-                               "main", "The modules in this page"])
+        self.assertEqual(met, ["skip", "tab-verify", "verify-proof", "verify-file", "verify-commitment", "verify-size",
+                               "verify-number", "main", "The modules in this page"])
         self.page.run("document.getElementById('tab-verify').focus()")
-        for key, tab in ((Keys.ARROW_RIGHT, "settle"), (Keys.ARROW_RIGHT, "deal"), (Keys.ARROW_RIGHT, "verify"), (Keys.ARROW_LEFT, "deal"),
+        for key, tab in ((Keys.ARROW_RIGHT, "settle"), (Keys.ARROW_RIGHT, "deal"), (Keys.ARROW_RIGHT, "verify"),
+                         (Keys.ARROW_LEFT, "deal"),
                          (Keys.HOME, "verify"), (Keys.END, "deal"), (Keys.ARROW_LEFT, "settle"), (Keys.HOME, "verify")):
             body(key)
             self.assertEqual(self.focus(), f"tab-{tab}")
-            self.assertEqual([panel.get_attribute("id") for panel in self.page.all("[role=tabpanel]") if panel.is_displayed()], [tab])
+            self.assertEqual([panel.get_attribute("id") for panel in self.page.all("[role=tabpanel]")
+                              if panel.is_displayed()], [tab])
         self.page.fill(verify_proof=self.path("proof"), verify_file=self.path("certificate.pdf"))
         self.page.one("#verify-commitment").send_keys(self.root, Keys.TAB, "4096")
         body(Keys.TAB)
@@ -608,10 +631,12 @@ class ForEveryone(Seen):
         self.page.wait(lambda: self.page.all("#verify .card"))
         self.assertEqual(self.verdict("verify")[0], "\u2713 Yes")
         body(Keys.TAB, Keys.TAB)
-        self.assertEqual(self.page.run("return document.activeElement.getAttribute('aria-label')"), "The file beside the proof")
+        self.assertEqual(self.page.run("return document.activeElement.getAttribute('aria-label')"),
+                         "The file beside the proof")
 
     def test_for_a_screen_reader(self):
-        """Landmarks, names of all that can be used or seen, live regions, tables with headers: as the browser tells them."""
+        """Landmarks, names of all that can be used or seen, live regions, tables with headers: as the browser tells
+        them."""
         self.page.fill(verify_proof=self.path("proof"), verify_file=self.path("certificate.pdf"))
         self.page.press("#verify form")
         self.choose("deal")
@@ -623,7 +648,8 @@ class ForEveryone(Seen):
             tree = [node for node in self.page.command("Accessibility.getFullAXTree")["nodes"] if not node["ignored"]]
             named = [(node["role"]["value"], node.get("name", {}).get("value", "")) for node in tree]
             roles = {role for role, _ in named}
-            self.assertLessEqual({"banner", "main", "contentinfo", "tablist", "tab", "tabpanel", "status", "heading", "button"}, roles)
+            self.assertLessEqual({"banner", "main", "contentinfo", "tablist", "tab", "tabpanel", "status", "heading",
+                                  "button"}, roles)
             unnamed = [role for role, name in named if role in NAMED and not name.strip()]
             self.assertEqual(unnamed, [], (tab, named))
             self.assertEqual(len([name for role, name in named if role == "heading" and name == "Vizhuthamen"]), 1)
@@ -632,9 +658,11 @@ class ForEveryone(Seen):
         self.assertEqual(len(set(ids)), len(ids))
 
     def test_no_motion_for_those_who_ask_for_none(self):
-        self.page.command("Emulation.setEmulatedMedia", features=[{"name": "prefers-reduced-motion", "value": "reduce"}])
+        self.page.command("Emulation.setEmulatedMedia",
+                          features=[{"name": "prefers-reduced-motion", "value": "reduce"}])
         self.assertEqual(self.page.run("""
-            const moves = ({ transitionDuration, animationName }) => transitionDuration !== "0s" || animationName !== "none";
+            const moves = ({ transitionDuration, animationName }) =>
+              transitionDuration !== "0s" || animationName !== "none";
             return [...document.querySelectorAll("*")].filter((one) => moves(getComputedStyle(one))).length"""), 0)
 
 
@@ -650,15 +678,20 @@ class Closed(Seen):
         loaded = f"new Promise((onload, onerror) => document.head.append({made}))"
         for way in ("fetch('https://example.org/')", loaded.format("img", "src: 'https://example.org/i.png'"),
                     loaded.format("script", "src: 'https://example.org/s.js'"),
-                    loaded.format("link", "rel: 'stylesheet', href: 'https://example.org/s.css'"), "import('data:text/javascript,1')",
-                    "new Promise((onopen, onerror) => Object.assign(new WebSocket('wss://example.org/'), { onopen, onerror }))",
+                    loaded.format("link", "rel: 'stylesheet', href: 'https://example.org/s.css'"),
+                    "import('data:text/javascript,1')",
+                    "new Promise((onopen, onerror) => "
+                    "Object.assign(new WebSocket('wss://example.org/'), { onopen, onerror }))",
                     "(async () => eval('1'))()"):
             tried = f"(async () => {way})().then(() => 'out', () => 'shut')"
-            took = self.page.command("Runtime.evaluate", expression=tried, awaitPromise=True, allowUnsafeEvalBlockedByCSP=False)
+            took = self.page.command("Runtime.evaluate", expression=tried, awaitPromise=True,
+                                     allowUnsafeEvalBlockedByCSP=False)
             self.assertEqual(took["result"]["value"], "shut", way)
         self.assertGreaterEqual(len(self.page.run("return window.breaches")), 5)
-        self.assertEqual([url for url, kept in self.page.requests() if not kept and not url.startswith(("file:", "blob:null/"))], [])
-        self.assertEqual(self.page.run("return [document.cookie, localStorage.length, sessionStorage.length]"), ["", 0, 0])
+        self.assertEqual([url for url, kept in self.page.requests()
+                          if not kept and not url.startswith(("file:", "blob:null/"))], [])
+        self.assertEqual(self.page.run("return [document.cookie, localStorage.length, sessionStorage.length]"),
+                         ["", 0, 0])
 
     def test_one_file_that_cannot_be_changed(self):
         text = PAGE.read_text()
@@ -691,7 +724,8 @@ def runnable(browser_lacks):
 def main():
     global BROWSER, SHOTS
     if not PAGE.is_file():
-        print(f"page_test: skipped: {PAGE.relative_to(ROOT)} is not there; make writes it where wasm-opt (Debian: binaryen) is")
+        print(f"page_test: skipped: {PAGE.relative_to(ROOT)} is not there; make writes it where wasm-opt (Debian: "
+              "binaryen) is")
         return
     lacks = browser.missing()
     words = sys.argv[1:]

@@ -1,13 +1,13 @@
-"""Logs that are played back: edges that the rules meet seldom, single bytes and bits of numbers, slots and offsets beside
-the right ones, lines that lack only zeros. They come from slips put into an implementation written from the papers alone
-that the other stored calls did not show."""
+"""Logs that are played back: edges that the rules meet seldom, single bytes and bits of numbers, slots and offsets
+beside the right ones, lines that lack only zeros. They come from slips put into an implementation written from the
+papers alone that the other stored calls did not show."""
 from playback_cases import (A, B, C, D, E, BOOKING, CANCELLING, SMALL, Booking, Cancelling, Row, confirmed, full_day,
                             index_numbers, le, log_of, malformed, wrong)
 
 
 def ends_of_lines():
-    """A last line cut by some of its bytes, where the bytes that are missing are zeros, so that they might be made up; a
-    cancellation cut behind a right line; a few zeros, or an empty line of a tag that is none, after the last one."""
+    """A last line cut by some of its bytes, where the bytes that are missing are zeros, so that they might be made up;
+    a cancellation cut behind a right line; a few zeros, or an empty line of a tag that is none, after the last one."""
     booked, refused, cancelled = SMALL.lines[:3], SMALL.lines[3].to_bytes(), Cancelling(1, 256, 0).to_bytes()
     for less in (1, 2, 8, 16):
         yield malformed(f"a booking that lacks {less} zeros", 512, log_of(booked) + refused[:-less])
@@ -18,8 +18,8 @@ def ends_of_lines():
 
 
 def lengths_of_lines():
-    """A length whose top bit alone is wrong; a length of 10 for a booking whose content goes on, with a second booking in
-    it that is a line of its own."""
+    """A length whose top bit alone is wrong; a length of 10 for a booking whose content goes on, with a second booking
+    in it that is a line of its own."""
     first, right = Booking(1, A, 128, 0, 0, 256).to_bytes(), Cancelling(2, 256, 16).to_bytes()
     for tag, line in ((BOOKING, first), (CANCELLING, right)):
         for high in (64, 128):
@@ -76,12 +76,13 @@ def commitments_by_order():
     for one in (bytes(range(32)), b"\1" + bytes(31)):
         lines = [Booking(1, one, 1, 0, 0, 768), Booking(1, one[::-1], 1, 0, 128, 832)]
         rows = [Row(1, one, 1, 0, 768), Row(1, one[::-1], 1, 128, 832)]
-        yield confirmed("the same bytes in another order", 1024, [*lines, *(line._replace(code=15) for line in lines)], rows)
+        yield confirmed("the same bytes in another order", 1024, [*lines, *(line._replace(code=15) for line in lines)],
+                        rows)
 
 
 def slots_again():
-    """Of two slots that were cancelled the lower is taken first, whichever was cancelled last, and whatever the offset. A
-    slot that the other house has booked again is the other's alone."""
+    """Of two slots that were cancelled the lower is taken first, whichever was cancelled last, and whatever the offset.
+    A slot that the other house has booked again is the other's alone."""
     lines = [Booking(1, A, 1, 0, 0, 768), Booking(1, B, 129, 0, 256, 832), Booking(2, C, 1, 0, 128, 896)]
     last = Booking(1, D, 129, 0, 256, 768)  # not at 0, which C is over
     for places in ((768, 832), (832, 768)):
@@ -94,12 +95,13 @@ def slots_again():
 
 
 def ends_of_areas():
-    """A segment whose bytes would fit before a row, but not the zeros after them, goes behind it. A deal that is full up
-    to its index, with slots and quotas left, has no place, not even for one byte; one area less, and it has one."""
+    """A segment whose bytes would fit before a row, but not the zeros after them, goes behind it. A deal that is full
+    up to its index, with slots and quotas left, has no place, not even for one byte; one area less, and it has one."""
     lines = [Booking(1, A, 129, 0, 0, 1792), Booking(2, B, 1, 0, 256, 1856), Booking(2, C, 1, 0, 384, 1920),
              Cancelling(1, 1792, 0), Cancelling(2, 1856, 0)]
     behind = Booking(1, D, 257, 0, 512, 1792)
-    yield confirmed("zeros that would not fit", 2048, [*lines, behind], [Row(1, D, 257, 512, 1792), Row(2, C, 1, 384, 1920)])
+    yield confirmed("zeros that would not fit", 2048, [*lines, behind],
+                    [Row(1, D, 257, 512, 1792), Row(2, C, 1, 384, 1920)])
     yield wrong("zeros over a row", 2048, [*lines, behind._replace(offset=0)], 6, 0, 512, 1792)
     for k in (21, 22, 24):
         d, start = 1 << k, index_numbers(1 << k)[2]
@@ -122,7 +124,8 @@ def large_areas():
         lines = [Booking(1, A, size, 0, 0, start), Booking(2, B, 1, 0, 1 << 23, start + 64)]
         rows = [Row(1, A, size, 0, start), Row(2, B, 1, 1 << 23, start + 64)]
         yield confirmed(f"one byte beside {size}", d, lines, rows)
-        yield wrong(f"one byte over {size}", d, [lines[0], lines[1]._replace(offset=1 << 22)], 2, 0, 1 << 23, start + 64)
+        yield wrong(f"one byte over {size}", d, [lines[0], lines[1]._replace(offset=1 << 22)], 2, 0, 1 << 23,
+                    start + 64)
         again = [line._replace(code=15) for line in lines]
         yield confirmed(f"again, beside {size}", d, [*lines, *again], rows)
         yield wrong(f"again, beside {size}, at 0", d, [*lines, again[1]._replace(offset=0)], 3, 15, 1 << 23, start + 64)
@@ -137,14 +140,15 @@ def last_slots(deal_sizes=(1 << 10, 1 << 20, 1 << 24)):
         what = f"{len(rows)} slots"
         yield confirmed(f"{what}, the last row again", d, [*lines, last._replace(code=15)], rows)
         yield confirmed(f"{what}, a row of the upper half again", d, [*lines, half._replace(code=15)], rows)
-        yield wrong(f"{what}, 22 for the last row", d, [*lines, last._replace(code=22, offset=0, place=0)], len(rows) + 1, 15,
-                    last.offset, last.place)
+        yield wrong(f"{what}, 22 for the last row", d, [*lines, last._replace(code=22, offset=0, place=0)],
+                    len(rows) + 1, 15, last.offset, last.place)
         gone = [*lines, Cancelling(last.house, last.place, 0)]
         yield confirmed(f"{what}, the last one gone", d, gone, rows[:-1])
         yield confirmed(f"{what}, and another in its slot", d, [*gone, last._replace(commitment=E, size=2)],
                         [*rows[:-1], Row(last.house, E, 2, last.offset, last.place)])
         middle = [each for each in rows if each.place != half.place]
-        yield confirmed(f"{what}, one of the upper half gone", d, [*lines, Cancelling(half.house, half.place, 0)], middle)
+        yield confirmed(f"{what}, one of the upper half gone", d, [*lines, Cancelling(half.house, half.place, 0)],
+                        middle)
 
 
 def smaller_sizes():
@@ -152,7 +156,8 @@ def smaller_sizes():
     for size, other, offset in ((128, 127, 128), (128, 1, 128), (256, 130, 256), (256, 1, 256)):
         lines = [Booking(1, A, size, 0, 0, 768), Booking(1, A, other, 0, offset, 832)]
         yield confirmed(f"size {other} after {size}", 1024, [*lines, *(line._replace(code=15) for line in lines)])
-        yield wrong(f"15 for size {other} after {size}", 1024, [lines[0], lines[1]._replace(code=15)], 2, 0, offset, 832)
+        yield wrong(f"15 for size {other} after {size}", 1024, [lines[0], lines[1]._replace(code=15)], 2, 0, offset,
+                    832)
 
 
 def refused_cancellations():
@@ -171,7 +176,8 @@ def ends_in_the_index():
         first = Booking(1, A, 1, 0, 0, start)
         for size in sizes:
             yield confirmed(f"{size} bytes in {d} behind one", d, [first, Booking(2, B, size, 14)])
-            yield wrong(f"{size} bytes in {d} over the index", d, [first, Booking(2, B, size, 0, d // 2, start + 64)], 2, 14)
+            yield wrong(f"{size} bytes in {d} over the index", d, [first, Booking(2, B, size, 0, d // 2, start + 64)],
+                        2, 14)
 
 
 GROUPS = (ends_of_lines, lengths_of_lines, houses_by_code, numbers_by_bytes, numbers_together, commitments_by_order,

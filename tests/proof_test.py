@@ -1,4 +1,5 @@
-"""Plain files, piece CIDs and proof files through the command line: python3 tests/proof_test.py (VIZHUTHAMEN names another binary).
+"""Plain files, piece CIDs and proof files through the command line: python3 tests/proof_test.py
+(VIZHUTHAMEN names another binary).
 
 The expected proof files are those of tests/proofs.py, written from docs/FORMAT.md over the independent model.
 """
@@ -34,7 +35,9 @@ class Houses(Calls):
             self.assertEqual(code, 0)
             told = self.answer("book", "deal", "--raw", name, "--house", house)
             commitment = deal[place : place + 32].hex()
-            self.assertEqual(told, f"offset {offset}\nplace {place}\nsize {segment_length(length)}\ncommitment {commitment}\nhouse {house}\n")
+            self.assertEqual(told,
+                             f"offset {offset}\nplace {place}\nsize {segment_length(length)}\ncommitment {commitment}\n"
+                             f"house {house}\n")
             kept[name], self.owner[name] = (raw, place), house
         self.assertEqual(self.both(), (deal, table))
         return deal, kept
@@ -66,7 +69,8 @@ class Story(Houses):
             self.assertEqual(found, f"offset {offset}\nsize {segment_length(len(raw))}\nplace {place}\n")
             self.answer("prove", "deal", "-o", f"{name}.proof", "--", name)
             shown = name.replace("\\", "\\\\")
-            self.assertEqual(self.get(f"{name}.proof").decode(), proofs.text(proofs.members(deal, NUMBER, place, raw, shown)))
+            self.assertEqual(self.get(f"{name}.proof").decode(),
+                             proofs.text(proofs.members(deal, NUMBER, place, raw, shown)))
         self.customer(root, kept)
         # Another booking: old proofs belong to the older commitment.
         self.put("late", self.rng.randbytes(500))
@@ -74,8 +78,8 @@ class Story(Houses):
         new = self.answer("commit", "deal").strip()
         value = self.verdict("certificate.pdf.proof", "certificate.pdf", "--commitment", new, status=9)
         self.assertIn(f"the proof is for the commitment {root.hex()}, and {new} is given: ", value["sentence"])
-        self.assertIn("every booking and every cancellation gives a deal a new commitment, and a record that was built before "
-                      "belongs to the older one", value["sentence"])
+        self.assertIn("every booking and every cancellation gives a deal a new commitment, "
+                      "and a record that was built before belongs to the older one", value["sentence"])
         self.verdict("certificate.pdf.proof", "certificate.pdf", "--commitment", root.hex(), status=0)
         self.answer("prove", "deal", "certificate.pdf", "-o", "new.proof")
         self.verdict("new.proof", "certificate.pdf", "--commitment", new, status=0)
@@ -87,10 +91,12 @@ class Story(Houses):
         for name, (raw, place) in kept.items():
             value = self.verdict("--", f"{name}.proof", name, status=0)
             shown = name.replace("\\", "\\\\")
-            self.assertTrue(value["sentence"].startswith(f"{shown} is in the deal with the number {NUMBER}: its {len(raw)} bytes, "))
+            self.assertTrue(value["sentence"].startswith(f"{shown} is in the deal with the number {NUMBER}: "
+                                                         f"its {len(raw)} bytes, "))
             self.assertEqual((value["place"], value["deal_commitment"], value["name"]), (place, root.hex(), shown))
             self.assertEqual(value["from_proof"], ["commitment", "size", "number"])
-            self.assertIn(f"this holds for the deal whose commitment is {root.hex()}; that commitment was read from", value["condition"])
+            self.assertIn(f"this holds for the deal whose commitment is {root.hex()}; that commitment was read from",
+                          value["condition"])
             self.assertIn("a source that you trust", value["condition"])
         for commitment in (root.hex(), proofs.cid(root)):
             known = "--commitment", commitment, "--size", 1 << 20, "--number", NUMBER
@@ -109,14 +115,16 @@ class Story(Houses):
         self.answer("book", "deal", "first")
         self.answer("book", "deal", "--raw", "letter.txt")
         self.answer("prove", "deal", "letter.txt", "-o", "proof")
-        self.assertEqual(self.get("proof").decode(), proofs.text(proofs.members(self.get("deal"), 2026, 320, file, "letter.txt")))
+        self.assertEqual(self.get("proof").decode(),
+                         proofs.text(proofs.members(self.get("deal"), 2026, 320, file, "letter.txt")))
         self.verdict("proof", "letter.txt", status=0)
 
     def test_a_segment_that_is_no_plain_file(self):
         deal, places = self.booked(1024, (256, 128))
         self.put("segment", deal[:256])
         self.answer("prove", "deal", "--segment", "segment", "-o", "proof", *GIVEN)
-        self.assertEqual(self.get("proof").decode(), proofs.text(proofs.members(deal, NUMBER, places[0], deal[:256], "segment", "none")))
+        self.assertEqual(self.get("proof").decode(),
+                         proofs.text(proofs.members(deal, NUMBER, places[0], deal[:256], "segment", "none")))
         value = self.verdict("proof", "segment", status=0)
         self.assertIn("its 256 bytes, a segment as it is, stand at byte 0", value["sentence"])
 
@@ -135,9 +143,11 @@ class Lies(Houses):
     """Proof files that were changed: none verifies unless it says the same."""
 
     def judged(self, text, file="certificate.pdf"):
-        """The exit status for a proof file of these bytes. No file ends in a crash, and none without a word on what is wrong."""
+        """The exit status for a proof file of these bytes. No file ends in a crash, and none without a word on what is
+        wrong."""
         self.put("changed", text if isinstance(text, bytes) else text.encode())
-        ran = subprocess.run([self.program, "verify", "changed", file], capture_output=True, cwd=self.folder, timeout=60)
+        ran = subprocess.run([self.program, "verify", "changed", file], capture_output=True, cwd=self.folder,
+                             timeout=60)
         self.assertNotIn(b"panicked", ran.stderr)
         self.assertIn(ran.returncode, (*range(25), DATA, NOT_PROVED), ran)
         if ran.returncode == DATA:
@@ -149,10 +159,12 @@ class Lies(Houses):
 
     def others(self, name, value, other):
         """Other values of a member: those of another proof, near ones, and some that are none."""
-        values = [other, "", " ", value + " ", "0" + value, value[:-1], value + "0", value.upper(), value.lower(), "-1", "x", "\0", "null"]
+        values = [other, "", " ", value + " ", "0" + value, value[:-1], value + "0", value.upper(), value.lower(), "-1",
+                  "x", "\0", "null"]
         if value.isdigit():
             number = int(value)
-            values += [str(n % (1 << 64)) for n in (number - 1, number + 1, 2 * number, number + 64, number - 64, number ^ 1 << 63)]
+            values += [str(n % (1 << 64))
+                       for n in (number - 1, number + 1, 2 * number, number + 64, number - 64, number ^ 1 << 63)]
             values += [str(1 << 64), "1e3", f"{number}.0"]
         else:
             for at in range(0, len(value), max(1, len(value) // 6)):
@@ -199,7 +211,8 @@ class Lies(Houses):
         self.assertGreater(named, 60)
         status, told = self.judged(proofs.text(proofs.sealed({**members, "sha256": "ab" * 32})))
         self.assertEqual(status, NOT_PROVED)
-        self.assertIn(f"its member sha256 says {'ab' * 32}, and certificate.pdf, of which its record is, has {members['sha256']}", told)
+        self.assertIn(f"its member sha256 says {'ab' * 32}, and certificate.pdf, of which its record is, "
+                      f"has {members['sha256']}", told)
         status, told = self.judged(proofs.text(proofs.sealed({**members, "padding": "none"})))
         self.assertEqual(status, 11)  # as it is the file is no segment
 
@@ -225,8 +238,8 @@ class Lies(Houses):
             self.assertEqual(status, DATA)
             self.assertIn(f'the member "{name}" stands here a second time', told)
             for value in ("1", "null", "true", "[]", "{}", '["x"]', "-1", ""):
-                status, told = self.judged(proofs.text(members).replace(f'"{name}": {json.dumps(members[name], ensure_ascii=False)}',
-                                                                        f'"{name}": {value}'))
+                status, told = self.judged(proofs.text(members).replace(
+                    f'"{name}": {json.dumps(members[name], ensure_ascii=False)}', f'"{name}": {value}'))
                 self.assertEqual(status, DATA)
                 self.assertRegex(told, {"": rf'line \d+, column \d+: .* stands where the value of "{name}" is needed',
                                         "-1": r"line \d+, column \d+: the number here is no whole one"}.get(
@@ -242,13 +255,16 @@ class Lies(Houses):
         for name in proofs.MEMBERS[2:]:
             for other in proofs.MEMBERS[2:]:
                 if members[name] != members[other]:
-                    self.assertNotEqual(self.judged(proofs.text({**members, name: members[other], other: members[name]}))[0], 0)
+                    self.assertNotEqual(self.judged(proofs.text(
+                        {**members, name: members[other], other: members[name]}))[0], 0)
         for _ in range(60):
             names = self.rng.sample(proofs.MEMBERS[2:-1], self.rng.randrange(1, 15))
             mixed = {**members, **{name: second[name] for name in names}}
             for proof in (mixed, proofs.sealed(mixed)):
-                same = all(proof[name] == members[name] for name in proofs.MEMBERS if name not in ("name", "claim", "check"))
-                self.assertEqual(self.judged(proofs.text(proof))[0] == 0, same and proof["check"] == proofs.check(proof))
+                same = all(proof[name] == members[name] for name in proofs.MEMBERS
+                           if name not in ("name", "claim", "check"))
+                self.assertEqual(self.judged(proofs.text(proof))[0] == 0,
+                                 same and proof["check"] == proofs.check(proof))
 
     def test_bytes_changed_lost_and_added(self):
         deal, kept = self.house()
@@ -277,20 +293,23 @@ class Lies(Houses):
         escape = "\\u{:04x}".format
         values = {name: "".join(escape(ord(c)) for c in value) for name, value in members.items()}
         escaped = "{" + ",".join(f'"{name}":"{value}"' for name, value in values.items()) + "}"
-        for text in (json.dumps(members), json.dumps(turned, indent=8), "\n\t " + json.dumps(members) + "\r\n ", escaped,
-                     proofs.text(members).replace("\n", "\r\n")):
+        for text in (json.dumps(members), json.dumps(turned, indent=8), "\n\t " + json.dumps(members) + "\r\n ",
+                     escaped, proofs.text(members).replace("\n", "\r\n")):
             self.assertEqual(self.judged(text)[0], 0)
 
     def test_files_that_are_no_proof(self):
         deal, kept = self.house()
         members = self.proved(deal, kept)
         for text, why in ((b"", "line 1, column 1: the text ends where a JSON value is needed"),
-                          (b"%PDF-1.7\n", "line 1, column 1: '%' stands where a JSON value is needed"), (self.get("deal")[:300], "line 1"),
+                          (b"%PDF-1.7\n", "line 1, column 1: '%' stands where a JSON value is needed"),
+                          (self.get("deal")[:300], "line 1"),
                           (b"\xff\xfe{", "line 1, column 1: a byte that is no text"),
-                          (b"{}", "the member form, \"vizhuthamen proof\" in a proof, is missing"), (b'{"a": "b"}', "a file of another kind"),
+                          (b"{}", "the member form, \"vizhuthamen proof\" in a proof, is missing"),
+                          (b'{"a": "b"}', "a file of another kind"),
                           (b"[]", "it is no object"), (bytes(100000), "more than 65536 bytes"),
                           (proofs.text({**members, "form": "receipt"}).encode(), 'in a proof, says "receipt"'),
-                          (proofs.text({**members, "version": "2"}).encode(), 'its version is "2", and this program reads version "1"')):
+                          (proofs.text({**members, "version": "2"}).encode(),
+                           'its version is "2", and this program reads version "1"')):
             status, told = self.judged(text)
             self.assertEqual(status, DATA)
             self.assertIn(why, told)
@@ -306,7 +325,8 @@ class OtherFiles(Houses):
         for data in (b"", raw[:-1], raw + b"\0", raw + raw, b"x", bytes(1 << 20)):
             self.put("other", data)
             value = self.verdict("proof", "other", status=NOT_PROVED)
-            self.assertIn(f"other is another file: it has {len(data)} bytes, and the proof is of one of 1000", value["sentence"])
+            self.assertIn(f"other is another file: it has {len(data)} bytes, and the proof is of one of 1000",
+                          value["sentence"])
             self.assertNotIn("member", value)
         for at in (0, 31, 500, 999):
             data = self.put("other", raw[:at] + bytes([raw[at] ^ 1 << self.rng.randrange(8)]) + raw[at + 1:])
@@ -328,7 +348,8 @@ class OtherFiles(Houses):
         words = "proof", "certificate.pdf"
         root = bytes.fromhex(members["deal_commitment"])
         other = bytes([root[0] ^ 1]) + root[1:]
-        self.assertIn(f"and {other.hex()} is given", self.verdict(*words, "--commitment", proofs.cid(other), status=9)["sentence"])
+        self.assertIn(f"and {other.hex()} is given",
+                      self.verdict(*words, "--commitment", proofs.cid(other), status=9)["sentence"])
         self.verdict(*words, "--commitment", "00" * 31, status=1)
         value = self.verdict(*words, "--number", OTHER, status=21)
         self.assertIn(f"it names deal number {NUMBER}, and {OTHER} is asked for", value["sentence"])
@@ -356,14 +377,16 @@ class OtherFiles(Houses):
         for node in nodes:
             right = MODEL.h.node(node + right)
         root = MODEL.h.node(left + right)
-        fields = ((1, commitment), (2, bytes(8)), (3, segment_length(100).to_bytes(8, "little")), (4, place.to_bytes(8, "little")),
+        fields = ((1, commitment), (2, bytes(8)), (3, segment_length(100).to_bytes(8, "little")),
+                  (4, place.to_bytes(8, "little")),
                   (5, b"".join(nodes[:28]) + right), (6, b"".join(nodes) + left), (7, NUMBER.to_bytes(8, "little")))
         record = b"".join(bytes([tag]) + len(content).to_bytes(2, "little") + content for tag, content in fields)
         self.assertEqual(MODEL.check(root, size, NUMBER, record), 0)
         self.put("proof", proofs.text(proofs.sealed({
             "form": "vizhuthamen proof", "version": "1", "name": "file", "padding": "Fr32", "length": "100",
-            "sha256": hashlib.sha256(raw).hexdigest(), "segment_size": str(segment_length(100)), "segment_commitment": commitment.hex(),
-            "segment_cid": proofs.cid(commitment), "offset": "0", "place": str(place), "deal_number": str(NUMBER), "deal_size": str(size),
+            "sha256": hashlib.sha256(raw).hexdigest(), "segment_size": str(segment_length(100)),
+            "segment_commitment": commitment.hex(), "segment_cid": proofs.cid(commitment), "offset": "0",
+            "place": str(place), "deal_number": str(NUMBER), "deal_size": str(size),
             "deal_commitment": root.hex(), "deal_cid": proofs.cid(root), "record": record.hex()})).encode())
         value = self.verdict("proof", "file", "--commitment", root.hex(), "--size", size, "--number", NUMBER, status=0)
         self.assertEqual((value["deal_size"], value["place"]), (size, place))
@@ -375,7 +398,8 @@ class Proving(Houses):
         text = proofs.text(proofs.members(deal, NUMBER, kept["128"][1], kept["128"][0], "128"))
         self.put("old", b"precious")
         error = self.failed(IO, "prove", "deal", "128", "-o", "old")
-        self.assertIn("cannot write old: the file exists, with other bytes; give another name, or --force to replace it", error)
+        self.assertIn("cannot write old: the file exists, with other bytes; "
+                      "give another name, or --force to replace it", error)
         self.assertEqual(self.get("old"), b"precious")
         self.answer("prove", "deal", "128", "-o", "old", "--force")
         self.assertEqual(self.get("old").decode(), text)
@@ -383,7 +407,8 @@ class Proving(Houses):
         self.assertEqual(self.answer("prove", "deal", "128", "-o", "-"), text)
         for name in ("deal", "128", "./128"):
             for option in ((), ("--force",)):
-                self.assertIn(f"--output would replace {name}, which was read", self.failed(USAGE, "prove", "deal", "128", "-o", name, *option))
+                self.assertIn(f"--output would replace {name}, which was read",
+                              self.failed(USAGE, "prove", "deal", "128", "-o", name, *option))
         self.assertEqual((self.get("deal"), self.get("128")), (deal, kept["128"][0]))
         self.failed(USAGE, "prove", "deal", "128")
         self.failed(USAGE, "prove", "deal", "128", "-o", "-", "--json")
@@ -392,14 +417,17 @@ class Proving(Houses):
             self.failed(IO, "prove", *words, "-o", "new", *GIVEN)
         value = json.loads(self.answer("prove", "deal", "128", "-o", "new", "--json", "--cid"))
         root = MODEL.commitment(deal)[1]
-        self.assertEqual((value["deal_commitment"], value["deal_cid"], value["deal_number"]), (root.hex(), proofs.cid(root), str(NUMBER)))
+        self.assertEqual((value["deal_commitment"], value["deal_cid"], value["deal_number"]),
+                         (root.hex(), proofs.cid(root), str(NUMBER)))
         self.assertEqual(self.files(), sorted(["deal", "deal.owners", "deal.vz", "new", "old", *FILES]))
 
     def test_of_a_deal_that_is_closed_and_of_one_that_is_not(self):
         deal, kept = self.house()
         prove = "prove", "deal", "certificate.pdf", "-o", "proof"
-        self.assertEqual(self.call(*prove)[1], "vizhuthamen: deal is not closed: the next booking or cancellation gives it another commitment, "
-                                               "and this proof is then one of an older deal; it is closed by: vizhuthamen close deal\n")
+        self.assertEqual(self.call(*prove)[1],
+                         "vizhuthamen: deal is not closed: "
+                         "the next booking or cancellation gives it another commitment, "
+                         "and this proof is then one of an older deal; it is closed by: vizhuthamen close deal\n")
         self.answer("close", "deal")
         self.assertEqual(self.call(*prove)[1], "")
         self.put("deal", deal[:-64] + MODEL.entry(bytes(32), 0, 128))
@@ -411,7 +439,8 @@ class Proving(Houses):
         # Of a pipe nothing is known.
         piped = ("prove", "/dev/stdin", "certificate.pdf", "-o", "piped", *GIVEN)
         with subprocess.Popen(["cat", self.path("deal")], stdout=subprocess.PIPE) as cat:
-            ran = subprocess.run([self.program, *map(str, piped)], cwd=self.folder, stdin=cat.stdout, capture_output=True)
+            ran = subprocess.run([self.program, *map(str, piped)], cwd=self.folder, stdin=cat.stdout,
+                                 capture_output=True)
         self.assertEqual((ran.returncode, ran.stderr), (0, b""))
 
     def test_a_file_that_is_in_the_manifest_alone(self):
@@ -429,7 +458,8 @@ class Proving(Houses):
         members = self.proved(deal, kept)
         self.put("record", bytes.fromhex(members["record"]))
         error = self.failed(DATA, "verify", "record", "certificate.pdf")
-        self.assertIn("it is an inclusion record, which is checked by: vizhuthamen check COMMITMENT SIZE record --number N", error)
+        self.assertIn("it is an inclusion record, which is checked by: "
+                      "vizhuthamen check COMMITMENT SIZE record --number N", error)
         said = "it is a proof file and no record: whether it holds is said by: vizhuthamen verify PROOF FILE"
         self.assertIn(said, self.refused(3, "check", members["deal_commitment"], 1 << 20, "proof", *GIVEN))
         self.assertIn(said, self.refused(3, "settle-deal", "deal", "proof"))
@@ -472,16 +502,20 @@ class Proving(Houses):
         deal, kept = self.house()
         raw, place = kept["certificate.pdf"]
         self.put("unknown", self.rng.randbytes(300))
-        self.assertIn("deal does not keep unknown; what it keeps is shown by: vizhuthamen list deal", self.noted(16, "unknown"))
+        self.assertIn("deal does not keep unknown; what it keeps is shown by: vizhuthamen list deal",
+                      self.noted(16, "unknown"))
         self.put("zeros", raw + b"\0\0")
-        note = f"at place {place} a file that differs in the zeros at its end alone: its segment has 1008 bytes, and that of zeros 1010"
+        note = (f"at place {place} a file that differs in the zeros at its end alone: "
+                "its segment has 1008 bytes, and that of zeros 1010")
         self.assertIn(note, self.noted(16, "zeros"))
         self.put("segment", segment_of(raw))
-        self.assertIn("deal keeps segment as it is and not padded: prove takes such a segment with --segment", self.noted(16, "segment"))
+        self.assertIn("deal keeps segment as it is and not padded: prove takes such a segment with --segment",
+                      self.noted(16, "segment"))
         self.assertIn("has stray bits, first in byte", self.noted(11, "--segment", "certificate.pdf"))
         self.put("text", b"text")
         self.answer("book", "deal", "--raw", "text", "--house", 2)
-        self.assertIn("deal keeps text padded, as a plain file: prove takes it without --segment", self.noted(16, "--segment", "text"))
+        self.assertIn("deal keeps text padded, as a plain file: prove takes it without --segment",
+                      self.noted(16, "--segment", "text"))
         self.put("empty", b"")
         self.assertIn("empty has 0 bytes; an archive has from 1 to", self.noted(2, "empty"))
         self.put("long", bytes(MAX_RAW + 1))
@@ -489,7 +523,8 @@ class Proving(Houses):
         spoilt = bytearray(self.get("deal"))
         spoilt[int.from_bytes(spoilt[place + 32 : place + 40], "little")] ^= 1
         self.put("deal", bytes(spoilt))
-        self.assertIn("has the entry of certificate.pdf, but the bytes in deal are no longer its own; see: vizhuthamen fsck deal",
+        self.assertIn("has the entry of certificate.pdf, but the bytes in deal are no longer its own; see: "
+                      "vizhuthamen fsck deal",
                       self.noted(16, "certificate.pdf"))
         spoilt[31] |= 0x40
         self.put("deal", bytes(spoilt))
@@ -506,16 +541,18 @@ class Proving(Houses):
         deal[1856:1920] = MODEL.entry(commitment, 256, len(segment))
         deal[1920:1984] = MODEL.entry(commitment, 0, len(segment))
         self.put("deal", bytes(deal))
-        for option, place, offset in (((), 1856, 256), (("--place", 1856), 1856, 256), (("--place", 1920), 1920, 0), (("--slot", 1), 1856, 256),
-                                      (("--slot", 2), 1920, 0)):
+        for option, place, offset in (((), 1856, 256), (("--place", 1856), 1856, 256), (("--place", 1920), 1920, 0),
+                                      (("--slot", 1), 1856, 256), (("--slot", 2), 1920, 0)):
             out = self.answer("prove", "deal", "file", "-o", "made", "--force", *GIVEN, *option)
             self.assertIn(f"offset {offset}\nplace {place}\n", out)
             self.verdict("made", "file", status=0)
         self.assertEqual(self.answer("find", "deal", "--raw", "file"), f"offset 256\nsize {len(segment)}\nplace 1856\n")
         for option in (("--place", 1792), ("--place", 1984), ("--slot", 0), ("--slot", 3)):
-            self.assertIn(f"without {option[0]} file is looked for in all of deal", self.noted(16, "file", *GIVEN, *option))
+            self.assertIn(f"without {option[0]} file is looked for in all of deal",
+                          self.noted(16, "file", *GIVEN, *option))
         for option in (("--place", 1800), ("--slot", 4)):
-            self.assertIn("an entry place here is a multiple of 64 from 1792 to 1984", self.noted(6, "file", *GIVEN, *option))
+            self.assertIn("an entry place here is a multiple of 64 from 1792 to 1984",
+                          self.noted(6, "file", *GIVEN, *option))
         self.failed(USAGE, "prove", "deal", "file", "-o", "proof", *GIVEN, "--place", 1856, "--slot", 1)
 
 
@@ -541,8 +578,8 @@ class PlainFiles(Houses):
         raw = self.put("plain", b"\xff" * 1000)
         deal = self.get("deal")
         out, err = self.call("book", "deal", "plain", status=11)
-        self.assertIn("plain has stray bits, first in byte 31, and no segment has such; a plain file is padded and booked by: "
-                      "vizhuthamen book deal --raw plain\n", err)
+        self.assertIn("plain has stray bits, first in byte 31, and no segment has such; "
+                      "a plain file is padded and booked by: vizhuthamen book deal --raw plain\n", err)
         self.assertEqual(self.get("deal"), deal)
         for status, size in ((2, 1000), (11, 512)):
             self.put("plain", raw[:size])
@@ -554,16 +591,19 @@ class PlainFiles(Houses):
         for words in (("commit", "plain"), ("stream", "plain"), ("stream", "-")):
             self.assertIn("has stray bits, first in byte 319", self.call(*words, status=11, stdin=self.get("plain"))[1])
         err = self.call("repair", "deal", "--segment", "plain", status=11)[1]
-        self.assertIn("plain has stray bits, first in byte 319, and no segment has such; a plain file is given with --raw\n", err)
+        self.assertIn("plain has stray bits, first in byte 319, and no segment has such; "
+                      "a plain file is given with --raw\n", err)
         error = self.failed(USAGE, "find", "deal", "plain")
-        self.assertIn("a commitment is needed, and plain is a file; a plain file is found by: vizhuthamen find deal --raw plain;", error)
+        self.assertIn("a commitment is needed, and plain is a file; a plain file is found by: "
+                      "vizhuthamen find deal --raw plain;", error)
         error = self.failed(USAGE, "check", "plain", 512, "record", *GIVEN)
         self.assertIn("that of a plain file is printed by: vizhuthamen commit --raw plain;", error)
         self.put("long", bytes(2100))
         err = self.call("book", "deal", "--raw", "long", status=4)[1]
         self.assertIn("the segment of long has 2117 bytes; a segment here has 1 to 2048 bytes", err)
         self.put("empty", b"")
-        self.assertIn("empty has 0 bytes; an archive has from 1 to", self.call("book", "deal", "--raw", "empty", status=2)[1])
+        self.assertIn("empty has 0 bytes; an archive has from 1 to",
+                      self.call("book", "deal", "--raw", "empty", status=2)[1])
         self.assertIn("not keep long", self.call("find", "deal", "--raw", "long", status=16)[1])
 
 
@@ -584,7 +624,8 @@ class Cids(Calls):
         deal, places = self.booked(1024, (256, 128))
         root, commitment = MODEL.commitment(deal)[1], deal[places[0] : places[0] + 32]
         record = self.put("record", MODEL.build(deal, NUMBER, places[0])[1])
-        self.assertEqual(self.answer("find", "deal", proofs.cid(commitment)), self.answer("find", "deal", commitment.hex()))
+        self.assertEqual(self.answer("find", "deal", proofs.cid(commitment)),
+                         self.answer("find", "deal", commitment.hex()))
         self.answer("check", proofs.cid(root), 1024, "record", *GIVEN)
         self.answer("settle", proofs.cid(root), 1024, "record", "record", *GIVEN)
         self.refused(9, "check", proofs.cid(commitment), 1024, "record", *GIVEN)
@@ -619,7 +660,8 @@ class Cids(Calls):
             self.assertEqual(self.answer(*words, "--cid", status=status), expected)
             self.assertEqual(expected != plain, words[0] != "fsck", words)
         self.put("deal", deal)
-        self.assertEqual(self.answer("salvage", "deal", "out", "--cid"), self.answer("salvage", "deal", "out"))  # names of files
+        # names of files
+        self.assertEqual(self.answer("salvage", "deal", "out", "--cid"), self.answer("salvage", "deal", "out"))
         slots = json.loads(self.answer("list", "deal", "--json", "--cid"))["slots"]
         self.assertEqual({slot["commitment"]: slot["cid"] for slot in slots[:2]}, cids)
         self.assertNotIn("cid", slots[2])
@@ -631,7 +673,8 @@ class Cids(Calls):
         node = MODEL.commitment(bytes(128))[1]
         sealed = "b" + proofs.base64.b32encode(bytes.fromhex("0182e203922020") + node).decode().lower().rstrip("=")
         for text, why in ((self.ZEROS[:-1], "its last characters make no whole byte"),
-                          (self.ZEROS + "a", "it is too long: 1 bytes follow"), (self.ZEROS.upper(), "it does not begin with b"),
+                          (self.ZEROS + "a", "it is too long: 1 bytes follow"),
+                          (self.ZEROS.upper(), "it does not begin with b"),
                           (self.ZEROS[:20] + "1" + self.ZEROS[21:], "'1', its character 21,"),
                           (sealed, "its codec is 0xf102, not fil-commitment-unsealed (0xf101)"),
                           ("bafkreigh2akiscaildcqabsyg3dfr6chu3fgpregiymsck7e7aqa4s52zy", "its codec is 0x55"),
@@ -655,8 +698,10 @@ class Settling(Calls):
         older = MODEL.book(self.deal, self.get("deal.owners"), 2, b"\1" * 128)[3]
         self.put("older", MODEL.build(older, NUMBER, self.places[0])[1])
 
-    REASONS = {"older": (9, "a record that was built before belongs to the older one"), "forged": (10, "the index entry is not"),
-               "number": (21, f"it names deal number {OTHER}, and {NUMBER} is asked for"), "cut": (3, "not the fields of a record")}
+    REASONS = {"older": (9, "a record that was built before belongs to the older one"),
+               "forged": (10, "the index entry is not"),
+               "number": (21, f"it names deal number {OTHER}, and {NUMBER} is asked for"),
+               "cut": (3, "not the fields of a record")}
 
     def sentence(self, which, name, place=None):
         if name in self.REASONS:
@@ -667,7 +712,8 @@ class Settling(Calls):
         names = ("right", *self.REASONS)
         for first in names:
             for second in names:
-                refused = [(which, name) for which, name in (("first", first), ("second", second)) if name in self.REASONS]
+                refused = [(which, name) for which, name in (("first", first), ("second", second))
+                           if name in self.REASONS]
                 if not refused:
                     continue
                 code, why = self.REASONS[refused[0][1]]
@@ -680,7 +726,8 @@ class Settling(Calls):
                 value = json.loads(self.answer(*words, "--json", status=code))
                 self.assertEqual(value["refused"], [which for which, _ in refused])
                 self.assertEqual([r["sentence"] for r in value["verdicts"]], lines)
-                self.assertEqual([r["code"] for r in value["verdicts"]], [self.REASONS.get(name, (0,))[0] for name in (first, second)])
+                self.assertEqual([r["code"] for r in value["verdicts"]],
+                                 [self.REASONS.get(name, (0,))[0] for name in (first, second)])
                 self.assertIn(why, value["hint"])
                 self.assertEqual(value.get("record_number"), str(OTHER) if "number" in (first, second) else None)
 
@@ -688,7 +735,8 @@ class Settling(Calls):
         words = "settle", self.root, 1024, "right", "second", *GIVEN
         lines = self.refused(18, *words).splitlines()[1:]
         self.assertEqual(lines, [self.sentence("first", "right"), self.sentence("second", "second"),
-                                 "both records are accepted: they are of two different entries, and neither speaks against the other"])
+                                 "both records are accepted: they are of two different entries, "
+                                 "and neither speaks against the other"])
         value = json.loads(self.answer(*words, "--json", status=18))
         self.assertEqual((value["refused"], value["hint"]), ([], lines[2]))
 
@@ -710,5 +758,6 @@ class Settling(Calls):
 
 if __name__ == "__main__":
     if not BINARY.is_file():
-        raise SystemExit(f"proof_test: {BINARY} is not there; run: cargo build --release --offline --manifest-path rust/Cargo.toml")
+        raise SystemExit(f"proof_test: {BINARY} is not there; run: "
+                         "cargo build --release --offline --manifest-path rust/Cargo.toml")
     unittest.main()

@@ -1,5 +1,5 @@
-"""Tests what the differential test and the vectors do not reach of the Python package: that it is the header's and the Rust crate's
-image, and what it does with memory and numbers that the library must not be handed.
+"""Tests what the differential test and the vectors do not reach of the Python package: that it is the header's and the
+Rust crate's image, and what it does with memory and numbers that the library must not be handed.
 
 Run from anywhere, after make: python3 tests/python_test.py
 """
@@ -18,10 +18,10 @@ sys.path.insert(0, str(ROOT / "python"))
 import vizhuthamen as vz  # noqa: E402
 from vizhuthamen import _library  # noqa: E402
 
-# What the Rust crate has besides: types that are bytes or texts here, iterators, how many threads may work, and a raw archive by parts,
-# which is no call of one function.
-RUST_ALONE = {"Node", "NotANode", "Fields", "Lines", "Fault", "commitment_with_threads", "tree_fill_with_threads", "MAX_RAW_STREAM",
-              "RAW_PART", "RawStreamed", "RawStreaming"}
+# What the Rust crate has besides: types that are bytes or texts here, iterators, how many threads may work, and a raw
+# archive by parts, which is no call of one function.
+RUST_ALONE = {"Node", "NotANode", "Fields", "Lines", "Fault", "commitment_with_threads", "tree_fill_with_threads",
+              "MAX_RAW_STREAM", "RAW_PART", "RawStreamed", "RawStreaming"}
 
 
 class Image(unittest.TestCase):
@@ -66,7 +66,8 @@ class Image(unittest.TestCase):
         for name in vz.__all__:
             for function in methods(getattr(vz, name)):
                 signature = inspect.signature(function)
-                untyped = [each.name for each in signature.parameters.values() if each.annotation is each.empty and each.name != "self"]
+                untyped = [each.name for each in signature.parameters.values()
+                           if each.annotation is each.empty and each.name != "self"]
                 self.assertEqual(untyped, [], function)
                 self.assertIsNot(signature.return_annotation, signature.empty, function)
 
@@ -89,18 +90,25 @@ class Memory(unittest.TestCase):
         deal, table, view = self.deal, self.table, memoryview(self.deal)
         before = bytes(deal)
         tree, other = bytearray(480), bytearray(512)
-        for refused in (lambda: vz.collect(deal, table, deal, bytearray(4)), lambda: vz.collect(deal, table, view, bytearray(4)),
-                        lambda: vz.collect(deal, table, other, table), lambda: vz.collect(deal, table, other, view[508:]),
-                        lambda: vz.collect(deal, view[:4], deal, bytearray(4)), lambda: vz.collect(deal, table, other, memoryview(other)[:4]),
+        for refused in (lambda: vz.collect(deal, table, deal, bytearray(4)),
+                        lambda: vz.collect(deal, table, view, bytearray(4)),
+                        lambda: vz.collect(deal, table, other, table),
+                        lambda: vz.collect(deal, table, other, view[508:]),
+                        lambda: vz.collect(deal, view[:4], deal, bytearray(4)),
+                        lambda: vz.collect(deal, table, other, memoryview(other)[:4]),
                         lambda: vz.book(deal, table, 1, view[:128]), lambda: vz.book(deal, table, 1, view[384:]),
-                        lambda: vz.book(deal, view[:4], 1, b"\2"), lambda: vz.book(deal, table, 1, memoryview(table)[3:]),
-                        lambda: vz.cancel(deal, view[508:], 1, 256), lambda: vz.cancel(deal, memoryview(tree)[:4], 1, 256, tree=tree),
+                        lambda: vz.book(deal, view[:4], 1, b"\2"),
+                        lambda: vz.book(deal, table, 1, memoryview(table)[3:]),
+                        lambda: vz.cancel(deal, view[508:], 1, 256),
+                        lambda: vz.cancel(deal, memoryview(tree)[:4], 1, 256, tree=tree),
                         lambda: vz.tree_fill(deal, view[32:]), lambda: vz.book(deal, table, 1, b"\2", tree=view[32:]),
-                        lambda: vz.book(deal, table, 1, memoryview(tree)[:100], tree=tree), lambda: vz.build_into(deal, 9, 256, deal),
+                        lambda: vz.book(deal, table, 1, memoryview(tree)[:100], tree=tree),
+                        lambda: vz.build_into(deal, 9, 256, deal),
                         lambda: vz.audit_into(deal, deal), lambda: vz.audit_into(deal, view[508:]),
                         lambda: vz.pad_into(view[:100], view[50:300]), lambda: vz.tree_row(view[:128], view[127:191])):
             self.assertRaises(ValueError, refused)
-        self.assertEqual((bytes(deal), bytes(table), bytes(tree), bytes(other)), (before, b"\1\0\0\0", bytes(480), bytes(512)))
+        self.assertEqual((bytes(deal), bytes(table), bytes(tree), bytes(other)),
+                         (before, b"\1\0\0\0", bytes(480), bytes(512)))
 
     def test_memory_that_is_beside_or_empty_may_be_lent(self):
         view = memoryview(bytearray(192))
@@ -119,10 +127,12 @@ class Memory(unittest.TestCase):
             self.assertEqual(vz.find(lent, whole[256:288]).segment, whole[:128])
 
     def test_memory_that_cannot_be_lent(self):
-        for refused in (lambda: vz.book(bytes(512), bytearray(4), 1, b"\1"), lambda: vz.book(bytearray(512), bytes(4), 1, b"\1"),
+        for refused in (lambda: vz.book(bytes(512), bytearray(4), 1, b"\1"),
+                        lambda: vz.book(bytearray(512), bytes(4), 1, b"\1"),
                         lambda: vz.book(memoryview(bytes(512)), bytearray(4), 1, b"\1"),
                         lambda: vz.cancel(self.deal, bytes(self.table), 1, 256),
-                        lambda: vz.collect(self.deal, self.table, bytearray(512), bytes(4)), lambda: vz.audit_into(self.deal, bytes(4)),
+                        lambda: vz.collect(self.deal, self.table, bytearray(512), bytes(4)),
+                        lambda: vz.audit_into(self.deal, bytes(4)),
                         lambda: vz.sha256(memoryview(self.deal)[::2]), lambda: vz.sha256("text"), lambda: vz.sha256(7)):
             self.assertRaises(TypeError, refused)
 
@@ -181,9 +191,11 @@ class Answers(unittest.TestCase):
         deal[832:896] = vz.make_entry(commitment, 0, 100)
         deal[896:960] = vz.make_entry(commitment, 128, 128)
         deal[960:] = vz.make_entry(commitment, 64, 128)
-        self.assertEqual(vz.audit(deal), [states.KEPT, states.OVERLAPPING, states.WRONG_COMMITMENT, states.NOT_STANDING])
+        self.assertEqual(vz.audit(deal),
+                         [states.KEPT, states.OVERLAPPING, states.WRONG_COMMITMENT, states.NOT_STANDING])
         deal[768] ^= 1
-        self.assertEqual([state.words() for state in vz.audit(deal)], ["damaged", "kept", "wrong commitment", "not standing"])
+        self.assertEqual([state.words() for state in vz.audit(deal)],
+                         ["damaged", "kept", "wrong commitment", "not standing"])
         self.assertEqual([state.is_sound() for state in vz.audit(deal)], [False, True, False, False])
         lent = bytearray(b"\xa5" * 6)
         vz.audit_into(deal, lent)
@@ -208,7 +220,8 @@ class Answers(unittest.TestCase):
         with self.assertRaises(vz.Refusal) as caught:
             vz.check(bytes(31), 512, 9, b"")
         refusal = caught.exception
-        self.assertEqual((refusal.code, refusal.meaning), (vz.Refusal.COMMITMENT_LENGTH, "a commitment is not 32 bytes long"))
+        self.assertEqual((refusal.code, refusal.meaning),
+                         (vz.Refusal.COMMITMENT_LENGTH, "a commitment is not 32 bytes long"))
         self.assertEqual(str(refusal), "code 1: a commitment is not 32 bytes long")
         self.assertEqual(str(pickle.loads(pickle.dumps(refusal))), str(refusal))
 
@@ -223,7 +236,8 @@ class Answers(unittest.TestCase):
             raw = os.urandom(n)
             self.assertEqual(len(vz.pad(raw)), vz.segment_length(n))
             self.assertEqual(vz.unpad(n, vz.pad(raw)), raw)
-        self.assertEqual([vz.segment_length(n) for n in (-1, 0, vz.MAX_RAW, vz.MAX_RAW + 1)], [None, None, 1 << 23, None])
+        self.assertEqual([vz.segment_length(n) for n in (-1, 0, vz.MAX_RAW, vz.MAX_RAW + 1)],
+                         [None, None, 1 << 23, None])
         self.assertRaises(vz.Refusal, vz.pad, b"")
         self.assertRaises(vz.Refusal, vz.unpad, vz.MAX_RAW + 1, b"")
         self.assertRaises(vz.Refusal, vz.filled_tree, b"")
@@ -241,7 +255,8 @@ class Answers(unittest.TestCase):
     def test_the_log_of_a_day(self):
         deal, table, log = bytearray(512), bytearray(4), []
         for house, segment in ((1, b"\1" * 128), (1, b"\1" * 128), (2, b"\1" * 100), (1, b"\2"), (3, b"\2"), (1, b"")):
-            answer, commitment = self.answer(vz.book, deal, table, house, segment), vz.commitment(segment.ljust(128, b"\0"))
+            answer, commitment = (self.answer(vz.book, deal, table, house, segment),
+                                  vz.commitment(segment.ljust(128, b"\0")))
             log.append(vz.BookingLine.of(house, commitment, len(segment), answer))
         for house, place in ((2, 256), (1, 256), (1, 300), (0, 256)):
             log.append(vz.CancellingLine.of(house, place, self.answer(vz.cancel, deal, table, house, place)))
@@ -252,7 +267,8 @@ class Answers(unittest.TestCase):
         for lent in (data, bytearray(data), memoryview(data)):
             self.assertEqual(vz.playback(512, lent), vz.Confirmed([row]))
         self.assertEqual(vz.playback(512, data[: 61 * 3] + bytes(log[2])), vz.WrongLine(4, vz.Answers(15, 128, 320)))
-        self.assertEqual(vz.playback(512, data + bytes(vz.CancellingLine(1, 300, 16))), vz.WrongLine(7, vz.Answers(6, 0, 0)))
+        self.assertEqual(vz.playback(512, data + bytes(vz.CancellingLine(1, 300, 16))),
+                         vz.WrongLine(7, vz.Answers(6, 0, 0)))
         self.assertEqual([line.answers() for line in (log[1], log[3], log[6])],
                          [vz.Answers(15, 0, 256), vz.Answers(14, 0, 0), vz.Answers(16, 0, 0)])
         self.assertEqual(vz.playback(1 << 24, b""), vz.Confirmed([]))
@@ -276,7 +292,8 @@ class Answers(unittest.TestCase):
                            (changed(0, b"\2"), "line 2, at byte 13: 58 bytes are not the length of its tag"),
                            (changed(2, b"\1"), "line 2, at byte 13: 314 bytes are not the length of its tag"),
                            (changed(3, b"\0"), "line 2, at byte 13: house 0 is neither 1 nor 2"),
-                           (changed(36, b"\1\10"), "line 2, at byte 13: segment size 2049 is not allowed for the deal's"),
+                           (changed(36, b"\1\10"),
+                            "line 2, at byte 13: segment size 2049 is not allowed for the deal's"),
                            (changed(36, b"\0\0"), "line 2, at byte 13: segment size 0 is not allowed for the deal's"),
                            (changed(44, b"\20"), "line 2, at byte 13: code 16 is none that gets a line"),
                            (changed(0, b"")[:73], "line 2, at byte 13: the log ends within it"),
@@ -295,7 +312,8 @@ class Answers(unittest.TestCase):
         ran = subprocess.run([sys.executable, "-c", "import vizhuthamen"], capture_output=True, text=True,
                              env=os.environ | {"PYTHONPATH": str(ROOT / "python"), "VIZHUTHAMEN_LIB": "/nowhere"})
         self.assertNotEqual(ran.returncode, 0)
-        self.assertIn("run make in the repository's root, or let VIZHUTHAMEN_LIB name the folder of " + _library.NAME, ran.stderr)
+        self.assertIn("run make in the repository's root, or let VIZHUTHAMEN_LIB name the folder of " + _library.NAME,
+                      ran.stderr)
 
 
 if __name__ == "__main__":

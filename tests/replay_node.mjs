@@ -1,10 +1,12 @@
 #!/usr/bin/env node
-// Answers calls as the replay program does, by the JavaScript module over every WebAssembly module that is named, which must answer alike:
+// Answers calls as the replay program does, by the JavaScript module over every WebAssembly module that is named, which
+// must answer alike:
 //
 //     node tests/replay_node.mjs target/targets/vizhuthamen.wasm target/targets/vizhuthamen-simd.wasm < CASES
 //
-// A case and its line are those of tests/operations.py. Every call is watched on its way to a module: memory that is lent to be read stays
-// as it was, and so does memory that is lent to be written where the code writes none; most of the stack stays unused.
+// A case and its line are those of tests/operations.py. Every call is watched on its way to a module: memory that is
+// lent to be read stays as it was, and so does memory that is lent to be written where the code writes none; most of
+// the stack stays unused.
 import { createHash } from "node:crypto";
 import { readFileSync } from "node:fs";
 import { line as logLine, lines as logLines, load, Malformed, Refusal, ROWS } from "../javascript/vizhuthamen.mjs";
@@ -54,8 +56,8 @@ function rowsBytes(rows) {
   return out;
 }
 
-// The lines that are read one by one are malformed somewhere exactly where the log is refused with 3, and are the log's bytes; the one that
-// playback names does not say what the rules give for it.
+// The lines that are read one by one are malformed somewhere exactly where the log is refused with 3, and are the log's
+// bytes; the one that playback names does not say what the rules give for it.
 function judgeLines(size, log, refused, { line, ruling }) {
   const read = [];
   let end = log.length;
@@ -65,9 +67,11 @@ function judgeLines(size, log, refused, { line, ruling }) {
     if (!(malformed instanceof Malformed)) throw malformed;
     end = malformed.at;
   }
-  const said = ({ code, offset = 0, place, kind }) => [code, ...(kind === "cancelling" ? [0, 0] : [offset, place])].join();
+  const said = ({ code, offset = 0, place, kind }) =>
+    [code, ...(kind === "cancelling" ? [0, 0] : [offset, place])].join();
   const wrong = ruling && said(read[line - 1]) === said(ruling);
-  if (wrong || !Buffer.concat(read.map(logLine.encode)).equals(log.subarray(0, end)) || (end < log.length) !== (refused === Refusal.FORM)) {
+  if (wrong || !Buffer.concat(read.map(logLine.encode)).equals(log.subarray(0, end)) ||
+      (end < log.length) !== (refused === Refusal.FORM)) {
     throw new Error(`playback answers ${refused} and line ${line}; ${read.length} lines are read up to byte ${end}`);
   }
 }
@@ -75,7 +79,8 @@ function judgeLines(size, log, refused, { line, ruling }) {
 function answersOf(vz) {
   const entry = ({ commitment, offset, size }) => [commitment, offset, size];
   const booked = ({ a, b, d, y }, tree) => {
-    const [refused, booking] = asked(() => vz.book(a, d, y, b, { tree }), { kind: "", position: { offset: 0, place: 0 } });
+    const [refused, booking] = asked(() => vz.book(a, d, y, b, { tree }),
+      { kind: "", position: { offset: 0, place: 0 } });
     const { offset, place } = booking.position;
     return [booking.kind === "alreadyKept" ? Refusal.ALREADY_KEPT : refused, offset, place, ...shown(a, tree, d)];
   };
@@ -110,7 +115,10 @@ function answersOf(vz) {
     11: ({ a, b, y }) => settled(() => vz.settleWithDeal(a, y, b)),
     12({ a }) {
       const read = [...vz.fields(a)];
-      return [0, ...read.flatMap(({ tag, start, content, next }) => [tag, start, content.length, next]), read.at(-1)?.next ?? 0];
+      return [
+        0, ...read.flatMap(({ tag, start, content, next }) => [tag, start, content.length, next]),
+        read.at(-1)?.next ?? 0,
+      ];
     },
     14: ({ a, b }) => [code(() => vz.auditInto(a, b)), digest(b)],
     16({ a, b }) {
@@ -151,10 +159,12 @@ function answersOf(vz) {
 
 // The arguments that an operation writes.
 const WRITTEN = {
-  7: "ad", 8: "b", 14: "b", 17: "b", 18: "b", 20: "c", 21: "acd", 22: "b", 24: "ad", 25: "acd", 26: "be", 27: "bce", 28: "b",
+  7: "ad", 8: "b", 14: "b", 17: "b", 18: "b", 20: "c", 21: "acd", 22: "b", 24: "ad", 25: "acd", 26: "be", 27: "bce",
+  28: "b",
 };
 
-/** Each case: its operation, and what lends its arguments. What is read is a part of the input itself, what is written a copy. */
+/** Each case: its operation, and what lends its arguments. What is read is a part of the input itself, what is written
+ * a copy. */
 function* cases(input) {
   let at = 0;
   while (at < input.length) {
@@ -167,7 +177,9 @@ function* cases(input) {
       at += bytes.length;
     }
     const lent = memory.map(([name, bytes, written]) => [name, () => (written ? bytes.slice() : bytes)]);
-    yield [operation, () => ({ x: numbers[6], y: numbers[7], ...Object.fromEntries(lent.map(([name, bytes]) => [name, bytes()])) })];
+    yield [operation, () => ({
+      x: numbers[6], y: numbers[7], ...Object.fromEntries(lent.map(([name, bytes]) => [name, bytes()])),
+    })];
   }
 }
 

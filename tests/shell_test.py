@@ -1,8 +1,10 @@
-"""The man page and the completions, each by the programs that read them: python3 tests/shell_test.py (VIZHUTHAMEN names another binary).
+"""The man page and the completions, each by the programs that read them: python3 tests/shell_test.py
+(VIZHUTHAMEN names another binary).
 
-Man page: groff, man and mandoc must have nothing to say of it. Completions: the scripts are read by the shells themselves. bash and zsh
-get keys on a terminal, the tab key among them, and the call that they make of these must be the expected one; fish is asked. Commands and
-options are those that --help lists. What is not installed is said to be skipped; bash is needed.
+Man page: groff, man and mandoc must have nothing to say of it. Completions: the scripts are read by the shells
+themselves. bash and zsh get keys on a terminal, the tab key among them, and the call that they make of these must be
+the expected one; fish is asked. Commands and options are those that --help lists. What is not installed is said to be
+skipped; bash is needed.
 """
 import os
 import pty
@@ -47,14 +49,16 @@ def installed(name):
 
 def told():
     """The options of each command, as its help lists them."""
-    return {name: re.findall(r"^  --(\S+)", ran(BINARY, name, "--help").split("\nOptions:\n")[1], re.MULTILINE) for name in COMMANDS}
+    return {name: re.findall(r"^  --(\S+)", ran(BINARY, name, "--help").split("\nOptions:\n")[1], re.MULTILINE)
+            for name in COMMANDS}
 
 
 def man_page(folder):
     """No warning, and every command and option in what is shown."""
     page = folder / "vizhuthamen.1"
     page.write_text(ran(BINARY, "help", "--man"))
-    checks = {"groff": ("-mandoc", "-ww", "-z", "-Tutf8"), "man": ("--warnings", "-l", "-Tutf8", "-Z"), "mandoc": ("-Tlint", "-Wwarning")}
+    checks = {"groff": ("-mandoc", "-ww", "-z", "-Tutf8"), "man": ("--warnings", "-l", "-Tutf8", "-Z"),
+              "mandoc": ("-Tlint", "-Wwarning")}
     for program, words in checks.items():
         if installed(program):
             said = ran(program, *words, page)
@@ -70,8 +74,8 @@ def man_page(folder):
 
 
 def operands():
-    """For every operand of every command: keys with a tab after the beginning of a file's name there, and what comes of them. Names of
-    files and folders are completed, numbers and commitments are not."""
+    """For every operand of every command: keys with a tab after the beginning of a file's name there, and what comes of
+    them. Names of files and folders are completed, numbers and commitments are not."""
     for command in COMMANDS:
         usage = ran(BINARY, command, "--help").splitlines()[0]
         usage = re.sub(r"\[--\w+\] |\|--\w+ \w+|\.\.\.", "", usage)
@@ -85,7 +89,8 @@ class Terminal:
     """A shell on a terminal, in a folder with some files and a program that prints its words."""
 
     def __init__(self, folder, *command):
-        env = {"PATH": f"{folder}:{os.environ['PATH']}", "TERM": "dumb", "HOME": str(folder), "LC_ALL": "C.UTF-8", "PS1": "$ "}
+        env = {"PATH": f"{folder}:{os.environ['PATH']}", "TERM": "dumb", "HOME": str(folder), "LC_ALL": "C.UTF-8",
+               "PS1": "$ "}
         pid, self.terminal = pty.fork()
         if pid == 0:
             os.chdir(folder)
@@ -103,7 +108,8 @@ class Terminal:
         return shown
 
     def calls(self, keys):
-        """The words of the calls that the shell makes of keys must be the expected ones; it may end a folder's name with a slash."""
+        """The words of the calls that the shell makes of keys must be the expected ones; it may end a folder's name
+        with a slash."""
         for typed, words in keys:
             shown = self.typed(f"vizhuthamen {typed}\r", r"<[^\n]*>!")
             made = re.search(r"<([^\n]*)>!", shown).group(1).split("><")
@@ -115,12 +121,15 @@ class Terminal:
 
 
 # Keys, and the words that a shell makes of them. Where nothing can be known, or nothing fits, a tab adds nothing.
-KEYS = [("bo\t", ["book"]), ("tal\tde\t", ["tally", "deal"]), ("settle-\t", ["settle-deal"]), ("book deal arch\t", ["book", "deal", "archive one"]),
+KEYS = [("bo\t", ["book"]), ("tal\tde\t", ["tally", "deal"]), ("settle-\t", ["settle-deal"]),
+        ("book deal arch\t", ["book", "deal", "archive one"]),
         ("book deal --forc\t", ["book", "deal", "--force"]), ("build --sl\t", ["build", "--slot"]),
-        ("build deal --output arch\t", ["build", "deal", "--output", "archive one"]), ("salvage deal fol\t", ["salvage", "deal", "folder"]),
+        ("build deal --output arch\t", ["build", "deal", "--output", "archive one"]),
+        ("salvage deal fol\t", ["salvage", "deal", "folder"]),
         ("new deal arch\t", ["new", "deal", "arch"]), ("new deal --number arch\t", ["new", "deal", "--number", "arch"]),
-        ("check arch\t", ["check", "arch"]), ("check 00 512 arch\t", ["check", "00", "512", "archive one"]), ("help set\t-\t", ["help", "settle-deal"]),
-        ("completions zs\t", ["completions", "zsh"]), ("list --no\t deal", ["list", "--no", "deal"]), ("--ver\t", ["--version"])]
+        ("check arch\t", ["check", "arch"]), ("check 00 512 arch\t", ["check", "00", "512", "archive one"]),
+        ("help set\t-\t", ["help", "settle-deal"]), ("completions zs\t", ["completions", "zsh"]),
+        ("list --no\t deal", ["list", "--no", "deal"]), ("--ver\t", ["--version"])]
 
 
 def bash(folder):
@@ -129,15 +138,18 @@ def bash(folder):
     script.write_text(ran(BINARY, "completions", "bash"))
     shell = Terminal(folder, "bash", "--norc", "--noprofile", "-i")
     shell.typed("source bash-completion; bind 'set bell-style none'; echo read''y\r", "ready")
-    keys = [*KEYS, ("build deal --output=arch\t", ["build", "deal", "--output=archive one"]), ("list -- arch\t", ["list", "--", "archive one"]),
+    keys = [*KEYS, ("build deal --output=arch\t", ["build", "deal", "--output=archive one"]),
+            ("list -- arch\t", ["list", "--", "archive one"]),
             ("build deal --out\tarch\t", ["build", "deal", "--output", "archive one"])]
     shell.calls([*keys, *operands()])
     shell.end()
-    ask = 'source "$1"; shift; COMP_WORDS=(vizhuthamen "$@"); COMP_CWORD=$#; _vizhuthamen; printf "%s\\n" "${COMPREPLY[@]}"'
+    ask = ('source "$1"; shift; COMP_WORDS=(vizhuthamen "$@"); COMP_CWORD=$#; _vizhuthamen; '
+           'printf "%s\\n" "${COMPREPLY[@]}"')
     offered = lambda *words: ran("bash", "-c", ask, "bash", script, *words).split()
     same("the commands that bash offers", sorted(offered("")), sorted(COMMANDS))
     for command, options in told().items():
-        same(f"the options of {command} that bash offers", sorted(offered(command, "--")), sorted(f"--{option}" for option in options))
+        same(f"the options of {command} that bash offers", sorted(offered(command, "--")),
+             sorted(f"--{option}" for option in options))
 
 
 def zsh(folder):
@@ -145,7 +157,8 @@ def zsh(folder):
     (folder / "functions").mkdir()
     (folder / "functions" / "_vizhuthamen").write_text(ran(BINARY, "completions", "zsh"))
     shell = Terminal(folder, "zsh", "-f", "-i")
-    shell.typed("fpath=($PWD/functions $fpath); autoload -Uz compinit; compinit -D -u; unsetopt beep; echo read''y\r", "ready")
+    shell.typed("fpath=($PWD/functions $fpath); autoload -Uz compinit; compinit -D -u; unsetopt beep; echo read''y\r",
+                "ready")
     shell.calls([*KEYS, ("build deal --out\tarch\t", ["build", "deal", "--output=archive one"]), *operands()])
     shell.end()
 
@@ -162,7 +175,8 @@ def fish(folder):
 
     same("the commands that fish offers", offered("vizhuthamen "), sorted(COMMANDS))
     for command, options in told().items():
-        same(f"the options of {command} that fish offers", offered(f"vizhuthamen {command} --"), sorted(f"--{option}" for option in options))
+        same(f"the options of {command} that fish offers", offered(f"vizhuthamen {command} --"),
+             sorted(f"--{option}" for option in options))
     same("the shells that fish offers", offered("vizhuthamen completions "), ["bash", "fish", "zsh"])
     for line in ("vizhuthamen book arch", "vizhuthamen pad deal --output arch"):
         same(f"fish, {line!r}", offered(line), ["archive one"])
@@ -182,7 +196,8 @@ def main():
         for shell in shells:
             shell(folder)
     skipped = ", ".join(sorted(set(SKIPPED))) or "nothing"
-    print(f"shell_test: the man page; completions for {', '.join(shell.__name__ for shell in shells)}; skipped: {skipped}")
+    print(f"shell_test: the man page; completions for {', '.join(shell.__name__ for shell in shells)}; skipped: "
+          f"{skipped}")
 
 
 if __name__ == "__main__":

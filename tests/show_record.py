@@ -1,8 +1,8 @@
 """Writes the records that the program `show_record` shows, and the lines that it must print.
 
-Run from the repository's root: python3 tests/show_record.py. It writes crates/show_record/stdin and crates/show_record/stdout; with
---check it compares them with what stands there. The record is document 02's of 245 bytes, from the input of
-check_record.
+Run from the repository's root: python3 tests/show_record.py. It writes crates/show_record/stdin and
+crates/show_record/stdout; with --check it compares them with what stands there. The record is document 02's of 245
+bytes, from the input of check_record.
 """
 import sys
 from pathlib import Path
@@ -48,7 +48,8 @@ def lines(record):
 
 
 def main():
-    stdin = b"".join(len(r).to_bytes(8, "little") + r for r in records()) + len(RECORD).to_bytes(8, "little") + RECORD[:-1]
+    stdin = (b"".join(len(r).to_bytes(8, "little") + r for r in records())
+             + len(RECORD).to_bytes(8, "little") + RECORD[:-1])
     answers = [line for r in records() for line in lines(r)] + ["refused: the input ends within a record"]
     stdout = "".join(line + "\n" for line in answers).encode()
     folder = ROOT / "crates/show_record"

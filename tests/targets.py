@@ -1,10 +1,11 @@
-"""Builds the C replay program with the library of each machine, and the C smoke program with that of 64-bit Arm, and runs the latter.
+"""Builds the C replay program with the library of each machine, and the C smoke program with that of 64-bit Arm, and
+runs the latter.
 
 Run from anywhere, after tools/levels and tools/targets: python3 tests/targets.py
 
-The machines are x86-64 (the archive that chooses a level; this tests the header), 64-bit Arm, whose programs qemu runs, and WebAssembly,
-which node runs by the JavaScript module (tests/replay_node.mjs), without SIMD and with it. One for which something is missing is
-skipped, which is said. tests/replay_levels runs all the replay programs.
+The machines are x86-64 (the archive that chooses a level; this tests the header), 64-bit Arm, whose programs qemu runs,
+and WebAssembly, which node runs by the JavaScript module (tests/replay_node.mjs), without SIMD and with it. One for
+which something is missing is skipped, which is said. tests/replay_levels runs all the replay programs.
 """
 import json
 import shutil
@@ -21,8 +22,8 @@ COMPILED = {"c": (["gcc"], ROOT / "target" / "levels" / "libvizhuthamen.a", []),
 MODULES = [MADE / "vizhuthamen.wasm", MADE / "vizhuthamen-simd.wasm"]
 MACHINES = [*COMPILED, "wasm"]
 # The Debian package of each tool.
-PACKAGES = {"gcc": "gcc", "aarch64-linux-gnu-gcc": "gcc-aarch64-linux-gnu and libc6-dev-arm64-cross", "qemu-aarch64": "qemu-user",
-            "node": "nodejs", "wasm-opt": "binaryen"}
+PACKAGES = {"gcc": "gcc", "aarch64-linux-gnu-gcc": "gcc-aarch64-linux-gnu and libc6-dev-arm64-cross",
+            "qemu-aarch64": "qemu-user", "node": "nodejs", "wasm-opt": "binaryen"}
 
 
 def missing(name):
@@ -57,7 +58,8 @@ def programs():
     """The replay command of each machine that can be tested here."""
     unbuilt = [name for name in machines() if not replay(name)[-1].is_file()]
     if unbuilt:
-        sys.exit(f"targets: nothing to replay with for {', '.join(unbuilt)}; run: tools/targets && python3 tests/targets.py")
+        sys.exit(f"targets: nothing to replay with for {', '.join(unbuilt)}; run: "
+                 "tools/targets && python3 tests/targets.py")
     return {name: replay(name) for name in machines()}
 
 

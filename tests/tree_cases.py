@@ -1,5 +1,5 @@
-"""Calls of the forms that take a tree (document 02, request (vii)): refusals in their order, a tree kept over bookings, and trees
-that stand beside another deal than the one they were filled for."""
+"""Calls of the forms that take a tree (document 02, request (vii)): refusals in their order, a tree kept over bookings,
+and trees that stand beside another deal than the one they were filled for."""
 from itertools import product
 
 from cases import deal, deal_number, place, run, segment_size, spoil, standing_places, strayed
@@ -8,7 +8,8 @@ from operations import BOOK_TREE, BUILD_TREE, FILL, MODEL, ROW, SETTLE_TREE, Cas
 
 
 def orders(rng):
-    """Every choice of faults in deal, tree, segment, place, output and record at once: the first in the order decides."""
+    """Every choice of faults in deal, tree, segment, place, output and record at once: the first in the order
+    decides."""
     whole = bytes(512)
     for size in (128, 100):
         whole = MODEL.put(whole, run(rng, size))[3]
@@ -19,7 +20,8 @@ def orders(rng):
     segments = (fresh, whole[:128], whole[128:228], b"", bytes(257), strayed(fresh, 63, 128))
     for data, tree in product((whole, stray, whole[:500], stray[:511], bytes(512)), (own, own[:-1], own + b"\0", b"")):
         yield FILL, data, b"", 0, 0, tree
-        for segment, owner in product(segments, (1, 2)):  # of the second slot: one house has half of the slots, or each a quarter
+        # of the second slot: one house has half of the slots, or each a quarter
+        for segment, owner in product(segments, (1, 2)):
             yield Case(BOOK_TREE, data, segment, y=1, c=tree, d=bytes([1, owner, 0, 0]))
         for p, n in product((256, 300, 384), (245, 244)):
             yield BUILD_TREE, data, rng.randbytes(n), p, number, tree
@@ -49,8 +51,8 @@ def looked_at(rng, data, tree):
 
 
 def kept_tree(rng, d, sizes, mixed):
-    """A deal, of zeros or of old bytes, with its tree: filled, and kept over bookings of these sizes by either house, each followed by
-    the same segment again. Where plain bookings are mixed in, the tree is stale from there on."""
+    """A deal, of zeros or of old bytes, with its tree: filled, and kept over bookings of these sizes by either house,
+    each followed by the same segment again. Where plain bookings are mixed in, the tree is stale from there on."""
     start = index_numbers(d)[2]
     data = rng.choice((bytes(start), run(rng, start))) + bytes(d - start)
     old = rng.randbytes(d - 32)
@@ -74,8 +76,8 @@ def runs(rng, count, deal_sizes=(512, 1024, 4096, 1 << 14)):
 
 
 def changed_deals(rng, count):
-    """Deals changed behind their trees, with a record from before: another entry at its place, a damaged one, none; another byte in
-    its segment, or elsewhere."""
+    """Deals changed behind their trees, with a record from before: another entry at its place, a damaged one, none;
+    another byte in its segment, or elsewhere."""
     for _ in range(count):
         data = deal(rng, (512, 1024, 4096))
         code, tree = MODEL.fill(data, bytes(len(data) - 32))
@@ -87,7 +89,8 @@ def changed_deals(rng, count):
         number = deal_number(rng)
         record = MODEL.build(data, number, p)[1]
         other = MODEL.entry(c, o, max(1, s - 1) if rng.randrange(2) else area(s))
-        for at, part in ((p, other), (p, bytes(64)), (p, strayed(data[p : p + 64], 50, 1)), (o, bytes(32)), (rng.randrange(16) * 32, bytes(32))):
+        for at, part in ((p, other), (p, bytes(64)), (p, strayed(data[p : p + 64], 50, 1)), (o, bytes(32)),
+                         (rng.randrange(16) * 32, bytes(32))):
             changed = data[:at] + part + data[at + len(part):]
             yield SETTLE_TREE, changed, record, 0, number, tree
             yield BUILD_TREE, changed, rng.randbytes(2000), p, number, tree

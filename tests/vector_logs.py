@@ -1,4 +1,5 @@
-"""The calls of vectors/vectors.json that play logs back: the days, rules and faults of playback_cases.py, each under a name."""
+"""The calls of vectors/vectors.json that play logs back: the days, rules and faults of playback_cases.py, each under a
+name."""
 import re
 
 import playback_cases as logs
@@ -25,12 +26,13 @@ def days():
     for day in logs.DAYS:
         for i, line in enumerate(day.lines):
             lines = [*day.lines[:i], next(logs.other_answers(line)), *day.lines[i + 1:]]
-            yield call("playback", f"day-{day.d}-line-{i + 1}", "another code in this line", size=day.d, log=log_of(lines), **LENT)
+            yield call("playback", f"day-{day.d}-line-{i + 1}", "another code in this line", size=day.d,
+                       log=log_of(lines), **LENT)
 
 
 def rules():
-    for group in (logs.sizes_by_bytes, logs.commitments, logs.stray_commitments, logs.house_rows, logs.quotas, logs.numbers_beside_refusals,
-                  logs.cancellations, logs.equal_commitments):
+    for group in (logs.sizes_by_bytes, logs.commitments, logs.stray_commitments, logs.house_rows, logs.quotas,
+                  logs.numbers_beside_refusals, logs.cancellations, logs.equal_commitments):
         yield from named(group.__name__, group())
     yield from named("segments", list(logs.same_segments())[:10])
     yield from named("places", list(logs.no_places())[::3])
@@ -59,7 +61,8 @@ def answers_in_order():
     })
     for length in (0, 57, ROWS + 1):
         rows = repeat(b"\xa5", length)
-        yield call("playback", f"rows-{length}", "rows have one length, whatever their number", size=512, log=b"", rows=rows)
+        yield call("playback", f"rows-{length}", "rows have one length, whatever their number", size=512, log=b"",
+                   rows=rows)
 
 
 GROUPS = days, rules, forms, answers_in_order

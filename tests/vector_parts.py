@@ -1,4 +1,5 @@
-"""What the calls of vectors/vectors.json are made of: bytes in the forms that the file has for them, deals, and calls with faults."""
+"""What the calls of vectors/vectors.json are made of: bytes in the forms that the file has for them, deals, and calls
+with faults."""
 from itertools import groupby
 
 from model import area, index_numbers, le
@@ -95,7 +96,8 @@ def own_entry(deal, offset, size):
 
 
 def call(routine, name, how, **inputs):
-    """A call: the routine is a function of include/vizhuthamen.h without its vz_, the inputs have the names of its parameters."""
+    """A call: the routine is a function of include/vizhuthamen.h without its vz_, the inputs have the names of its
+    parameters."""
     return routine, f"{routine}/{name}", how, inputs
 
 

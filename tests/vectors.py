@@ -1,4 +1,5 @@
-"""Writes the calls that the program `vectors` replays, and the answers that the independent model gives; and the vectors for others.
+"""Writes the calls that the program `vectors` replays, and the answers that the independent model gives; and the
+vectors for others.
 
 Run from the repository's root: python3 tests/vectors.py. It writes crates/vectors/stdin, crates/vectors/stdout and
 vectors/vectors.json (see json_vectors.py); with --check it compares them with what stands there.
@@ -19,8 +20,8 @@ import refusal_cases
 import tree_cases
 from cases import any_number, case, deal_number, node, other_number, paddings, run, sparse_record, streams
 from model import index_numbers, le, owners
-from operations import (BOOK, BUILD, CHECK, CHECK_INPUT, COMMITMENT, COMPARE, FIELDS, FIND, MAKE, MODEL, NAMES, NUMBERS, READ, SETTLE,
-                        SETTLE_DEAL, TALLY, Case, answer, encode)
+from operations import (BOOK, BUILD, CHECK, CHECK_INPUT, COMMITMENT, COMPARE, FIELDS, FIND, MAKE, MODEL, NAMES, NUMBERS,
+                        READ, SETTLE, SETTLE_DEAL, TALLY, Case, answer, encode)
 
 ROOT = Path(__file__).resolve().parent.parent
 
@@ -57,9 +58,10 @@ def worked_runs(rng):
 
 
 def sizes_in_deals(rng):
-    """Sizes at and beside powers of two (document 02, request (iii)): booked in zeros, booked over old bytes, booked again, found."""
-    for size, d in ((1, 512), (31, 512), (127, 512), (128, 512), (129, 512), (130, 512), (255, 1024), (256, 512), (257, 1024), (258, 1024),
-                    (512, 1024), (513, 2048), (1000, 2048)):
+    """Sizes at and beside powers of two (document 02, request (iii)): booked in zeros, booked over old bytes, booked
+    again, found."""
+    for size, d in ((1, 512), (31, 512), (127, 512), (128, 512), (129, 512), (130, 512), (255, 1024), (256, 512),
+                    (257, 1024), (258, 1024), (512, 1024), (513, 2048), (1000, 2048)):
         _, n, start = index_numbers(d)
         segment = node(rng) * (size // 32) + rng.randbytes(size % 32)
         shorter, longer = segment[:-1] or bytes(2), segment + b"\0"
@@ -78,7 +80,8 @@ def sizes_in_deals(rng):
 
 
 def other_trailer(rng):
-    """A kept entry whose size ends before other bytes than zeros: kept by its area, and not the segment that booking takes."""
+    """A kept entry whose size ends before other bytes than zeros: kept by its area, and not the segment that booking
+    takes."""
     deal = bytearray(1024)
     deal[:256] = b"".join(node(rng) for _ in range(8))
     deal[768:832] = MODEL.entry(MODEL.tree(bytes(deal[:256]))[-1][0], 0, 130)
@@ -141,7 +144,8 @@ def slot(rng, form):
     one_bit = (1 << 8 * rng.randrange(64) + rng.randrange(5)).to_bytes(64, "little")
     kept = MODEL.entry(MODEL.tree(bytes(128))[-1][0], 128 * rng.randrange(6), 128)
     spoilt = bytes(a ^ b for a, b in zip(kept, one_bit))
-    return (bytes(64), one_bit, spoilt, MODEL.entry(node(rng), any_number(rng), 96), MODEL.entry(node(rng), 0, 256), kept)[form]
+    return (bytes(64), one_bit, spoilt, MODEL.entry(node(rng), any_number(rng), 96), MODEL.entry(node(rng), 0, 256),
+            kept)[form]
 
 
 def tallies(rng):
@@ -155,12 +159,14 @@ def tallies(rng):
         table = bytes(rng.choices((0, 1, 2), k=4))
         yield Case(BOOK, deal, segment, y=1, d=table)
         yield TALLY, MODEL.book(deal, table, 1, segment)[3], b"", 0, 0
-    for deal in (bytes(0), bytes(511), bytes(768), bytes(8192), bytes(1023) + b"\x40", bytes(767) + b"\x80" + bytes(256)):
+    for deal in (bytes(0), bytes(511), bytes(768), bytes(8192), bytes(1023) + b"\x40",
+                 bytes(767) + b"\x80" + bytes(256)):
         yield TALLY, deal, b"", 0, 0
 
 
 def stray_paths(rng):
-    """Records for 512 bytes whose paths lead to the commitment: without stray bits in a path, and with them in one of its nodes."""
+    """Records for 512 bytes whose paths lead to the commitment: without stray bits in a path, and with them in one of
+    its nodes."""
     h = MODEL.h
     for strayed in (None, 0, 1, 2):
         c, *free = (node(rng) for _ in range(4))
@@ -178,8 +184,8 @@ def stray_paths(rng):
 
 
 def compared_paths(rng):
-    """Two paths from one position that differ in the start node, in one sibling, in several, or not at all; from the top, the first
-    difference is the highest string that differs."""
+    """Two paths from one position that differ in the start node, in one sibling, in several, or not at all; from the
+    top, the first difference is the highest string that differs."""
     for levels in (0, 1, 2, 5, 18):
         for position in (0, 1, 2, 5, (1 << 18) - 1):
             a = rng.randbytes(32 + 32 * levels)
@@ -247,8 +253,8 @@ def main():
     from json_vectors import written  # which takes records from here
 
     calls = list(all_cases())
-    texts = {"crates/vectors/stdin": b"".join(map(encode, calls)), "crates/vectors/stdout": "".join(map(answer, calls)).encode(),
-             "vectors/vectors.json": written().encode()}
+    texts = {"crates/vectors/stdin": b"".join(map(encode, calls)),
+             "crates/vectors/stdout": "".join(map(answer, calls)).encode(), "vectors/vectors.json": written().encode()}
     for name, data in texts.items():
         path = ROOT / name
         if "--check" in sys.argv:

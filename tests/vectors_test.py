@@ -1,7 +1,8 @@
 """Replays vectors/vectors.json through the shared library. Run from anywhere, after make: python3 tests/vectors_test.py
 
-Nothing is taken from the model: the file, the rules of vectors/README.md and include/vizhuthamen.h are all that another program would
-have, too. Outputs are lent full of a pattern; what a case does not name among its outputs must stay as it was lent.
+Nothing is taken from the model: the file, the rules of vectors/README.md and include/vizhuthamen.h are all that another
+program would have, too. Outputs are lent full of a pattern; what a case does not name among its outputs must stay as it
+was lent.
 """
 import ctypes
 import hashlib
@@ -14,7 +15,8 @@ sys.path.insert(0, str(ROOT / "python"))
 import vizhuthamen as vz  # noqa: E402
 from vizhuthamen._library import call  # noqa: E402
 
-LENGTHS = {"digest": 32, "node": 32, "entry": 64, "commitment": 32, "left": 64, "right": 64}  # of outputs that no input lends
+# of outputs that no input lends
+LENGTHS = {"digest": 32, "node": 32, "entry": 64, "commitment": 32, "left": 64, "right": 64}
 PATTERN = 0xA5
 
 
@@ -101,7 +103,8 @@ def main():
     for case in cases:
         code, wrong = streamed(case) if case["routine"] == "stream" else asked(case, stated["vz_" + case["routine"]])
         if code != case["code"] or wrong:
-            sys.exit(f"vectors_test: {case['name']} ({case['how']}): code {code}, expected {case['code']}; not as told: {', '.join(wrong)}")
+            sys.exit(f"vectors_test: {case['name']} ({case['how']}): code {code}, expected {case['code']}; "
+                     f"not as told: {', '.join(wrong)}")
     print(f"vectors_test: {len(cases)} cases of {len(asked_of)} routines, as the library answers")
 
 

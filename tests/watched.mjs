@@ -1,12 +1,13 @@
-// Watches every call of the WebAssembly modules that are instantiated from now on: the functions that the JavaScript module finds in one
-// are its own with these tests around them, by the parameters of include/vizhuthamen.h (target/targets/header.json).
+// Watches every call of the WebAssembly modules that are instantiated from now on: the functions that the JavaScript
+// module finds in one are its own with these tests around them, by the parameters of include/vizhuthamen.h
+// (target/targets/header.json).
 import { readFileSync } from "node:fs";
 
 const ROUTINES = JSON.parse(readFileSync(new URL("../target/targets/header.json", import.meta.url))).routines;
 const PATTERN = 0xa5;
 const NUMBERS = { "u64*": 8, "u32*": 4 };
-// The codes with which outputs are written, where 0 is not the only one: numbers with 15, strings with 17, a stream's state with all
-// but 12; of a log that is played back, rows and their number with 0 and all else with 256.
+// The codes with which outputs are written, where 0 is not the only one: numbers with 15, strings with 17, a stream's
+// state with all but 12; of a log that is played back, rows and their number with 0 and all else with 256.
 const WRITING = { vz_stream_take: [0, 2, 11] };
 const WITH_0 = { vz_playback: ["count", "rows"] };
 function writes(routine, output, code) {
@@ -19,7 +20,9 @@ function lentTo(routine, words) {
   const rest = words.values(), lent = [];
   for (const [kind, name] of ROUTINES[routine]) {
     const word = rest.next().value;
-    if (kind === "in" || kind === "out") lent.push({ name, at: Number(word), length: Number(rest.next().value), written: kind === "out" });
+    if (kind === "in" || kind === "out") {
+      lent.push({ name, at: Number(word), length: Number(rest.next().value), written: kind === "out" });
+    }
     if (kind in NUMBERS) lent.push({ name, at: Number(word), length: NUMBERS[kind], written: true, number: true });
   }
   return lent;
@@ -34,7 +37,9 @@ function watchedCall(name, exports) {
     const code = exports[name](...words);
     for (const [i, { name: output, at, length, written }] of lent.entries()) {
       const stays = !written || !writes(name, output, code);
-      if (stays && !before[i].equals(bytes.subarray(at, at + length))) throw new Error(`${name} changes lent memory with code ${code}`);
+      if (stays && !before[i].equals(bytes.subarray(at, at + length))) {
+        throw new Error(`${name} changes lent memory with code ${code}`);
+      }
     }
     return code;
   };
@@ -56,7 +61,9 @@ export function watched() {
     judge() {
       for (const stack of stacks.map((each) => each())) {
         const used = stack.length - stack.findIndex((byte) => byte !== PATTERN);
-        if (used > stack.length / 10 && used <= stack.length) throw new Error(`${used} bytes of a stack of ${stack.length} were used`);
+        if (used > stack.length / 10 && used <= stack.length) {
+          throw new Error(`${used} bytes of a stack of ${stack.length} were used`);
+        }
       }
     },
   };

@@ -1,5 +1,5 @@
-# What tools/levels and tools/targets have in common; sourced, not run. Both compile the module that `rt staticlib` wrote with the kit's
-# own clang and the words that it was given there.
+# What tools/levels and tools/targets have in common; sourced, not run. Both compile the module that `rt staticlib`
+# wrote with the kit's own clang and the words that it was given there.
 # shellcheck shell=bash disable=SC2034
 library=vizhuthamen
 
@@ -22,7 +22,8 @@ own=on/$(uname -m)
 clang=$kit/$own/toolchain/bin/clang
 [ -x "$clang" ] || die "no clang at $clang: the kit has another form than this tool knows"
 
-# clang_with FILE CHANGE [WORD...]: clang with the words of a file, one a line, changed by a sed script, and with more after them.
+# clang_with FILE CHANGE [WORD...]: clang with the words of a file, one a line, changed by a sed script, and with more
+# after them.
 clang_with() {
     local words
     mapfile -t words < <(sed "$2" "$1")

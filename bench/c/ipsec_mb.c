@@ -1,6 +1,6 @@
 /*
- * SHA-256 by intel-ipsec-mb, which hashes many messages at once: jobs are submitted, and done when there are enough of them,
- * or when the rest is flushed. (Bursts of plain SHA-256 are not in version 1.3.)
+ * SHA-256 by intel-ipsec-mb, which hashes many messages at once: jobs are submitted, and done when there are enough of
+ * them, or when the rest is flushed. (Bursts of plain SHA-256 are not in version 1.3.)
  */
 #include <intel-ipsec-mb.h>
 #include <string.h>
@@ -8,7 +8,8 @@
 /* Runs are hashed in parts of this size: the fastest of 8 KiB to 16 MiB. */
 enum { PART = 1 << 18, NODE = 32, PAIR = 64 };
 
-/* A manager for vectors of 128, 256 or 512 bits, with SHA instructions or not; NULL where the processor lacks the vectors. */
+/* A manager for vectors of 128, 256 or 512 bits, with SHA instructions or not; NULL where the processor lacks the
+ * vectors. */
 IMB_MGR *ipsec_mb_new(int bits, int with_sha) {
   IMB_MGR *manager = alloc_mb_mgr(with_sha ? 0 : IMB_FLAG_SHANI_OFF);
   if (manager == NULL) return NULL;

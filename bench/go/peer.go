@@ -1,4 +1,5 @@
-// Package main exports Go's crypto/sha256 to C. Each function does a whole piece of work, so that crossing from C to Go is paid once.
+// Package main exports Go's crypto/sha256 to C. Each function does a whole piece of work, so that crossing from C to Go
+// is paid once.
 package main
 
 // #include <stddef.h>

@@ -20,7 +20,8 @@ struct Column {
     per: usize,
 }
 
-/// Prints the table, and what the library is slower in than the fastest peer. The first library is the one that chooses.
+/// Prints the table, and what the library is slower in than the fastest peer. The first library is the one that
+/// chooses.
 pub fn print(libraries: &[Library], peers: &[Box<dyn Peer>]) -> Vec<Aim> {
     let all: Vec<&dyn Peer> =
         libraries.iter().map(|library| library as &dyn Peer).chain(peers.iter().map(|peer| &**peer)).collect();

@@ -1,4 +1,5 @@
-//! The routines over a deal of 16 MiB beside one pass over it: reading every byte, and hashing its tree. Worst cases with them.
+//! The routines over a deal of 16 MiB beside one pass over it: reading every byte, and hashing its tree. Worst cases
+//! with them.
 use crate::aims::Aim;
 use crate::passes::{Passes, Works};
 use crate::record::{filled, DEAL_NUMBER};
@@ -85,8 +86,8 @@ fn booked(deal: &mut [u8], segment: &[u8]) -> u64 {
     }
 }
 
-/// Deals whose 128 entries name one commitment that no area has: over one half with one size, over one half with 128 sizes, and
-/// over the 128 largest areas that a deal has.
+/// Deals whose 128 entries name one commitment that no area has: over one half with one size, over one half with 128
+/// sizes, and over the 128 largest areas that a deal has.
 fn deals_of_worst_finds(named: &Node) -> [Vec<u8>; 3] {
     let half = DEAL as u64 / 2;
     let one_size = (0..).map(|_| (0, half));

@@ -1,4 +1,5 @@
-//! The library at one level of x86-64, or an earlier one, opened as a shared object: so that all are timed in one process.
+//! The library at one level of x86-64, or an earlier one, opened as a shared object: so that all are timed in one
+//! process.
 use crate::peers::{Node, Peer};
 use crate::record::{Longest, DEAL_NUMBER, DEAL_SIZE};
 use std::ffi::{c_char, c_int, c_void, CStr, CString};
@@ -35,7 +36,8 @@ macro_rules! functions {
         pub const FUNCTIONS: &[&str] = &[$(concat!("vz_", stringify!($name)),)*];
 
         impl Library {
-            /// Opens a shared object; ends the program where it cannot be opened. A function that it lacks ends it when called.
+            /// Opens a shared object; ends the program where it cannot be opened. A function that it lacks ends it when
+            /// called.
             pub fn open(name: &str, file: &Path) -> Library {
                 let object = opened(file);
                 // SAFETY: the object stays open, and its functions have the types of the header.

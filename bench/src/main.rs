@@ -1,9 +1,9 @@
-//! Times the library beside other implementations of SHA-256, in one process, and prints tables of ratios and a verdict for
-//! each aim.
+//! Times the library beside other implementations of SHA-256, in one process, and prints tables of ratios and a verdict
+//! for each aim.
 //!
-//! bench FOLDER [--peers]: FOLDER has chosen.so, v1.so, v3.so and v4.so, the library by level as bench/run makes them, and
-//! before.so where an earlier library is to be compared. With --peers only the table beside the peers. bench --functions names
-//! the library's functions that are measured.
+//! bench FOLDER [--peers]: FOLDER has chosen.so, v1.so, v3.so and v4.so, the library by level as bench/run makes them,
+//! and before.so where an earlier library is to be compared. With --peers only the table beside the peers.
+//! bench --functions names the library's functions that are measured.
 mod aims;
 mod beside;
 mod deal;
@@ -76,7 +76,8 @@ fn everything(libraries: &[Library]) {
     aims.extend(tree::print());
     section(
         "Threads",
-        "At the level that is chosen, by the safe functions of the Rust crate. The time that passes: other work on the machine is in it.",
+        "At the level that is chosen, by the safe functions of the Rust crate. The time that passes: other work on the \
+         machine is in it.",
     );
     aims.extend(threads::print());
     section("Aims", "One line for each aim of speed: whether this run meets it.");
@@ -92,8 +93,8 @@ fn current(libraries: &[Library]) -> Vec<Library> {
     libraries.iter().filter(|library| library.name != BEFORE).cloned().collect()
 }
 
-/// The library that chooses its level, each level that this processor has, the lowest first, and the earlier library if there
-/// is one.
+/// The library that chooses its level, each level that this processor has, the lowest first, and the earlier library if
+/// there is one.
 fn libraries(folder: &Path) -> Vec<Library> {
     let has_v3 = is_x86_feature_detected!("avx2") && is_x86_feature_detected!("bmi2");
     let has_v4 = has_v3 && is_x86_feature_detected!("avx512bw") && is_x86_feature_detected!("avx512vl");

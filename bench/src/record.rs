@@ -1,4 +1,5 @@
-//! The longest record that the check accepts: D = 2^36, S = 128, in a deal that is zero but for one segment and its entry.
+//! The longest record that the check accepts: D = 2^36, S = 128, in a deal that is zero but for one segment and its
+//! entry.
 use crate::peers::{joined, Node, OpenSsl, Peer};
 
 pub const DEAL_SIZE: u64 = 1 << 36;

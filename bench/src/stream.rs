@@ -10,7 +10,8 @@ use std::hint::black_box;
 const TOTAL: usize = 1 << 22;
 const PIECES: [usize; 8] = [32, 64, 256, 1 << 10, 1 << 12, 1 << 16, 1 << 18, 1 << 20];
 
-/// Prints the time a byte for each size of pieces, for each library, and for the first one its ratio to the commitment's.
+/// Prints the time a byte for each size of pieces, for each library, and for the first one its ratio to the
+/// commitment's.
 pub fn print(libraries: &[Library]) -> Vec<Aim> {
     let bytes = filled(TOTAL);
     let mut works: Vec<Work> = libraries.iter().flat_map(|library| works(library, &bytes)).collect();
@@ -31,7 +32,8 @@ pub fn print(libraries: &[Library]) -> Vec<Aim> {
     aims(&times, before.map(|library| of(library, 0)))
 }
 
-/// The first library's stream beside its commitment; short pieces beside the earlier library's, which begins at `before`.
+/// The first library's stream beside its commitment; short pieces beside the earlier library's, which begins at
+/// `before`.
 fn aims(times: &Times, before: Option<usize>) -> Vec<Aim> {
     let place = |piece: usize| PIECES.iter().position(|size| *size == piece).map(|i| i + 1);
     let what = |name: &str| format!("stream in pieces of {name}, time a byte over the commitment's");

@@ -42,15 +42,15 @@ impl Times {
         median(self.0[work].clone())
     }
 
-    /// How many times as long one piece of work takes as another: the median over the rounds of the ratio within a round, since
-    /// the machine's speed changes between rounds.
+    /// How many times as long one piece of work takes as another: the median over the rounds of the ratio within a
+    /// round, since the machine's speed changes between rounds.
     pub fn ratio(&self, work: usize, other: usize) -> f64 {
         median(self.0[work].iter().zip(&self.0[other]).map(|(time, other)| time / other).collect())
     }
 }
 
-/// Times each piece of work in rounds, `repeats` times a round, by the processor time of this thread. The pieces take turns; one
-/// round before the timed ones warms caches and buffers.
+/// Times each piece of work in rounds, `repeats` times a round, by the processor time of this thread. The pieces take
+/// turns; one round before the timed ones warms caches and buffers.
 pub fn timed(works: &mut [Work], rounds: usize, repeats: usize) -> Times {
     timed_by(CLOCK_THREAD_CPUTIME_ID, works, rounds, repeats)
 }

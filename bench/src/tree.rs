@@ -64,7 +64,8 @@ impl InHand {
     }
 }
 
-/// Prints the times in passes over the deal. The aims are what each routine takes over the work that it cannot do without.
+/// Prints the times in passes over the deal. The aims are what each routine takes over the work that it cannot do
+/// without.
 pub fn print() -> Vec<Aim> {
     let (full, half) = (InHand::new(FULL), InHand::new(FULL / 2));
     let mut works = passes(&full);
@@ -129,8 +130,9 @@ fn records(full: &InHand) -> Works<'_> {
     ]
 }
 
-/// Booking a segment and taking its entry out again; and the work that is named for it: the tally has the stray-bit pass and the
-/// checksums of all slots, the segment is hashed for its entry and for the tree, and each node above it and above the entry once.
+/// Booking a segment and taking its entry out again; and the work that is named for it: the tally has the stray-bit
+/// pass and the checksums of all slots, the segment is hashed for its entry and for the tree, and each node above it
+/// and above the entry once.
 fn bookings<'a>(InHand { mut deal, mut tree, .. }: InHand) -> Works<'a> {
     let (lent, segment, mut table) = (deal.clone(), filled(BOOKED), owners());
     let hashed = segment.clone();
@@ -149,8 +151,8 @@ fn bookings<'a>(InHand { mut deal, mut tree, .. }: InHand) -> Works<'a> {
     vec![(BOOK, Work::new(book)), (BOOK_WORK, Work::new(work))]
 }
 
-/// Cancelling an entry that is put in again; and the work that is named for it. Either has a deal of its own, so that neither
-/// finds more of it in the processor's cache.
+/// Cancelling an entry that is put in again; and the work that is named for it. Either has a deal of its own, so that
+/// neither finds more of it in the processor's cache.
 fn cancellations<'a>(full: &InHand) -> Works<'a> {
     let (InHand { mut deal, mut tree, last }, lent) = (full.clone(), full.clone());
     let (entry, owners) = (deal[last as usize..][..64].to_vec(), owners());

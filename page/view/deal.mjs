@@ -1,4 +1,5 @@
-// The third tool: a deal, its map and its commitment; then a file, which of the segments is its own, and its proof to save.
+// The third tool: a deal, its map and its commitment; then a file, which of the segments is its own, and its proof to
+// save.
 import { capital, make, spaced } from "./elements.mjs";
 import { startForm } from "./forms.mjs";
 import { amount, mapOf, markOwn } from "./map.mjs";
@@ -44,10 +45,13 @@ function summary({ name, size, sound, code, meaning, commitment, stray, free, en
   const nodes = stray.count === 1 ? "1 node has" : `${stray.count} nodes have`;
   const sentences = [
     `${name} has ${spaced(size)} bytes (${amount(size)}) and ${entries} slots`,
-    code === 0 ? capital(meaning) : `${nodes} stray bits, so that it has no commitment, and no record of it can be built`,
+    code === 0
+      ? capital(meaning)
+      : `${nodes} stray bits, so that it has no commitment, and no record of it can be built`,
     free.largest === 0
       ? "No area is free"
-      : `${spaced(free.bytes)} bytes before the index are free; the largest area that finds a place has ${amount(free.largest)}`,
+      : `${spaced(free.bytes)} bytes before the index are free; ` +
+        `the largest area that finds a place has ${amount(free.largest)}`,
   ];
   const inOrder = sound && code === 0;
   const box = card(inOrder ? "good" : "bad", inOrder ? "In order" : "Not in order", sentences, { code, meaning });

@@ -5,7 +5,9 @@ const HOLDS_FILES = (event) => event.dataTransfer?.types.includes("Files");
 /** Makes every drop zone of the page take a file. */
 export function startDrops() {
   for (const zone of document.querySelectorAll(".drop")) startDrop(zone);
-  for (const type of ["dragover", "drop"]) addEventListener(type, (event) => HOLDS_FILES(event) && event.preventDefault());
+  for (const type of ["dragover", "drop"]) {
+    addEventListener(type, (event) => HOLDS_FILES(event) && event.preventDefault());
+  }
 }
 
 function startDrop(zone) {

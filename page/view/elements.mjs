@@ -22,7 +22,8 @@ export function draw(tag, attributes = {}, ...children) {
 
 /** A text in which long runs of hex digits and piece CIDs are set as code, so that they may break anywhere. */
 export function prose(text) {
-  return text.split(/([0-9a-f]{32,}|baga6ea4seaq[a-z2-7]{20,})/).map((part, i) => (i % 2 === 1 ? make("code", {}, part) : part));
+  return text.split(/([0-9a-f]{32,}|baga6ea4seaq[a-z2-7]{20,})/)
+    .map((part, i) => (i % 2 === 1 ? make("code", {}, part) : part));
 }
 
 /** A text with a capital letter first. */

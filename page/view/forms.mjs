@@ -5,7 +5,8 @@ import { make } from "./elements.mjs";
 // So soon done that a bar would only flicker.
 const QUICK = 150;
 
-/** Makes a form ask a question. `needed` names its files, in words; `show` is given the answer, `clear` empties what was shown. */
+/** Makes a form ask a question. `needed` names its files, in words; `show` is given the answer, `clear` empties what
+ * was shown. */
 export function startForm(form, { task, needed, output, clear, show }) {
   const button = form.querySelector("button");
   let changes = 0; // an answer to what the form no longer says is not shown

@@ -42,7 +42,8 @@ function heard({ id, share, words, answer, fault }) {
   else question.reject(fault);
 }
 
-/** The answer of the worker to a question; it tells how far it is by `report`. A fault has words, and the field that it is about. */
+/** The answer of the worker to a question; it tells how far it is by `report`. A fault has words, and the field that it
+ * is about. */
 export function ask(task, question, report) {
   asked += 1;
   const id = asked;

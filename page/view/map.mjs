@@ -18,7 +18,8 @@ export function mapOf(map) {
   return [
     make("h3", {}, "Its map"),
     scale(map),
-    make("p", { class: "hint" }, "To scale above, and below in order: every area with the slot of its entry, and the room between them."),
+    make("p", { class: "hint" },
+      "To scale above, and below in order: every area with the slot of its entry, and the room between them."),
     blocks(map),
     make("h3", {}, "Its index"),
     index(map),
@@ -31,20 +32,23 @@ export function mapOf(map) {
 function scale({ regions, size, stray: { told, count } }) {
   const x = (at) => (at / size) * WIDTH;
   const parts = regions.map(({ kind: what, state, from, to }) => draw("rect", {
-    x: Math.min(x(from), WIDTH - 4), y: 0, width: Math.max(x(to) - x(from), 4), height: 28, class: what === "area" ? kind(state) : what,
+    x: Math.min(x(from), WIDTH - 4), y: 0, width: Math.max(x(to) - x(from), 4), height: 28,
+    class: what === "area" ? kind(state) : what,
   }));
   // Free room first, so that what is small is not hidden by it.
   parts.sort((a, b) => (b.getAttribute("class") === "free") - (a.getAttribute("class") === "free"));
   const ticks = told.map(({ offset }) => draw("line", { x1: x(offset), x2: x(offset), y1: 0, y2: 40, class: "tick" }));
   const marked = count === 0 ? "" : `, with marks where ${count} nodes have stray bits`;
   const label = `The ${amount(size)} of the deal to scale${marked}. The list and the table below say the same.`;
-  return draw("svg", { viewBox: `0 0 ${WIDTH} 40`, preserveAspectRatio: "none", role: "img", "aria-label": label, class: "scale" },
+  return draw("svg",
+    { viewBox: `0 0 ${WIDTH} 40`, preserveAspectRatio: "none", role: "img", "aria-label": label, class: "scale" },
     parts, ticks);
 }
 
 function blocks({ regions }) {
   return make("ol", { class: "blocks" }, regions.map((region) => {
-    const block = make("li", { class: region.kind === "area" ? kind(region.state) : region.kind, "data-slot": region.slot },
+    const block = make("li",
+      { class: region.kind === "area" ? kind(region.state) : region.kind, "data-slot": region.slot },
       make("strong", {}, { area: `slot ${region.slot}`, free: "free", index: "index" }[region.kind]),
       region.kind === "area" && make("span", {}, region.state),
       make("span", {}, amount(region.to - region.from)),
@@ -60,7 +64,8 @@ function index({ slots: all, counts, start }) {
   return make("div", {},
     make("p", {}, `${all.length} slots of 64 bytes from byte ${spaced(start)}: ${counted.join(", ")}.`),
     make("ol", { class: "cells" }, all.map(({ number, state }) =>
-      make("li", { class: kind(state), "data-slot": `${number}` }, `${number}`, make("span", { class: "unseen" }, ` ${state}`)))));
+      make("li", { class: kind(state), "data-slot": `${number}` },
+        `${number}`, make("span", { class: "unseen" }, ` ${state}`)))));
 }
 
 // The slots that are not blank, one a row.
@@ -70,7 +75,10 @@ function slots({ slots: all }) {
   return table("The slots that are not blank", ["Slot", "Place", "State", "Offset", "Size", "Commitment"],
     shown.map(({ number, place, state, entry, overlaps }) => [
       `${number}`, `${place}`,
-      [make("span", { class: `word ${kind(state)}` }, state), overlaps === undefined ? "" : ` (its area is also that of slot ${overlaps})`],
+      [
+        make("span", { class: `word ${kind(state)}` }, state),
+        overlaps === undefined ? "" : ` (its area is also that of slot ${overlaps})`,
+      ],
       entry === undefined ? "-" : `${entry.offset}`, entry === undefined ? "-" : `${entry.size}`,
       entry === undefined ? "-" : make("code", {}, entry.commitment),
     ]),
@@ -81,7 +89,8 @@ function stray({ stray: { count, told } }) {
   if (count === 0) return [];
   return [
     make("h3", {}, "Stray bits"),
-    make("p", {}, "A node has 32 bytes, and the two highest bits of the last are zero in every deal. They are set here:"),
+    make("p", {},
+      "A node has 32 bytes, and the two highest bits of the last are zero in every deal. They are set here:"),
     make("ul", { class: "strays" }, told.map(({ words }) => make("li", {}, prose(words)))),
     count > told.length ? make("p", {}, `And ${count - told.length} more.`) : "",
   ];

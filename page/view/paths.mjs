@@ -1,5 +1,5 @@
-// The two paths of a record, drawn from the entry and the segment up to the commitment. Where a path does not lead there, no single node of
-// it can be called wrong: marked is that the node reached is another one than the commitment.
+// The two paths of a record, drawn from the entry and the segment up to the commitment. Where a path does not lead
+// there, no single node of it can be called wrong: marked is that the node reached is another one than the commitment.
 import { digits, draw, make, prose, spaced, start, table } from "./elements.mjs";
 
 const [WIDTH, ROW, BOX, SIDE] = [320, 46, 104, 84];
@@ -12,10 +12,12 @@ const BEFORE = ["members", "terms", "number", "fields"];
 
 const equal = (a, b) => a !== undefined && digits(a) === digits(b);
 
-/** Both paths of a drawing, each with its table. `file` is what the file has, `failed` the step at which the check stopped. */
+/** Both paths of a drawing, each with its table. `file` is what the file has, `failed` the step at which the check
+ * stopped. */
 export function paths({ names, segment, entry, commitment }, { file, failed } = {}) {
   return make("div", { class: "paths" },
-    BEFORE.includes(failed) && make("p", { class: "hint" }, "The judgement ended before the paths; they are drawn as the record has them."),
+    BEFORE.includes(failed) &&
+      make("p", { class: "hint" }, "The judgement ended before the paths; they are drawn as the record has them."),
     path("Segment path", "the segment's commitment", segment, commitment, file),
     path("Entry path", `the hash of the entry at place ${names.place}`, entry, commitment));
 }
@@ -27,7 +29,8 @@ function path(title, from, way, commitment, file) {
   return make("figure", { class: leads ? "way" : "way bad" },
     make("figcaption", {}, make("strong", {}, title), make("p", {}, prose(words))),
     way.levels.length > LONGEST
-      ? make("p", { class: "hint" }, `It has ${way.levels.length} nodes and is not drawn: no record that is accepted has so many.`)
+      ? make("p", { class: "hint" },
+        `It has ${way.levels.length} nodes and is not drawn: no record that is accepted has so many.`)
       : drawing(`${title}. ${words}`, way, commitment, { leads, from, file: differs ? file : undefined }),
     make("details", {}, make("summary", {}, `All nodes of the ${title.toLowerCase()}`), nodes(title, way)));
 }
@@ -36,13 +39,16 @@ function path(title, from, way, commitment, file) {
 function told(from, { levels, reached }, leads, commitment) {
   const stray = levels.findIndex(isCut);
   if (stray >= 0) {
-    return `From ${from} up; at step ${stray + 1} of ${levels.length} a node has stray bits, and what lies above it is not known.`;
+    return `From ${from} up; at step ${stray + 1} of ${levels.length} a node has stray bits, ` +
+      "and what lies above it is not known.";
   }
-  if (reached === undefined) return "The commitment in the entry has stray bits: it has no hash, and where the path leads is not known.";
+  if (reached === undefined) {
+    return "The commitment in the entry has stray bits: it has no hash, and where the path leads is not known.";
+  }
   return leads
     ? `From ${from} in ${levels.length} steps to the deal's commitment.`
-    : `From ${from} in ${levels.length} steps to ${digits(reached)}, which is not the deal's commitment ${digits(commitment)}. ` +
-      "Any node of the path may be the wrong one.";
+    : `From ${from} in ${levels.length} steps to ${digits(reached)}, ` +
+      `which is not the deal's commitment ${digits(commitment)}. Any node of the path may be the wrong one.`;
 }
 
 // Rows from the top: the commitment, the node that is reached, and the levels down to the start.
@@ -56,12 +62,14 @@ function drawing(label, { levels, reached }, commitment, { leads, from, file }) 
     parts,
     box(MIDDLE, row(levels.length + 1), 200, "root", start(commitment, 8)),
     note(MIDDLE, row(levels.length + 1) - 22, "the deal's commitment"),
-    sign(MIDDLE, (row(levels.length + 1) + row(levels.length)) / 2, reached === undefined ? "?" : leads ? "=" : "\u2260"),
+    sign(MIDDLE, (row(levels.length + 1) + row(levels.length)) / 2,
+      reached === undefined ? "?" : leads ? "=" : "\u2260"),
     box(MIDDLE, row(levels.length), BOX, kind, text),
     note(MIDDLE, end, from),
     file === undefined ? [] : [
       sign(MIDDLE, end + 16, "\u2260"),
-      box(MIDDLE, end + ROW - 8, 200, "on bad", file.commitment ? `your file: ${start(file.commitment)}` : "your file has none"),
+      box(MIDDLE, end + ROW - 8, 200, "on bad",
+        file.commitment ? `your file: ${start(file.commitment)}` : "your file has none"),
     ]);
 }
 
@@ -74,7 +82,8 @@ function step(level, y, above) {
     draw("line", { x1: MIDDLE, y1: y - 12, x2: MIDDLE, y2: above + 12, class: line("on") }),
     draw("line", { x1: x, y1: y - 10, x2: MIDDLE, y2: above + 12, class: line("beside") }),
     box(x, y, SIDE, stray.sibling ? "beside bad" : "beside", start(sibling), 20),
-    box(MIDDLE, y, BOX, node === undefined ? "unknown" : stray.node ? "on bad" : "on", node === undefined ? "?" : start(node)),
+    box(MIDDLE, y, BOX, node === undefined ? "unknown" : stray.node ? "on bad" : "on",
+      node === undefined ? "?" : start(node)),
     stray.sibling ? note(x, y + 22, "stray bits", "bad") : [],
     stray.node ? note(MIDDLE, y + 22, "stray bits", "bad") : [],
   ];
@@ -103,8 +112,10 @@ function nodes(title, { levels, reached }) {
   const known = (node) => (node === undefined ? "not known" : make("code", {}, digits(node)));
   const marked = (node, stray) => [known(node), stray ? " \u2717 stray bits" : ""];
   const bytes = ({ from, to }) => make("span", { class: "whole" }, `${spaced(from)} to ${spaced(to)}`);
-  const rows = levels.map((level, i) =>
-    [`${i + 1}`, bytes(level), marked(level.node, level.stray.node), level.side, marked(level.sibling, level.stray.sibling)]);
+  const rows = levels.map((level, i) => [
+    `${i + 1}`, bytes(level), marked(level.node, level.stray.node), level.side,
+    marked(level.sibling, level.stray.sibling),
+  ]);
   rows.push(["reached", "", known(reached), "", ""]);
   return table(`${title}, from the bottom`, ["Step", "Bytes of the deal", "Node", "Sibling stands", "Sibling"], rows);
 }

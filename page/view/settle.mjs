@@ -34,7 +34,9 @@ export function startSettle(panel) {
 function verdict(answer) {
   const [tone, word] = WORDS[answer.kind];
   const refused = answer.each.map(({ code }) => code !== 0);
-  const which = refused[0] && refused[1] ? "Both are refused" : refused[0] ? "The first record is refused" : "The second record is refused";
+  const which = refused[0] && refused[1]
+    ? "Both are refused"
+    : refused[0] ? "The first record is refused" : "The second record is refused";
   const first = answer.kind === "same" || answer.kind === "collision" ? [answer.meaning] : [];
   return card(tone, answer.kind === "refused" ? which : word, [...first, ...answer.sentences].map(capital), answer);
 }
@@ -48,8 +50,9 @@ function pair({ pair: strings }) {
   ];
   return [
     make("h3", {}, "The pair"),
-    make("p", {}, "Two different strings of 64 bytes with one node hash, which is their SHA-256 with the two highest bits of its last " +
-      "byte cleared. Such a pair is a collision of the hash. Which of the records is right they do not say."),
+    make("p", {}, "Two different strings of 64 bytes with one node hash, which is their SHA-256 with the two highest " +
+      "bits of its last byte cleared. Such a pair is a collision of the hash. Which of the records is right they do " +
+      "not say."),
     make("div", { class: "pair" },
       table("Two strings with one node hash", ["Of the", "First half", "Second half", "SHA-256"], strings.map(halves))),
   ];

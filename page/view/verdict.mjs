@@ -9,5 +9,6 @@ export function card(tone, word, sentences, { code, meaning, condition } = {}) {
     make("h3", {}, make("span", { class: "mark", "aria-hidden": "true" }, MARKS[tone]), ` ${word}`),
     sentences.map((words) => make("p", {}, prose(`${words}.`))),
     code !== undefined && code !== 0 && make("p", { class: "code-line" }, `code ${code}: ${meaning}`),
-    condition !== undefined && make("p", { class: "condition" }, make("strong", {}, "Condition: "), prose(`${condition}.`)));
+    condition !== undefined &&
+      make("p", { class: "condition" }, make("strong", {}, "Condition: "), prose(`${condition}.`)));
 }

@@ -37,10 +37,13 @@ function howItWasJudged({ steps, compared, drawing, failed }) {
     make("ol", { class: "steps" }, steps.map(({ words, state }) =>
       make("li", { class: state }, make("span", { class: "state" }, STATES[state]), " ", words))),
     make("h3", {}, "The file, and what the proof says of it"),
-    make("div", { class: "compare" }, table("The file beside the proof", ["Of the file", "The proof says", "The file has"],
+    make("div", { class: "compare" }, table("The file beside the proof",
+      ["Of the file", "The proof says", "The file has"],
       compared.rows.map(({ words, says, has, differs }) => [[words, comparison(differs)], prose(says), prose(has)]),
       (i) => ({ class: compared.rows[i].differs ? "bad" : undefined }))),
-    ...(drawing === undefined ? [] : [make("h3", {}, "The two paths to the commitment"), paths(drawing, { file: compared, failed })]),
+    ...(drawing === undefined
+      ? []
+      : [make("h3", {}, "The two paths to the commitment"), paths(drawing, { file: compared, failed })]),
   ];
 }
 

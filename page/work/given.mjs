@@ -42,10 +42,14 @@ export function condition(given, commitment, source) {
   if (names.length === 0) return undefined;
   let [what, must] = [`the deal's ${names.join(" and ")} were`, "they must be those"];
   if (names[0] === "commitment") {
-    [what, must] = [`this holds for the deal whose commitment is ${hex.encode(commitment)}; that commitment was`, "it must be the one"];
+    [what, must] = [
+      `this holds for the deal whose commitment is ${hex.encode(commitment)}; that commitment was`,
+      "it must be the one",
+    ];
   } else if (names.length === 1) {
     [what, must] = [`the deal's ${names[0]} was`, "it must be the one"];
   }
-  return `${what} read from ${source}, and anyone can write such a file: ${must} that you know from a source that you trust, such as the ` +
-    `contract or the ledger that has the deal; give what you know from there above: ${names.join(", ")}`;
+  return `${what} read from ${source}, and anyone can write such a file: ` +
+    `${must} that you know from a source that you trust, such as the contract or the ledger that has the deal; ` +
+    `give what you know from there above: ${names.join(", ")}`;
 }

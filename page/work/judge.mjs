@@ -1,5 +1,6 @@
-// Whether a proof file proves that a file is in a deal. First whether its members agree with its record, then whether the record is that of
-// the file, then whether the library accepts the record, for what is given of the deal and else for what the proof says.
+// Whether a proof file proves that a file is in a deal. First whether its members agree with its record, then whether
+// the record is that of the file, then whether the library accepts the record, for what is given of the deal and else
+// for what the proof says.
 import { hex, Refusal } from "../../javascript/vizhuthamen.mjs";
 import { MEMBERS, values } from "./proof.mjs";
 import { reason } from "./reasons.mjs";
@@ -7,7 +8,8 @@ import { codeOf, named, same } from "./record.mjs";
 import { segmentOf, whyNoSegment } from "./segments.mjs";
 import { quoted } from "./texts.mjs";
 
-/** Why a proof does not prove it: the step that fails, the library's code where it is one, the member that is wrong where it is one. */
+/** Why a proof does not prove it: the step that fails, the library's code where it is one, the member that is wrong
+ * where it is one. */
 export class No extends Error {
   constructor(step, why, { code, member } = {}) {
     super(why);
@@ -84,7 +86,8 @@ function contradiction(member, says, is) {
     case "claim":
       return "its member claim is not the sentence that the other members give";
     case "check":
-      return "its member check is not the check value of the others: one of them was changed after the proof was written";
+      return "its member check is not the check value of the others: " +
+        "one of them was changed after the proof was written";
     case "segment_cid":
     case "deal_cid": {
       const other = member.replace("cid", "commitment");
@@ -98,7 +101,9 @@ function contradiction(member, says, is) {
 // The record of a proof must be that of the file, and so must length and SHA-256.
 function isOf(vz, facts, file) {
   const other = (why, more) => new No("file", `${file.name} is another file: ${why}`, more);
-  if (file.length !== facts.length) throw other(`it has ${file.length} bytes, and the proof is of one of ${facts.length}`);
+  if (file.length !== facts.length) {
+    throw other(`it has ${file.length} bytes, and the proof is of one of ${facts.length}`);
+  }
   let segment;
   const code = codeOf(() => (segment = segmentOf(vz, file, facts.padding)));
   if (code !== 0) throw other(whyNoSegment(code, file, facts.padding), { code });
@@ -109,8 +114,11 @@ function isOf(vz, facts, file) {
     const why = `its member sha256 says ${says}, and ${file.name}, of which its record is, has ${has}`;
     throw new No("file", why, { member: "sha256" });
   }
-  if (has !== says) throw other(`it has as many bytes as the proof says, but others: its SHA-256 is ${has}, and not ${says}`);
-  const why = `the record in it is that of another file: it names the segment commitment ${hex.encode(facts.segmentCommitment)}, and ` +
+  if (has !== says) {
+    throw other(`it has as many bytes as the proof says, but others: its SHA-256 is ${has}, and not ${says}`);
+  }
+  const why = "the record in it is that of another file: " +
+    `it names the segment commitment ${hex.encode(facts.segmentCommitment)}, and ` +
     `${file.name} has ${hex.encode(segment.commitment)}`;
   throw new No("file", why, { member: "record" });
 }

@@ -34,23 +34,28 @@ function segment(vz, file, padding) {
 // The lowest slot whose entry stands and is of a segment, size and all: one that is kept, or one that is not.
 function slotOf(map, { size, commitment }, wanted = true) {
   const node = hex.encode(commitment);
-  return map.slots.find(({ standing, kept, entry }) => standing && kept === wanted && entry.commitment === node && entry.size === size);
+  return map.slots.find(({ standing, kept, entry }) =>
+    standing && kept === wanted && entry.commitment === node && entry.size === size);
 }
 
 function sentence(map, file, { padding, of }, slot) {
   const padded = padding === "Fr32" ? `padded to a segment of ${of.size} bytes` : "a segment as it is";
-  return `${file.name} is kept by ${map.name}, in slot ${slot.number} (place ${slot.place}): its ${file.length} bytes, ${padded}, stand ` +
-    `at byte ${slot.entry.offset} of the deal`;
+  return `${file.name} is kept by ${map.name}, in slot ${slot.number} (place ${slot.place}): ` +
+    `its ${file.length} bytes, ${padded}, stand at byte ${slot.entry.offset} of the deal`;
 }
 
-// The proof file, where the deal's number is known and the library builds a record. One that would not hold is not given.
+// The proof file, where the deal's number is known and the library builds a record. One that would not hold is not
+// given.
 function proved(vz, deal, map, file, { padding, of }, slot, number) {
-  if (number === undefined) return { unproved: `the number of ${map.name} is not known: type it above, and find the file once more` };
+  if (number === undefined) {
+    return { unproved: `the number of ${map.name} is not known: type it above, and find the file once more` };
+  }
   let record;
   const code = codeOf(() => (record = vz.build(deal.bytes, number, slot.place)));
   if (code !== 0) return { unproved: `no record is built: code ${code}: ${meaning(code)}` };
   const facts = {
-    name: file.name, padding, length: of.length, sha256: of.sha256, segmentSize: of.size, segmentCommitment: of.commitment,
+    name: file.name, padding, length: of.length, sha256: of.sha256,
+    segmentSize: of.size, segmentCommitment: of.commitment,
     offset: slot.entry.offset, place: BigInt(slot.place), number, record,
     dealSize: BigInt(map.size), dealCommitment: hex.decode(map.commitment.hex),
   };
@@ -61,17 +66,19 @@ function proved(vz, deal, map, file, { padding, of }, slot, number) {
 
 // What a deal has in the place of a segment that it does not keep.
 function notLocated(map, file, { code, of, padding }) {
-  const no = (sentence, refusal = Refusal.NOT_KEPT) => ({ verdict: "no", sentence, code: refusal, meaning: meaning(refusal) });
+  const no = (sentence, refusal = Refusal.NOT_KEPT) =>
+    ({ verdict: "no", sentence, code: refusal, meaning: meaning(refusal) });
   if (code !== 0) return no(whyNoSegment(code, file, padding), code);
   const spoilt = slotOf(map, of, false);
   if (spoilt !== undefined) {
-    return no(`slot ${spoilt.number} (place ${spoilt.place}) has the entry of ${file.name}, but the bytes in ${map.name} are no longer ` +
-      "its own");
+    return no(`slot ${spoilt.number} (place ${spoilt.place}) has the entry of ${file.name}, ` +
+      `but the bytes in ${map.name} are no longer its own`);
   }
   const other = map.slots.find(({ kept, entry }) => kept && entry.commitment === hex.encode(of.commitment));
   if (other !== undefined) {
-    return no(`${map.name} keeps no ${file.name}, but at place ${other.place} a file that differs in the zeros at its end alone: its ` +
-      `segment has ${other.entry.size} bytes, and that of ${file.name} ${of.size}`);
+    return no(`${map.name} keeps no ${file.name}, ` +
+      `but at place ${other.place} a file that differs in the zeros at its end alone: ` +
+      `its segment has ${other.entry.size} bytes, and that of ${file.name} ${of.size}`);
   }
   return no(`${map.name} does not keep ${file.name}`);
 }

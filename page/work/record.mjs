@@ -30,7 +30,8 @@ export function named(vz, record) {
   if (codeOf(() => vz.check(new Uint8Array(32), 512, 0, record)) === Refusal.FORM) return undefined;
   const content = new Map(Array.from(vz.fields(record), (field) => [field.tag, field.content]));
   const number = (tag) => new DataView(content.get(tag).buffer, content.get(tag).byteOffset).getBigUint64(0, true);
-  const nodes = (tag) => Array.from({ length: content.get(tag).length / 32 }, (_, i) => content.get(tag).slice(32 * i, 32 * i + 32));
+  const nodes = (tag) =>
+    Array.from({ length: content.get(tag).length / 32 }, (_, i) => content.get(tag).slice(32 * i, 32 * i + 32));
   const entryPath = nodes(6);
   return {
     commitment: content.get(1),
@@ -50,8 +51,9 @@ function isStray(node) {
   return (node[31] & 0xc0) !== 0;
 }
 
-// The way from a node up: of every level the node, its sibling, on which side that stands, which of them has stray bits, and the bytes of
-// the deal below the node; then the node that is reached. Where a node has stray bits the way ends, and what is above is not known.
+// The way from a node up: of every level the node, its sibling, on which side that stands, which of them has stray
+// bits, and the bytes of the deal below the node; then the node that is reached. Where a node has stray bits the way
+// ends, and what is above is not known.
 function walk(vz, start, bytes, first, siblings) {
   const levels = [];
   let [node, span, position] = [start, bytes, first / bytes];

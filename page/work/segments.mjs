@@ -19,7 +19,9 @@ export function segmentOf(vz, file, padding) {
   const segment = padding === "Fr32" ? vz.pad(file.bytes) : file.bytes;
   const filled = new Uint8Array(Number(area(segment.length)));
   filled.set(segment);
-  return { length: file.length, sha256: vz.sha256(file.bytes), size: BigInt(segment.length), commitment: vz.commitment(filled) };
+  return {
+    length: file.length, sha256: vz.sha256(file.bytes), size: BigInt(segment.length), commitment: vz.commitment(filled),
+  };
 }
 
 /** Why a file is no segment, or becomes none. */

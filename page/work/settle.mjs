@@ -18,14 +18,16 @@ export async function settle(vz, { first, second, given: texts }, report) {
   const { commitment, size, number } = asked.terms;
   const each = records.map((record, i) => checked(vz, asked.terms, record, ["first", "second"][i]));
   let settled;
-  const code = codeOf(() => (settled = vz.settleRecords(commitment, size, number, records[0].record, records[1].record)));
+  const code = codeOf(() =>
+    (settled = vz.settleRecords(commitment, size, number, records[0].record, records[1].record)));
   return { ...answer(vz, settled, code, each, asked.terms), condition: asked.condition, each };
 }
 
 async function readRecord(dropped) {
   const file = await readFile(dropped, shown(dropped.name));
   if (file.bytes === undefined) {
-    throw new NotUsable(`${file.name} is no record: it has ${file.length} bytes, and the longest record has ${MAX_RECORD}`);
+    throw new NotUsable(`${file.name} is no record: it has ${file.length} bytes, ` +
+      `and the longest record has ${MAX_RECORD}`);
   }
   const facts = isProof(file.bytes) ? parseProof(file.bytes).facts : undefined;
   return { name: file.name, record: facts?.record ?? file.bytes, facts };
@@ -71,7 +73,8 @@ function answer(vz, settled, code, each, terms) {
     const { left, right } = settled;
     return {
       kind: "collision", code: Refusal.COLLISION, meaning: meaning(Refusal.COLLISION), sentences,
-      pair: [["left", left], ["right", right]].map(([which, bytes]) => ({ which, bytes: hex.encode(bytes), sha256: hash(bytes) })),
+      pair: [["left", left], ["right", right]].map(([which, bytes]) =>
+        ({ which, bytes: hex.encode(bytes), sha256: hash(bytes) })),
     };
   }
   if (code === Refusal.COMMITMENT_LENGTH || code === Refusal.SIZE) {
@@ -80,5 +83,8 @@ function answer(vz, settled, code, each, terms) {
   }
   const both = "both records are accepted: they are of two different entries, and neither speaks against the other";
   const accepted = each.every((record) => record.code === 0);
-  return { kind: accepted ? "apart" : "refused", code, meaning: meaning(code), sentences: accepted ? [...sentences, both] : sentences };
+  return {
+    kind: accepted ? "apart" : "refused", code, meaning: meaning(code),
+    sentences: accepted ? [...sentences, both] : sentences,
+  };
 }

@@ -16,7 +16,8 @@ export async function readDeal(vz, dropped) {
   const deal = await readFile(dropped, shown(dropped.name));
   const code = deal.bytes === undefined ? Refusal.SIZE : codeOf(() => vz.indexNumbers(deal.bytes.length));
   if (code !== 0) {
-    throw new NotUsable(`code ${code}: ${meaning(code)}; ${described(deal)}; a deal has a power of two from 512 to ${MAX_DEAL} bytes`);
+    throw new NotUsable(`code ${code}: ${meaning(code)}; ${described(deal)}; ` +
+      `a deal has a power of two from 512 to ${MAX_DEAL} bytes`);
   }
   return deal;
 }
@@ -32,7 +33,10 @@ export function survey(vz, deal, report) {
   const sound = slots.every(({ state }) => state === "blank" || state === "kept");
   return {
     name: deal.name, size: deal.bytes.length, entries, start, slots, sound,
-    code, meaning: code !== 0 ? meaning(code) : sound ? "every slot is blank or kept" : "some slots are neither blank nor kept",
+    code,
+    meaning: code !== 0
+      ? meaning(code)
+      : sound ? "every slot is blank or kept" : "some slots are neither blank nor kept",
     counts: SLOT_STATES.map((words) => [words, slots.filter(({ state }) => state === words).length]),
     commitment: committed,
     stray: { count: stray.length, told: stray.slice(0, TOLD).map((bits) => tellStray(bits, slots, start)) },
@@ -55,7 +59,10 @@ function tellStray({ offset, bits }, slots, start) {
   const whose = offset >= start
     ? `in slot ${Math.floor((offset - start) / ENTRY)} of the index`
     : within.length === 0 ? "in no entry's area" : `in the area of slot ${within.join(", ")}`;
-  return { offset, words: `stray bits 0x${bits.toString(16)} at byte ${offset}, node ${Math.floor(offset / 32)}, ${whose}` };
+  return {
+    offset,
+    words: `stray bits 0x${bits.toString(16)} at byte ${offset}, node ${Math.floor(offset / 32)}, ${whose}`,
+  };
 }
 
 function covers({ standing, from, to }, offset) {
@@ -68,7 +75,10 @@ function readSlots(vz, bytes, entries, start) {
   for (let number = 0; number < entries; number += 1) {
     const place = start + ENTRY * number;
     const { kind, entry } = vz.readEntry(bytes.subarray(place, place + ENTRY));
-    slots.push({ number, place, ...(kind === "valid" ? placed(entry, bytes.length, start, slots) : { state: kind, standing: false }) });
+    slots.push({
+      number, place,
+      ...(kind === "valid" ? placed(entry, bytes.length, start, slots) : { state: kind, standing: false }),
+    });
   }
   return slots;
 }
@@ -78,13 +88,16 @@ function placed({ commitment, offset, size }, length, start, slots) {
   const entry = { commitment: hex.encode(commitment), cid: cid.encode(commitment), offset, size };
   const allowed = size >= 1n && size <= BigInt(length / 2);
   const room = allowed ? area(size) : 0n;
-  if (!allowed || offset % room !== 0n || offset + room > BigInt(start)) return { state: "not standing", standing: false, entry };
+  if (!allowed || offset % room !== 0n || offset + room > BigInt(start)) {
+    return { state: "not standing", standing: false, entry };
+  }
   const [from, to] = [Number(offset), Number(offset + room)];
   const below = slots.find((slot) => slot.standing && slot.from < to && from < slot.to);
   return { standing: true, entry, from, to, overlaps: below?.number };
 }
 
-// Fills in the states: the library's audit, which refuses a deal with stray bits; such a deal's entries are judged one by one.
+// Fills in the states: the library's audit, which refuses a deal with stray bits; such a deal's entries are judged one
+// by one.
 function judgeStates(vz, bytes, slots, stray, report) {
   report(0.1, "auditing");
   const states = stray.length === 0 ? vz.audit(bytes) : undefined;
@@ -128,7 +141,8 @@ function regions(slots, start, stray) {
   }
   if (free < start) found.push({ kind: "free", from: free, to: start });
   found.push({ kind: "index", from: start, to: start + ENTRY * slots.length });
-  return found.map((region) => ({ ...region, stray: stray.filter(({ offset }) => offset >= region.from && offset < region.to).length }));
+  return found.map((region) =>
+    ({ ...region, stray: stray.filter(({ offset }) => offset >= region.from && offset < region.to).length }));
 }
 
 // The free bytes before the index, and the largest area that would find a place there.
@@ -144,5 +158,9 @@ function freeRoom(slots, start) {
   let largest = 2 ** 23;
   while (largest >= 128 && !fits(largest)) largest /= 2;
   const slotsLeft = slots.filter(({ standing }) => !standing).length;
-  return { bytes: gaps.reduce((sum, [from, to]) => sum + to - from, 0), largest: largest >= 128 ? largest : 0, slots: slotsLeft };
+  return {
+    bytes: gaps.reduce((sum, [from, to]) => sum + to - from, 0),
+    largest: largest >= 128 ? largest : 0,
+    slots: slotsLeft,
+  };
 }

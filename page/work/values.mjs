@@ -15,8 +15,8 @@ export class Fault extends Error {
   }
 }
 
-/** The value that a text is: null, a boolean, a BigInt (of numbers there are whole ones from 0 on alone), a text, an array, or a Map of the
- * members of an object in their order, of which no name stands twice. */
+/** The value that a text is: null, a boolean, a BigInt (of numbers there are whole ones from 0 on alone), a text, an
+ * array, or a Map of the members of an object in their order, of which no name stands twice. */
 export function readValue(bytes) {
   return new Reader(decoded(bytes)).whole();
 }

@@ -10,7 +10,8 @@ from ._library import Readable, Writable, byte_view, call
 
 
 class SlotState(IntEnum):
-    """The state of a slot, and its number. Where two apply, the lower one is given: an overlapping entry may be kept or not."""
+    """The state of a slot, and its number. Where two apply, the lower one is given: an overlapping entry may be kept or
+    not."""
 
     BLANK = 0
     """All 64 bytes are zero."""
@@ -42,6 +43,6 @@ def audit(deal: Readable) -> List[SlotState]:
 
 
 def audit_into(deal: Readable, states: Writable) -> None:
-    """Writes the number of every slot's state into the first bytes of `states`, one byte each, as many as the deal's table of owners has
-    (see table_length); the rest stays. Refusals: 2, 11, 12 for fewer bytes than slots."""
+    """Writes the number of every slot's state into the first bytes of `states`, one byte each, as many as the deal's
+    table of owners has (see table_length); the rest stays. Refusals: 2, 11, 12 for fewer bytes than slots."""
     accepted(call("vz_audit", deal, states))

@@ -19,8 +19,8 @@ class IndexNumbers:
 
 @dataclass(frozen=True)
 class Entry:
-    """What an index entry says: the commitment of the segment's area, the byte of the deal at which the segment starts, and its
-    length without the zeros after it."""
+    """What an index entry says: the commitment of the segment's area, the byte of the deal at which the segment starts,
+    and its length without the zeros after it."""
 
     commitment: bytes
     offset: int

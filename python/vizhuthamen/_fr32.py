@@ -11,7 +11,8 @@ MAX_RAW: Final = 8_323_072
 
 
 def segment_length(raw_length: int) -> Optional[int]:
-    """The length of the segment of so many raw bytes, 128 / 127 of them and rounded up; None where there may not be so many."""
+    """The length of the segment of so many raw bytes, 128 / 127 of them and rounded up; None where there may not be so
+    many."""
     return -(-raw_length * 128 // 127) if 1 <= raw_length <= MAX_RAW else None
 
 
@@ -30,8 +31,8 @@ def pad(raw: Readable) -> bytes:
 
 
 def unpad_into(raw_length: int, segment: Readable, output: Writable) -> int:
-    """Writes the raw bytes of a segment, as many as are named, into the first bytes of an output: their number. Refusals: 2 for the
-    raw length, 24, 11, 12."""
+    """Writes the raw bytes of a segment, as many as are named, into the first bytes of an output: their number.
+    Refusals: 2 for the raw length, 24, 11, 12."""
     (length,) = numbers(1)
     accepted(call("vz_fr32_unpad", raw_length, segment, output, length))
     return length.value

@@ -1,7 +1,7 @@
 """The shared library: where it is, what it has, and how memory is lent to it.
 
-No promise covers this code. It keeps what the library asks of its callers: no pointer is null, lengths are true, numbers fit, and
-memory that is written overlaps no other argument.
+No promise covers this code. It keeps what the library asks of its callers: no pointer is null, lengths are true,
+numbers fit, and memory that is written overlaps no other argument.
 """
 from __future__ import annotations
 
@@ -16,8 +16,8 @@ Number = Union[ctypes.c_uint32, ctypes.c_uint64]
 
 NAME = "libvizhuthamen.so.0.5"
 
-# The functions of vizhuthamen.h: `in` and `out` are memory that is read, and that is written, a pointer and a length each; u8 and u64
-# are numbers; u32* and u64* are numbers that are written.
+# The functions of vizhuthamen.h: `in` and `out` are memory that is read, and that is written, a pointer and a length
+# each; u8 and u64 are numbers; u32* and u64* are numbers that are written.
 FUNCTIONS = {
     "vz_sha256": "in out",
     "vz_commitment": "in out",
@@ -61,8 +61,8 @@ _TYPES: Dict[str, List[Any]] = {
 
 
 def _path() -> str:
-    """The folder that VIZHUTHAMEN_LIB names; else the libraries of the checkout, or of the prefix, that this package lies in; else
-    where the system looks."""
+    """The folder that VIZHUTHAMEN_LIB names; else the libraries of the checkout, or of the prefix, that this package
+    lies in; else where the system looks."""
     named, here = os.environ.get("VIZHUTHAMEN_LIB"), Path(__file__).resolve()
     if named:
         return str(Path(named) / NAME)
@@ -75,7 +75,8 @@ def _load() -> ctypes.CDLL:
     try:
         library = ctypes.CDLL(_path())
     except OSError as error:
-        raise OSError(f"{error}; run make in the repository's root, or let VIZHUTHAMEN_LIB name the folder of {NAME}") from None
+        raise OSError(f"{error}; "
+                      f"run make in the repository's root, or let VIZHUTHAMEN_LIB name the folder of {NAME}") from None
     for name, kinds in FUNCTIONS.items():
         function = getattr(library, name)
         function.argtypes = [each for kind in kinds.split() for each in _TYPES[kind]]

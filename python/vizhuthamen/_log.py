@@ -1,4 +1,5 @@
-"""The clerks' log of a deal: a line for every booking and every cancellation whose answer gets one, as data and as bytes."""
+"""The clerks' log of a deal: a line for every booking and every cancellation whose answer gets one, as data and as
+bytes."""
 from __future__ import annotations
 
 import struct
@@ -23,8 +24,8 @@ _CANCELLING_CODES = 0, 16
 
 @dataclass(frozen=True)
 class Answers:
-    """What a line says was answered, or what the rules give for it: a code, and for a booking with 0 or 15 the two numbers beside it. They
-    are 0 otherwise."""
+    """What a line says was answered, or what the rules give for it: a code, and for a booking with 0 or 15 the two
+    numbers beside it. They are 0 otherwise."""
 
     code: int
     offset: int
@@ -33,8 +34,8 @@ class Answers:
 
 @dataclass(frozen=True)
 class BookingLine:
-    """A booking that was answered 0, 13, 14, 15 or 22: the house, the commitment of the segment's area, the segment's size, and the
-    answers. bytes() of it is the line in a log."""
+    """A booking that was answered 0, 13, 14, 15 or 22: the house, the commitment of the segment's area, the segment's
+    size, and the answers. bytes() of it is the line in a log."""
 
     house: int
     commitment: bytes
@@ -45,7 +46,8 @@ class BookingLine:
 
     @classmethod
     def of(cls, house: int, commitment: bytes, size: int, answer: Union[Booking, Refusal]) -> Optional[BookingLine]:
-        """The line for a booking, as `book` answered it, or with the refusal that it raised; None where its code gets no line."""
+        """The line for a booking, as `book` answered it, or with the refusal that it raised; None where its code gets
+        no line."""
         if isinstance(answer, Refusal):
             code, position = answer.code, Position(0, 0)
         else:
@@ -64,7 +66,8 @@ class BookingLine:
 
 @dataclass(frozen=True)
 class CancellingLine:
-    """A cancellation that was answered 0 or 16: the house, the entry place, and the code. bytes() of it is the line in a log."""
+    """A cancellation that was answered 0 or 16: the house, the entry place, and the code. bytes() of it is the line in
+    a log."""
 
     house: int
     place: int
@@ -88,8 +91,8 @@ Line = Union[BookingLine, CancellingLine]
 
 
 class Malformed(Exception):
-    """Where a log is malformed, and why: the number of the line, from 1, the byte at which it starts, and what is wrong with it, in words.
-    Playing the log back is refused with 3."""
+    """Where a log is malformed, and why: the number of the line, from 1, the byte at which it starts, and what is wrong
+    with it, in words. Playing the log back is refused with 3."""
 
     def __init__(self, line: int, at: int, fault: str) -> None:
         super().__init__(line, at, fault)
@@ -100,8 +103,9 @@ class Malformed(Exception):
 
 
 def lines(size: int, log: Readable) -> Iterator[Line]:
-    """The lines of a log for a deal of that size, in turn. Malformed is raised at the first place where it is malformed; for a size that a
-    deal in memory has, a log without such a place is one that `playback` does not refuse."""
+    """The lines of a log for a deal of that size, in turn. Malformed is raised at the first place where it is
+    malformed; for a size that a deal in memory has, a log without such a place is one that `playback` does not
+    refuse."""
     data, at, number = byte_view(log).tobytes(), 0, 0
     while at < len(data):
         number += 1
@@ -117,7 +121,8 @@ def lines(size: int, log: Readable) -> Iterator[Line]:
 
 
 def _form(data: bytes, length: int) -> str:
-    """What is wrong with the tag, the length or the end of a line that should have so many bytes; nothing where they are right."""
+    """What is wrong with the tag, the length or the end of a line that should have so many bytes; nothing where they
+    are right."""
     if not length:
         return f"tag {data[0]} is neither 1 nor 2"
     stated = int.from_bytes(data[1:3], "little")

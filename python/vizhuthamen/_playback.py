@@ -1,4 +1,5 @@
-"""Playing a log back: whether the rules give the answers that its lines say, and the ledger's rows after the last one."""
+"""Playing a log back: whether the rules give the answers that its lines say, and the ledger's rows after the last
+one."""
 from __future__ import annotations
 
 import ctypes
@@ -22,8 +23,8 @@ _ROW = struct.Struct("<B32sQQQ")
 
 @dataclass(frozen=True)
 class LedgerRow:
-    """A row of a ledger, of a segment that was booked, and not cancelled since: the house, the commitment of the segment's area as the
-    log's line has it, size and offset of the segment, and the place of its entry."""
+    """A row of a ledger, of a segment that was booked, and not cancelled since: the house, the commitment of the
+    segment's area as the log's line has it, size and offset of the segment, and the place of its entry."""
 
     house: int
     commitment: bytes
@@ -41,8 +42,8 @@ class Confirmed:
 
 @dataclass(frozen=True)
 class WrongLine:
-    """The rules do not give the answers of the line with this number, from 1, and give those of every line before it; and what they give
-    for it."""
+    """The rules do not give the answers of the line with this number, from 1, and give those of every line before it;
+    and what they give for it."""
 
     line: int
     ruling: Answers
@@ -52,10 +53,10 @@ Playback = Union[Confirmed, WrongLine]
 
 
 def playback(size: int, log: Readable) -> Playback:
-    """Plays a log back on an empty ledger for a deal of that size: every line in turn, by the rules of booking and cancelling, up to the
-    first one whose answers they do not give. Commitments are taken as they are; a booking is answered 15 where the house has a row of equal
-    size and commitment. Refusals: 2 for a size that no deal in memory has, 3 for a log that is malformed anywhere, which is told before
-    any line is played (`lines` says where)."""
+    """Plays a log back on an empty ledger for a deal of that size: every line in turn, by the rules of booking and
+    cancelling, up to the first one whose answers they do not give. Commitments are taken as they are; a booking is
+    answered 15 where the house has a row of equal size and commitment. Refusals: 2 for a size that no deal in memory
+    has, 3 for a log that is malformed anywhere, which is told before any line is played (`lines` says where)."""
     code, (line, offset, place, count), rows = ctypes.c_uint32(), numbers(4), bytearray(ROWS)
     answer = call("vz_playback", size, log, line, code, offset, place, count, rows)
     if answer == WRONG_LINE:

@@ -19,8 +19,8 @@ class Same:
 
 @dataclass(frozen=True)
 class Collision:
-    """Code 17: two different 64-byte strings, of the first record and the second, or of the record and the deal. They have one node
-    hash, unless a tree that is not the deal's was in hand."""
+    """Code 17: two different 64-byte strings, of the first record and the second, or of the record and the deal. They
+    have one node hash, unless a tree that is not the deal's was in hand."""
 
     left: bytes
     right: bytes
@@ -40,8 +40,8 @@ class Field:
 
 
 def build_into(deal: Readable, number: int, place: int, output: Writable, *, tree: Optional[Readable] = None) -> int:
-    """Builds the record of the entry at a place, for the deal of this number, into the first bytes of an output: its length. Refusals:
-    2, 11, 6, 16, 12; with a tree 12 after 11 too, for its length."""
+    """Builds the record of the entry at a place, for the deal of this number, into the first bytes of an output: its
+    length. Refusals: 2, 11, 6, 16, 12; with a tree 12 after 11 too, for its length."""
     (length,) = numbers(1)
     if tree is None:
         accepted(call("vz_build", deal, number, place, output, length))
@@ -51,26 +51,28 @@ def build_into(deal: Readable, number: int, place: int, output: Writable, *, tre
 
 
 def build(deal: Readable, number: int, place: int, *, tree: Optional[Readable] = None) -> bytes:
-    """The record of the entry at a place of a deal with this number. Refusals: 2, 11, 6, 16; with a tree 12 after 11."""
+    """The record of the entry at a place of a deal with this number.
+    Refusals: 2, 11, 6, 16; with a tree 12 after 11."""
     record = bytearray(MAX_RECORD)
     return bytes(record[: build_into(deal, number, place, record, tree=tree)])
 
 
 def check(commitment: Readable, size: int, number: int, record: Readable) -> None:
-    """Checks a record against a deal's commitment, size and number. Refusals, in this order: 1, 2, 3, 21, 4 to 8, 19, 9, 10."""
+    """Checks a record against a deal's commitment, size and number.
+    Refusals, in this order: 1, 2, 3, 21, 4 to 8, 19, 9, 10."""
     accepted(call("vz_check", commitment, size, number, record))
 
 
 def settle_records(commitment: Readable, size: int, number: int, first: Readable, second: Readable) -> Settled:
-    """Settles two records for one deal commitment, size and number. Refusals: those of the first one's check, of the second one's,
-    18."""
+    """Settles two records for one deal commitment, size and number. Refusals: those of the first one's check, of the
+    second one's, 18."""
     left, right = bytearray(64), bytearray(64)
     return _settled(call("vz_settle_records", commitment, size, number, first, second, left, right), left, right)
 
 
 def settle_with_deal(deal: Readable, number: int, record: Readable, *, tree: Optional[Readable] = None) -> Settled:
-    """Settles a record with a deal in hand, whose number this is. Refusals: 2, 11, those of the check against the deal's own commitment
-    and length and this number; with a tree 12 after 11."""
+    """Settles a record with a deal in hand, whose number this is. Refusals: 2, 11, those of the check against the
+    deal's own commitment and length and this number; with a tree 12 after 11."""
     left, right = bytearray(64), bytearray(64)
     if tree is None:
         code = call("vz_settle_with_deal", deal, number, record, left, right)

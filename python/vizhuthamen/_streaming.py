@@ -23,7 +23,8 @@ class Streamed:
 
 
 class Streaming:
-    """The state of a stream. `bytes` of it can be kept anywhere until the next piece arrives; any bytes of STREAM_STATE are a state."""
+    """The state of a stream. `bytes` of it can be kept anywhere until the next piece arrives; any bytes of STREAM_STATE
+    are a state."""
 
     def __init__(self, state: Optional[Readable] = None) -> None:
         """A new start, or the stream that left this state. Refusals: 12 for another length."""
@@ -34,13 +35,13 @@ class Streaming:
             raise Refusal(Refusal.OUTPUT)
 
     def take(self, piece: Readable) -> None:
-        """Takes one more piece, of any length. Refusals stick until a new start: 11 where a node is completed that has stray bits,
-        2 at the first byte past 2^36."""
+        """Takes one more piece, of any length. Refusals stick until a new start: 11 where a node is completed that has
+        stray bits, 2 at the first byte past 2^36."""
         accepted(call("vz_stream_take", self._state, piece))
 
     def end(self) -> Streamed:
-        """The answer for all bytes taken so far; more may be taken afterwards. Refusals: 11 where it sticks, 2 where their number is
-        no power of two from 32 to 2^36."""
+        """The answer for all bytes taken so far; more may be taken afterwards. Refusals: 11 where it sticks, 2 where
+        their number is no power of two from 32 to 2^36."""
         node, (count,) = bytearray(32), numbers(1)
         accepted(call("vz_stream_end", self._state, node, count))
         return Streamed(bytes(node), count.value)

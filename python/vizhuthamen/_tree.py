@@ -11,8 +11,8 @@ def tree_length(size: int) -> int:
 
 
 def tree_fill(deal: Readable, tree: Writable) -> None:
-    """Writes every inner node of a deal into its tree, heights from the bottom, left to right. Refusals: 2, 11, 12. What holds of calls
-    that take a tree is said in vizhuthamen.h."""
+    """Writes every inner node of a deal into its tree, heights from the bottom, left to right. Refusals: 2, 11, 12.
+    What holds of calls that take a tree is said in vizhuthamen.h."""
     accepted(call("vz_tree_fill", deal, tree))
 
 

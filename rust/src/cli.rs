@@ -88,8 +88,8 @@ fn suits_terminal(command: &Command, json: bool) -> Result<(), Failure> {
     }
 }
 
-/// Writes an answer, as text or as one JSON object, and then its notes, and gives the exit status. Where standard output is for bytes,
-/// a refusal goes to standard error.
+/// Writes an answer, as text or as one JSON object, and then its notes, and gives the exit status. Where standard
+/// output is for bytes, a refusal goes to standard error.
 fn report(answer: &Answer, form: Form, raw: bool) -> u8 {
     let written = match (&answer.bytes, form.json) {
         (Some(bytes), false) => output::write(bytes),

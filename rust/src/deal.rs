@@ -94,13 +94,15 @@ pub(crate) fn part(bytes: &[u8], start: u64, length: u64) -> &[u8] {
     &bytes[start..start + length]
 }
 
-/// Books a segment of 1 byte to half of the deal for a house, 1 or 2: it, zeros after it to the end of its area (the smallest power
-/// of two at or above both its size and 128), its entry, and the house in the slot's byte of the table (see [`table_length`]) are
-/// written, unless the house has the segment in the deal. Refusals: 23 for another house, 2, 23 for a table of another length, 4, 11,
-/// 22 where the house's entries stand in half of the slots or more, 13, 14; with a tree 12 after 11.
+/// Books a segment of 1 byte to half of the deal for a house, 1 or 2: it, zeros after it to the end of its area (the
+/// smallest power of two at or above both its size and 128), its entry, and the house in the slot's byte of the table
+/// (see [`table_length`]) are written, unless the house has the segment in the deal. Refusals: 23 for another house, 2,
+/// 23 for a table of another length, 4, 11, 22 where the house's entries stand in half of the slots or more, 13, 14;
+/// with a tree 12 after 11.
 ///
-/// With a tree (see [`tree_fill`](crate::tree_fill)), whether an entry is kept is read there: its commitment is the node over its
-/// area. Every node above the bytes that are written to the deal is worked out anew; no other byte of the tree changes.
+/// With a tree (see [`tree_fill`](crate::tree_fill)), whether an entry is kept is read there: its commitment is the
+/// node over its area. Every node above the bytes that are written to the deal is worked out anew; no other byte of the
+/// tree changes.
 ///
 /// ```
 /// use vizhuthamen::{book, table_length, Booking, Refusal};
@@ -125,7 +127,8 @@ pub fn book(
     let (mut offset, mut place) = (0, 0);
     let (d, n, o, k) = (deal.as_mut_ptr(), deal.len(), table.as_mut_ptr(), table.len());
     let (s, m) = (segment.as_ptr(), segment.len());
-    // SAFETY: the slices are live and apart, since all but one are borrowed mutably; the two numbers are locals of their own.
+    // SAFETY: the slices are live and apart, since all but one are borrowed mutably; the two numbers are locals of
+    // their own.
     let code = unsafe {
         match tree {
             None => ffi::vz_book(d, n, o, k, house, s, m, &mut offset, &mut place),
@@ -145,8 +148,8 @@ pub fn book(
 
 /// Cancels the house's entry that stands at a place, kept or not: its 64 bytes and its slot's byte of the table (see
 /// [`table_length`]) are zeros afterwards, and no other byte changes. Its slot is then free for booking, and so are its
-/// segment's bytes wherever no other standing entry covers them. Refusals: 23 for a house other than 1 or 2, 2, 23 for a
-/// table of another length, 11, 6, 16 where no entry of the house stands; with a tree 12 after 11.
+/// segment's bytes wherever no other standing entry covers them. Refusals: 23 for a house other than 1 or 2, 2, 23 for
+/// a table of another length, 11, 6, 16 where no entry of the house stands; with a tree 12 after 11.
 ///
 /// With a tree (see [`tree_fill`](crate::tree_fill)), every node above the 64 bytes is worked out anew; no other byte
 /// of the tree changes.

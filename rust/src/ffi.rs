@@ -72,8 +72,8 @@ extern "C" {
         place: *mut u64,
     ) -> u32;
 
-    /// Books a segment into a deal for a house, 1 or 2. `table`: a byte for each slot. Numbers are written with 0 and 15.
-    /// Codes: 23 (house), 2, 23 (table), 4, 11, 15, 22, 13, 14.
+    /// Books a segment into a deal for a house, 1 or 2. `table`: a byte for each slot. Numbers are written with
+    /// 0 and 15. Codes: 23 (house), 2, 23 (table), 4, 11, 15, 22, 13, 14.
     pub fn vz_book(
         deal: *mut u8,
         deal_len: usize,
@@ -86,11 +86,12 @@ extern "C" {
         place: *mut u64,
     ) -> u32;
 
-    /// Cancels a house's entry that stands at a place of a deal: its 64 bytes and its byte of the table are zeros with 0.
-    /// Codes: 23 (house), 2, 23 (table), 11, 6, 16.
+    /// Cancels a house's entry that stands at a place of a deal: its 64 bytes and its byte of the table are zeros
+    /// with 0. Codes: 23 (house), 2, 23 (table), 11, 6, 16.
     pub fn vz_cancel(deal: *mut u8, deal_len: usize, table: *mut u8, table_len: usize, house: u8, place: u64) -> u32;
 
-    /// Collects a deal and its table into a second deal and a second table of the same lengths. Codes: 2, 23, 12, 11, 20.
+    /// Collects a deal and its table into a second deal and a second table of the same lengths.
+    /// Codes: 2, 23, 12, 11, 20.
     pub fn vz_collect(
         deal: *const u8,
         deal_len: usize,
@@ -102,8 +103,9 @@ extern "C" {
         second_table_len: usize,
     ) -> u32;
 
-    /// Plays a log back on an empty ledger for a deal of this size. `rows`: [`ROWS`](crate::ROWS) bytes, written with `count`
-    /// where it answers 0. Codes: 12, 2, 3; or [`WRONG_LINE`](crate::WRONG_LINE), with which the four other numbers are written.
+    /// Plays a log back on an empty ledger for a deal of this size. `rows`: [`ROWS`](crate::ROWS) bytes, written with
+    /// `count` where it answers 0. Codes: 12, 2, 3; or [`WRONG_LINE`](crate::WRONG_LINE), with which the four other
+    /// numbers are written.
     pub fn vz_playback(
         size: u64,
         log: *const u8,
@@ -140,8 +142,8 @@ extern "C" {
         record_len: usize,
     ) -> u32;
 
-    /// Settles two records for one deal. `left`, `right`: 64 bytes each, written with 0 and 17. Codes: 12, the first one's
-    /// check, the second one's, 18, 17.
+    /// Settles two records for one deal. `left`, `right`: 64 bytes each, written with 0 and 17. Codes: 12, the first
+    /// one's check, the second one's, 18, 17.
     pub fn vz_settle_records(
         commitment: *const u8,
         commitment_len: usize,
@@ -176,8 +178,8 @@ extern "C" {
     /// Writes the nodes over the pairs of nodes of `below` into `above`, which is half as long. Codes: 12.
     pub fn vz_tree_row(below: *const u8, below_len: usize, above: *mut u8, above_len: usize) -> u32;
 
-    /// [`vz_book`] with the deal's tree in hand, which is brought up to date. Codes: 23 (house), 2, 23 (table), 4, 11, 12,
-    /// 15, 22, 13, 14.
+    /// [`vz_book`] with the deal's tree in hand, which is brought up to date. Codes: 23 (house), 2, 23 (table), 4, 11,
+    /// 12, 15, 22, 13, 14.
     pub fn vz_book_with_tree(
         deal: *mut u8,
         deal_len: usize,
@@ -192,8 +194,8 @@ extern "C" {
         place: *mut u64,
     ) -> u32;
 
-    /// [`vz_cancel`] with the deal's tree in hand, which is brought up to date. Codes: 23 (house), 2, 23 (table), 11, 12, 6,
-    /// 16.
+    /// [`vz_cancel`] with the deal's tree in hand, which is brought up to date. Codes: 23 (house), 2, 23 (table), 11,
+    /// 12, 6, 16.
     pub fn vz_cancel_with_tree(
         deal: *mut u8,
         deal_len: usize,
@@ -205,7 +207,8 @@ extern "C" {
         place: u64,
     ) -> u32;
 
-    /// [`vz_collect`] with a tree for the second deal, which is filled. Codes: 2, 23, 12 (second deal), 11, 12 (tree), 20.
+    /// [`vz_collect`] with a tree for the second deal, which is filled.
+    /// Codes: 2, 23, 12 (second deal), 11, 12 (tree), 20.
     pub fn vz_collect_with_tree(
         deal: *const u8,
         deal_len: usize,
@@ -232,7 +235,8 @@ extern "C" {
         length: *mut u64,
     ) -> u32;
 
-    /// [`vz_settle_with_deal`] with the deal's tree in hand. Codes: 12 (strings), 2, 11, 12 (tree), those of the check, 17.
+    /// [`vz_settle_with_deal`] with the deal's tree in hand.
+    /// Codes: 12 (strings), 2, 11, 12 (tree), those of the check, 17.
     pub fn vz_settle_with_tree(
         deal: *const u8,
         deal_len: usize,
@@ -259,8 +263,8 @@ extern "C" {
     ) -> u32;
 }
 
-/// What the header says of outputs beyond the safe functions' reach: a wrong length gets 12 before all else, and outputs
-/// stay as they were with every code that writes none.
+/// What the header says of outputs beyond the safe functions' reach: a wrong length gets 12 before all else, and
+/// outputs stay as they were with every code that writes none.
 #[cfg(test)]
 mod tests {
     use super::*;

@@ -5,7 +5,8 @@ use crate::ffi;
 /// The length of the longest raw archive, in bytes. Its segment has 2^23.
 pub const MAX_RAW: u64 = 8_323_072;
 
-/// The length of the segment of so many raw bytes, 128 / 127 of them and rounded up; none where there may not be so many.
+/// The length of the segment of so many raw bytes, 128 / 127 of them and rounded up; none where there may not be so
+/// many.
 pub fn segment_length(raw_length: u64) -> Option<u64> {
     (1..=MAX_RAW).contains(&raw_length).then(|| (raw_length * 128).div_ceil(127))
 }
@@ -24,8 +25,8 @@ pub fn pad(raw: &[u8]) -> Result<Vec<u8>, Refusal> {
     pad_into(raw, &mut segment).map(|_| segment)
 }
 
-/// Writes the raw bytes of a segment, as many as are named, into the first bytes of an output, and answers their number.
-/// Refusals: 2 for the raw length, 24, 11, 12.
+/// Writes the raw bytes of a segment, as many as are named, into the first bytes of an output, and answers their
+/// number. Refusals: 2 for the raw length, 24, 11, 12.
 pub fn unpad_into(raw_length: u64, segment: &[u8], output: &mut [u8]) -> Result<usize, Refusal> {
     let mut length = 0;
     // SAFETY: the slices are live and apart, since one is borrowed mutably; the number is a local of its own.

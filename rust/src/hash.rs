@@ -12,7 +12,8 @@ pub fn sha256(message: &[u8]) -> Result<[u8; 32], Refusal> {
     accepted(code).map(|()| digest)
 }
 
-/// The commitment of a run, a power of two from 32 to 2^24 bytes. Refusals: 2, 11. From 2^20 bytes on all processors work on it.
+/// The commitment of a run, a power of two from 32 to 2^24 bytes. Refusals: 2, 11. From 2^20 bytes on all processors
+/// work on it.
 pub fn commitment(run: &[u8]) -> Result<Node, Refusal> {
     commitment_with_threads(run, parts::threads(run.len()))
 }
@@ -26,7 +27,8 @@ pub fn commitment_with_threads(run: &[u8], threads: usize) -> Result<Node, Refus
 }
 
 /// The commitment of the parts' commitments, or the refusal of a part. That this is the answer for the run is proved:
-/// `parts-accepted` and `part-refused` in crates/merkle/specs/PartsLaws.antt, at 2^m parts of 2^13 nodes with m + 13 <= 19.
+/// `parts-accepted` and `part-refused` in crates/merkle/specs/PartsLaws.antt, at 2^m parts of 2^13 nodes with
+/// m + 13 <= 19.
 fn by_parts(run: &[u8], threads: usize) -> Result<Node, Refusal> {
     let answers = parts::each(threads, run.chunks_exact(parts::PART), by_one_call);
     let nodes: Vec<Node> = answers.into_iter().collect::<Result<_, _>>()?;

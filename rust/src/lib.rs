@@ -1,19 +1,19 @@
 //! Verifiable data aggregation (FRC-0058) over the proved static library libvizhuthamen.a.
 //!
-//! Every function here is a safe call of one function of the library, or of one of two where a tree may be in hand. From 2^20 bytes
-//! on, [`commitment`] and [`tree_fill`] are calls for parts of the run, which all processors take; laws of the library join them.
-//! [`commitment_with_threads`] and [`tree_fill_with_threads`] say how many threads may. [`RawStreaming`] pads a raw archive, and
-//! commits to it, part by part in the same way. A refusal is
-//! a [`Refusal`], which carries the code and its meaning in words. The answers with a code that is not 0 and yet carry values (15
-//! of a booking, 17 of a settling) are cases of [`Booking`] and [`Settled`]. A commitment is a [`Node`], which is written in
+//! Every function here is a safe call of one function of the library, or of one of two where a tree may be in hand.
+//! From 2^20 bytes on, [`commitment`] and [`tree_fill`] are calls for parts of the run, which all processors take; laws
+//! of the library join them. [`commitment_with_threads`] and [`tree_fill_with_threads`] say how many threads may.
+//! [`RawStreaming`] pads a raw archive, and commits to it, part by part in the same way. A refusal is a [`Refusal`],
+//! which carries the code and its meaning in words. The answers with a code that is not 0 and yet carry values (15 of a
+//! booking, 17 of a settling) are cases of [`Booking`] and [`Settled`]. A commitment is a [`Node`], which is written in
 //! hex, or as a piece CID ([`cid`]).
 //!
 //! Whoever builds many records of one deal keeps its tree beside it ([`filled_tree`]), and lends it to [`book`],
 //! [`cancel`], [`build`] and [`settle_with_deal`], which then hash little of the deal. [`collect`] fills one for the
 //! second deal.
 //!
-//! Two houses, 1 and 2, book in one deal; whose entry a slot holds says a table beside the deal ([`table_length`]). What to
-//! make of a deal that another program has made says its [`audit`]. A log has a [`Line`] for every booking and
+//! Two houses, 1 and 2, book in one deal; whose entry a slot holds says a table beside the deal ([`table_length`]).
+//! What to make of a deal that another program has made says its [`audit`]. A log has a [`Line`] for every booking and
 //! cancellation whose answer gets one; [`playback`] says whether the rules give these answers.
 //!
 //! ```

@@ -30,8 +30,8 @@ pub fn threads(length: usize) -> usize {
     }
 }
 
-/// What the work gives for each part, in their order. That many threads, this one among them, take one part after the other; where no
-/// other can be started, this one takes all of them.
+/// What the work gives for each part, in their order. That many threads, this one among them, take one part after the
+/// other; where no other can be started, this one takes all of them.
 pub fn each<P: Send, R: Send>(
     threads: usize,
     parts: impl IntoIterator<Item = P>,

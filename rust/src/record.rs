@@ -107,8 +107,9 @@ pub fn settle_records(
 /// Settles a record with a deal in hand, whose number this is. Refusals: 2, 11, those of the check against the deal's
 /// own commitment and length and this number; with a tree 12 after 11.
 ///
-/// With a tree (see [`tree_fill`](crate::tree_fill)), the deal's commitment is the last node there, and the deal's strings are the
-/// pairs of nodes as they stand there, but for the entry's 64 bytes. So strings of a tree that is not the deal's need not collide.
+/// With a tree (see [`tree_fill`](crate::tree_fill)), the deal's commitment is the last node there, and the deal's
+/// strings are the pairs of nodes as they stand there, but for the entry's 64 bytes. So strings of a tree that is not
+/// the deal's need not collide.
 pub fn settle_with_deal(deal: &[u8], tree: Option<&[u8]>, number: u64, record: &[u8]) -> Result<Settled, Refusal> {
     let (mut left, mut right) = ([0; 64], [0; 64]);
     let (d, n, r, m) = (deal.as_ptr(), deal.len(), record.as_ptr(), record.len());

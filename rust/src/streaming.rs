@@ -9,8 +9,8 @@ pub const STREAM_STATE: usize = 1072;
 /// The largest number of bytes that a stream takes.
 pub const MAX_STREAM: u64 = 1 << 36;
 
-/// The state of a stream: what is kept of the bytes taken so far. As bytes it can be kept anywhere until the next piece arrives;
-/// any bytes are a state, and are answered.
+/// The state of a stream: what is kept of the bytes taken so far. As bytes it can be kept anywhere until the next piece
+/// arrives; any bytes are a state, and are answered.
 #[derive(Clone, Debug, PartialEq, Eq)]
 pub struct Streaming([u8; STREAM_STATE]);
 
@@ -32,8 +32,8 @@ impl Streaming {
         Streaming(state)
     }
 
-    /// Takes one more piece, of any length. Refusals stick until a new start: 11 where a node is completed that has stray bits,
-    /// 2 at the first byte past 2^36.
+    /// Takes one more piece, of any length. Refusals stick until a new start: 11 where a node is completed that has
+    /// stray bits, 2 at the first byte past 2^36.
     pub fn take(&mut self, piece: &[u8]) -> Result<(), Refusal> {
         let state = &mut self.0;
         // SAFETY: the slices are live and apart, since one is borrowed mutably.
@@ -41,8 +41,8 @@ impl Streaming {
         accepted(code)
     }
 
-    /// The answer for all bytes taken so far; more may be taken afterwards. Refusals: 11 where it sticks, 2 where their number is
-    /// no power of two from 32 to 2^36.
+    /// The answer for all bytes taken so far; more may be taken afterwards. Refusals: 11 where it sticks, 2 where their
+    /// number is no power of two from 32 to 2^36.
     pub fn end(&self) -> Result<Streamed, Refusal> {
         let (mut node, mut count) = ([0; 32], 0);
         let state = &self.0;

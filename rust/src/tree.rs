@@ -8,9 +8,9 @@ pub const fn tree_length(size: usize) -> usize {
     size.saturating_sub(32)
 }
 
-/// Writes every inner node of a deal into its tree, which has [`tree_length`] bytes: heights from the bottom, left to right, so
-/// that node `i` of height `h`, from 1 on, stands at `D - D / 2^(h - 1) + 32 i` for a deal of `D` bytes, and the deal's
-/// commitment in the last 32 bytes. Refusals: 2, 11, 12. From 2^20 bytes on all processors work on it.
+/// Writes every inner node of a deal into its tree, which has [`tree_length`] bytes: heights from the bottom, left to
+/// right, so that node `i` of height `h`, from 1 on, stands at `D - D / 2^(h - 1) + 32 i` for a deal of `D` bytes, and
+/// the deal's commitment in the last 32 bytes. Refusals: 2, 11, 12. From 2^20 bytes on all processors work on it.
 ///
 /// [`book`](crate::book), [`cancel`](crate::cancel), [`build`](crate::build) and
 /// [`settle_with_deal`](crate::settle_with_deal) take such a tree, and then every inner node as it stands there. With a
@@ -32,8 +32,8 @@ pub fn tree_fill_with_threads(deal: &[u8], tree: &mut [u8], threads: usize) -> R
     }
 }
 
-/// Whether no node of a deal has stray bits. What has some is left to one call, which refuses it and writes nothing. One thread looks:
-/// it is done in a hundredth of the time that hashing takes.
+/// Whether no node of a deal has stray bits. What has some is left to one call, which refuses it and writes nothing.
+/// One thread looks: it is done in a hundredth of the time that hashing takes.
 fn no_stray_bits(deal: &[u8]) -> bool {
     deal.chunks_exact(32).fold(0, |bits, node| bits | node[31]) < 0x40
 }
@@ -41,9 +41,10 @@ fn no_stray_bits(deal: &[u8]) -> bool {
 /// The library hashes up to so many nodes at once.
 const LANES: usize = 16;
 
-/// Fills the rows over each part of the deal as long as a part has nodes for all lanes, and then the rows above, as one part: they
-/// are fewer than 16 nodes a part. Each slice is written from the one below it, which is written before. That the tree is then the one
-/// that `vz_tree_fill` writes is proved, however the rows are cut: `filled-by-ranges` in crates/tree/specs/RowAboveLaws.antt.
+/// Fills the rows over each part of the deal as long as a part has nodes for all lanes, and then the rows above, as one
+/// part: they are fewer than 16 nodes a part. Each slice is written from the one below it, which is written before.
+/// That the tree is then the one that `vz_tree_fill` writes is proved, however the rows are cut: `filled-by-ranges` in
+/// crates/tree/specs/RowAboveLaws.antt.
 fn fill_by_parts(deal: &[u8], tree: &mut [u8], threads: usize) -> Result<(), Refusal> {
     let mut low = rows(deal.len(), tree);
     let high = low.split_off((parts::PART / 32 / LANES).ilog2() as usize);
@@ -74,8 +75,9 @@ fn fill_rows<'a>(below: &'a [u8], rows: impl IntoIterator<Item = &'a mut [u8]>) 
     rows.into_iter().try_fold(below, |below, row| tree_row(below, row).map(|()| &*row)).map(drop)
 }
 
-/// Writes the nodes over the pairs of `below` into `above`: a row of a tree, or a part of one, from the row below it. `below` has a
-/// whole number of pairs of nodes, and `above` is half as long. Refusals: 12. Stray bits are not looked for.
+/// Writes the nodes over the pairs of `below` into `above`: a row of a tree, or a part of one, from the row below it.
+/// `below` has a whole number of pairs of nodes, and `above` is half as long. Refusals: 12. Stray bits are not looked
+/// for.
 pub fn tree_row(below: &[u8], above: &mut [u8]) -> Result<(), Refusal> {
     // SAFETY: the slices are live and apart, since one is borrowed mutably.
     let code = unsafe { ffi::vz_tree_row(below.as_ptr(), below.len(), above.as_mut_ptr(), above.len()) };

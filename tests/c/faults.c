@@ -1,16 +1,19 @@
 /*
- * Stands between a program and the C library (LD_PRELOAD), counts the calls that go to the system, and lets one of them go wrong.
+ * Stands between a program and the C library (LD_PRELOAD), counts the calls that go to the system, and lets one of them
+ * go wrong.
  *
  *   FAULT_AT     the number of that call, from 1
- *   FAULT_DO     kill N: signal N is sent to the process before the call; error N: the call fails with that error number;
+ *   FAULT_DO     kill N: signal N is sent to the process before the call;
+ *                error N: the call fails with that error number;
  *                late N: it is made, and answers that it failed;
- *                errors N: it and every later one that writes fail with that error number; short: a write writes one byte only
+ *                errors N: it and every later one that writes fail with that error number;
+ *                short: a write writes one byte only
  *   FAULT_LOG    a file to which the name of every call is added
  *   FAULT_PLAIN  1: the system has no unnamed files; 2: nor can it rename to a name that must not be taken
  *   FAULT_CLOCK  every look at a clock finds so many seconds more gone
  *
- * Every function is taken to have six arguments of a register each and one result, which is so for all that are named here
- * (Linux, 64 bits). tests/faults_test.py compares the names with those that the program asks of the C library.
+ * Every function is taken to have six arguments of a register each and one result, which is so for all that are named
+ * here (Linux, 64 bits). tests/faults_test.py compares the names with those that the program asks of the C library.
  */
 #include <dlfcn.h>
 #include <errno.h>
@@ -47,8 +50,8 @@ static void start(void) {
 }
 
 static int writes(const char *name) {
-    static const char *const names[] = {"write", "writev", "fsync", "ftruncate64", "fchmod", "fchown", "fsetxattr", "link",
-                                        "linkat", "rename", "renameat2", "unlink", "mkdir"};
+    static const char *const names[] = {"write", "writev", "fsync", "ftruncate64", "fchmod", "fchown", "fsetxattr",
+                                        "link", "linkat", "rename", "renameat2", "unlink", "mkdir"};
     for (size_t i = 0; i < sizeof names / sizeof *names; i++)
         if (!strcmp(name, names[i])) return 1;
     return 0;

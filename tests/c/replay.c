@@ -1,10 +1,12 @@
 /*
- * Answers the cases of tests/operations.py by the functions of include/vizhuthamen.h, for comparison with the independent
- * model: with the library of x86-64, as a test of the header, and with those of other machines (tests/targets.py).
+ * Answers the cases of tests/operations.py by the functions of include/vizhuthamen.h, for comparison with the
+ * independent model: with the library of x86-64, as a test of the header, and with those of other machines
+ * (tests/targets.py).
  *
- * A case is a header of eight little-endian u64 (operation, lengths of a, b, c, d and e, x, y), then the bytes a, b, c, d
- * and e. Each gets one line of text: the code, the numbers in decimal, the bytes in hex. Outputs are lent full of a pattern:
- * with a code that writes none it must stay, and zeros are shown. Memory that is lent to be read must stay as it was.
+ * A case is a header of eight little-endian u64 (operation, lengths of a, b, c, d and e, x, y), then the bytes a, b, c,
+ * d and e. Each gets one line of text: the code, the numbers in decimal, the bytes in hex. Outputs are lent full of a
+ * pattern: with a code that writes none it must stay, and zeros are shown. Memory that is lent to be read must stay as
+ * it was.
  */
 #include <inttypes.h>
 #include <stdarg.h>

@@ -1,4 +1,5 @@
-// Answers that the differential test does not ask for: kinds, streams, raw archives by parts, texts, and a deal of 16 MiB from end to end.
+// Answers that the differential test does not ask for: kinds, streams, raw archives by parts, texts, and a deal of
+// 16 MiB from end to end.
 import assert from "node:assert/strict";
 import { execFileSync } from "node:child_process";
 import { test } from "node:test";
@@ -17,7 +18,8 @@ test("two houses book, cancel and collect", () => {
     const booking = vz.book(deal, table, house, new Uint8Array(128).fill(byte));
     assert.deepEqual(booking, { kind: "booked", position: { offset: place * 2 - 1536, place } });
   }
-  assert.deepEqual(vz.book(deal, table, 2, new Uint8Array(128).fill(1)), { kind: "alreadyKept", position: { offset: 128, place: 832 } });
+  assert.deepEqual(vz.book(deal, table, 2, new Uint8Array(128).fill(1)),
+    { kind: "alreadyKept", position: { offset: 128, place: 832 } });
   refused(Refusal.QUOTA, () => vz.book(deal, table, 1, new Uint8Array(1)));
   refused(Refusal.NOT_KEPT, () => vz.cancel(deal, table, 2, 768));
   assert.equal(vz.cancel(deal, table, 1, 768), undefined);
@@ -59,7 +61,8 @@ test("the log of a day", () => {
   const rows = [{ house: 2, commitment: deal.slice(320, 352), size: 100, offset: 128, place: 320 }];
   for (const each of libraries) assert.deepEqual(each.playback(512, log), { kind: "confirmed", rows });
   const twice = Buffer.concat([...kept.slice(0, 3), kept[2]].map(line.encode));
-  assert.deepEqual(vz.playback(512n, twice), { kind: "wrongLine", line: 4, ruling: { code: 15, offset: 128, place: 320 } });
+  assert.deepEqual(vz.playback(512n, twice),
+    { kind: "wrongLine", line: 4, ruling: { code: 15, offset: 128, place: 320 } });
   assert.deepEqual(vz.playback(MAX_DEAL, new Uint8Array(0)), { kind: "confirmed", rows: [] });
   refused(Refusal.FORM, () => vz.playback(512, log.subarray(1)));
   refused(Refusal.SIZE, () => vz.playback(511, log.subarray(1)));
@@ -82,7 +85,8 @@ test("a line there and back, with numbers of 64 bits", () => {
 
 test("where a log is malformed, in the words of the Rust crate", () => {
   const first = line.encode({ kind: "cancelling", house: 2, place: 1792, code: 16 });
-  const second = line.encode({ kind: "booking", house: 1, commitment: nodes(32), size: 300, code: 0, offset: 512, place: 1792 });
+  const second = line.encode(
+    { kind: "booking", house: 1, commitment: nodes(32), size: 300, code: 0, offset: 512, place: 1792 });
   const changed = (at, ...bytes) => {
     const other = Buffer.from(second);
     other.set(bytes, at);
@@ -111,7 +115,8 @@ test("lengths", () => {
   for (let size = 512; size <= MAX_DEAL; size *= 2) assert.equal(tableLength(size), vz.indexNumbers(size).entries);
   assert.deepEqual(vz.indexNumbers(2 ** 36), { entries: 524288, start: 68685922304 });
   assert.deepEqual([treeLength(512), treeLength(0), treeLength(512n)], [480, 0, 480]);
-  assert.deepEqual([0, 1, 127, 128, MAX_RAW, MAX_RAW + 1].map(segmentLength), [undefined, 2, 128, 130, 2 ** 23, undefined]);
+  assert.deepEqual([0, 1, 127, 128, MAX_RAW, MAX_RAW + 1].map(segmentLength),
+    [undefined, 2, 128, 130, 2 ** 23, undefined]);
   for (const length of [tableLength, treeLength, segmentLength]) {
     assert.throws(() => length("512"), TypeError);
     assert.throws(() => length(-1), RangeError);
@@ -128,7 +133,8 @@ test("a refusal says its code", () => {
 
 test("a deal of 16 MiB from end to end, by either module", () => {
   const answers = libraries.map((each) => {
-    const deal = nodes(MAX_DEAL - 8192), whole = new Uint8Array(MAX_DEAL), table = new Uint8Array(128), number = 2n ** 64n - 1n;
+    const deal = nodes(MAX_DEAL - 8192), whole = new Uint8Array(MAX_DEAL);
+    const table = new Uint8Array(128), number = 2n ** 64n - 1n;
     whole.set(deal);
     const tree = each.filledTree(whole), commitment = each.commitment(whole);
     assert.deepEqual(tree.slice(-32), commitment);
@@ -222,7 +228,8 @@ function parts(count) {
 test("the longest raw archives, of zeros", () => {
   assert.equal(2 ** 18 * RAW_PART, MAX_RAW_STREAM);
   const byte = new Uint8Array(1);
-  for (const [archive, rest, size, height] of [[parts(2 ** 17), undefined, 2 ** 35, 35], [parts(2 ** 17), byte, 2 ** 35 + 2, 36],
+  for (const [archive, rest, size, height] of [
+    [parts(2 ** 17), undefined, 2 ** 35, 35], [parts(2 ** 17), byte, 2 ** 35 + 2, 36],
     [parts(2 ** 18 - 1), byte, 2 ** 36 - 2 ** 18 + 2, 36], [parts(2 ** 18), undefined, 2 ** 36, 36]]) {
     assert.deepEqual(archive.end(rest), { commitment: zeros(height), size, area: 2 ** height });
   }
@@ -231,7 +238,9 @@ test("the longest raw archives, of zeros", () => {
 });
 
 test("lengths of raw archives", () => {
-  for (const length of [0, MAX_RAW + 1, 2 ** 53 - 1, 2n ** 64n - 1n]) refused(Refusal.SIZE, () => vz.unpad(length, new Uint8Array(64)));
+  for (const length of [0, MAX_RAW + 1, 2 ** 53 - 1, 2n ** 64n - 1n]) {
+    refused(Refusal.SIZE, () => vz.unpad(length, new Uint8Array(64)));
+  }
   refused(Refusal.SIZE, () => vz.pad(new Uint8Array(0)));
   refused(Refusal.SIZE, () => vz.pad(new Uint8Array(MAX_RAW + 1)));
   for (const length of [1, 127, 1000]) assert.deepEqual(vz.unpad(length, vz.pad(nodes(length))), nodes(length));
@@ -240,8 +249,11 @@ test("lengths of raw archives", () => {
 test("hex there and back", () => {
   const all = Uint8Array.from({ length: 256 }, (_, i) => i);
   assert.deepEqual(hex.decode(hex.encode(all)), all);
-  assert.deepEqual([hex.encode(Uint8Array.of(0, 1, 0xab, 0xff)), hex.decode("ABff")], ["0001abff", Uint8Array.of(0xab, 0xff)]);
-  for (const text of ["0", "0g", "+1", " 0", "0x", "ab ", "\u00e9", "a\u00e9b", "ab\n"]) assert.equal(hex.decode(text), undefined);
+  assert.deepEqual([hex.encode(Uint8Array.of(0, 1, 0xab, 0xff)), hex.decode("ABff")],
+    ["0001abff", Uint8Array.of(0xab, 0xff)]);
+  for (const text of ["0", "0g", "+1", " 0", "0x", "ab ", "\u00e9", "a\u00e9b", "ab\n"]) {
+    assert.equal(hex.decode(text), undefined);
+  }
   assert.throws(() => hex.decode(12), TypeError);
 });
 
@@ -261,19 +273,22 @@ test("a piece CID there and back", () => {
 /** The text of any bytes in base32. */
 function base32(bytes) {
   const bits = [...bytes].map((byte) => byte.toString(2).padStart(8, "0")).join("");
-  return "b" + bits.match(/.{1,5}/g).map((five) => "abcdefghijklmnopqrstuvwxyz234567"[parseInt(five.padEnd(5, "0"), 2)]).join("");
+  return "b" + bits.match(/.{1,5}/g)
+    .map((five) => "abcdefghijklmnopqrstuvwxyz234567"[parseInt(five.padEnd(5, "0"), 2)]).join("");
 }
 
 test("what is no piece CID, in the words of the command line", () => {
   const head = [1, 0x81, 0xe2, 3, 0x92, 0x20, 32], sevens = (count) => Array(count).fill(7);
-  const texts = ["z", ZEROS.slice(1), ZEROS.toUpperCase(), ZEROS.replace("g", "G"), `${ZEROS} `, "b\u00e9", "b", `${ZEROS.slice(0, 63)}z`,
-    `${ZEROS}a`, `${ZEROS}aa`, ZEROS.slice(0, 30), ZEROS.slice(0, 63)];
-  const bytes = [[0, ...head.slice(1), ...sevens(32)], [1, 0x55, 0x12, 32, ...sevens(32)], [1, 0x81, 0xe2, 3, 0x12, 32, ...sevens(32)],
-    [...head.slice(0, 6), 20, ...sevens(20)], [...head, ...sevens(31)], [...head, ...sevens(33)],
+  const texts = ["z", ZEROS.slice(1), ZEROS.toUpperCase(), ZEROS.replace("g", "G"), `${ZEROS} `, "b\u00e9", "b",
+    `${ZEROS.slice(0, 63)}z`, `${ZEROS}a`, `${ZEROS}aa`, ZEROS.slice(0, 30), ZEROS.slice(0, 63)];
+  const bytes = [[0, ...head.slice(1), ...sevens(32)], [1, 0x55, 0x12, 32, ...sevens(32)],
+    [1, 0x81, 0xe2, 3, 0x12, 32, ...sevens(32)], [...head.slice(0, 6), 20, ...sevens(20)],
+    [...head, ...sevens(31)], [...head, ...sevens(33)],
     [0x81, 0, ...head.slice(1), ...sevens(32)], Array(9).fill(0xff), [1, 0x81, 0xe2]];
   for (const text of [...texts, ...bytes.map(base32)]) {
     const words = said(text);
-    assert.throws(() => cid.decode(text), (error) => error instanceof NotAPieceCid && words.includes(error.message), `${text}: ${words}`);
+    assert.throws(() => cid.decode(text),
+      (error) => error instanceof NotAPieceCid && words.includes(error.message), `${text}: ${words}`);
   }
 });
 
@@ -281,7 +296,8 @@ test("what is no piece CID, in the words of the command line", () => {
 function said(text) {
   const program = fileURLToPath(new URL("target/cli/release/vizhuthamen", ROOT));
   try {
-    return execFileSync(program, ["check", text, "512", "/dev/null", "--number", "1"], { encoding: "utf8", stdio: "pipe" });
+    return execFileSync(program, ["check", text, "512", "/dev/null", "--number", "1"],
+      { encoding: "utf8", stdio: "pipe" });
   } catch (error) {
     return error.stderr;
   }

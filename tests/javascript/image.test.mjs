@@ -25,7 +25,8 @@ test("the functions of the modules and of the table are the header's", () => {
     assert.deepEqual(exported, ["__heap_base", "__stack_pointer", "memory", ...stated]);
     assert.deepEqual(WebAssembly.Module.imports(compiled), []);
   }
-  const table = [...text("javascript/vizhuthamen.mjs").matchAll(/^ {2}(vz_\w+): "(.*)",$/gm)].map(([, name, kinds]) => [name, kinds]);
+  const table = [...text("javascript/vizhuthamen.mjs").matchAll(/^ {2}(vz_\w+): "(.*)",$/gm)]
+    .map(([, name, kinds]) => [name, kinds]);
   const kinds = ([name, parameters]) => [name, parameters.map(([kind]) => kind).join(" ")];
   assert.deepEqual(Object.fromEntries(table), Object.fromEntries(Object.entries(HEADER.routines).map(kinds)));
 });
@@ -49,16 +50,20 @@ test("the states of an audit are the header's", () => {
 
 test("the lengths and the version are the header's", () => {
   for (const [name, length] of Object.entries(HEADER.lengths)) assert.equal(module[name], length, name);
-  assert.equal(`#define VZ_WRONG_LINE ${module.WRONG_LINE}`, text("include/vizhuthamen.h").match(/^#define VZ_WRONG_LINE .*$/m)[0]);
+  assert.equal(`#define VZ_WRONG_LINE ${module.WRONG_LINE}`,
+    text("include/vizhuthamen.h").match(/^#define VZ_WRONG_LINE .*$/m)[0]);
   assert.equal(module.VERSION, HEADER.version);
 });
 
 // What the Rust crate has besides: types that are bytes, iterators or texts here, and how many threads may work.
-const RUST_ALONE = ["Node", "NotANode", "Fields", "Lines", "Fault", "commitment_with_threads", "tree_fill_with_threads"];
+const RUST_ALONE = [
+  "Node", "NotANode", "Fields", "Lines", "Fault", "commitment_with_threads", "tree_fill_with_threads",
+];
 
 test("the names are the Rust crate's", () => {
   const uses = [...text("rust/src/lib.rs").matchAll(/^pub use \w+::(?:\{([^}]*)\}|(\w+));/gm)];
-  const crate = uses.flatMap(([, several, one]) => (several ?? one).split(",")).map((name) => name.trim()).filter(Boolean);
+  const crate = uses.flatMap(([, several, one]) => (several ?? one).split(","))
+    .map((name) => name.trim()).filter(Boolean);
   assert.ok(crate.length > 40);
   const typed = names(types, /^export (?:interface|type|class) (\w+)/gm);
   const here = new Set([...Object.keys(module), ...Object.keys(vz), ...typed]);
@@ -68,10 +73,12 @@ test("the names are the Rust crate's", () => {
 test("every export is typed, and nothing else", () => {
   assert.deepEqual(names(types, /^export (?:const|function|class) (\w+)/gm), Object.keys(module).sort());
   assert.deepEqual(members("Vizhuthamen"), Object.keys(vz).sort());
-  const own = (value) => Object.getOwnPropertyNames(Object.getPrototypeOf(value)).filter((name) => name !== "constructor").sort();
+  const own = (value) =>
+    Object.getOwnPropertyNames(Object.getPrototypeOf(value)).filter((name) => name !== "constructor").sort();
   assert.deepEqual(members("Streaming"), own(vz.streaming()));
   assert.deepEqual(members("RawStreaming"), own(vz.rawStreaming()));
-  const statics = [...types.matchAll(/^ {2}static readonly (\w+): (\d+);/gm)].map(([, name, number]) => [name, Number(number)]);
+  const statics = [...types.matchAll(/^ {2}static readonly (\w+): (\d+);/gm)]
+    .map(([, name, number]) => [name, Number(number)]);
   assert.deepEqual(Object.fromEntries(statics), Object.fromEntries(Object.entries(module.Refusal)));
   for (const name of ["hex", "cid", "line"]) {
     const body = types.match(new RegExp(`^export const ${name}: \\{([^]*?)^\\}`, "m"))[1];

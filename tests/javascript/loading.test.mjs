@@ -1,4 +1,5 @@
-// Where the WebAssembly module comes from: bytes, a Response, a URL, a compiled module, the file beside, the text of the module itself.
+// Where the WebAssembly module comes from: bytes, a Response, a URL, a compiled module, the file beside, the text of
+// the module itself.
 import assert from "node:assert/strict";
 import { execFileSync } from "node:child_process";
 import { copyFileSync, mkdtempSync, readFileSync, rmSync, writeFileSync } from "node:fs";

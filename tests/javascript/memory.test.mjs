@@ -1,4 +1,5 @@
-// What is lent: memory that stays with a refusal, that overlaps, that is of another kind; numbers; and the module's own memory.
+// What is lent: memory that stays with a refusal, that overlaps, that is of another kind; numbers; and the module's own
+// memory.
 import assert from "node:assert/strict";
 import { test } from "node:test";
 import vm from "node:vm";
@@ -61,7 +62,8 @@ test("every function is among the calls, and none is refused", () => {
 });
 
 test("memory of another kind is a TypeError, and changes nothing", () => {
-  const others = [null, "text", 7, {}, [1, 2], segment.buffer, new Uint16Array(64), new Int8Array(128), new DataView(segment.buffer)];
+  const others = [null, "text", 7, {}, [1, 2], segment.buffer, new Uint16Array(64), new Int8Array(128),
+    new DataView(segment.buffer)];
   for (const [name, given] of Object.entries(CALLS)) {
     const at = given().flatMap((value, i) => (value instanceof Uint8Array ? [i] : []));
     for (const i of at) {
@@ -73,7 +75,9 @@ test("memory of another kind is a TypeError, and changes nothing", () => {
       }
     }
   }
-  for (const other of others) assert.throws(() => vz.book(deal.slice(), table.slice(), 1, segment, { tree: other }), TypeError);
+  for (const other of others) {
+    assert.throws(() => vz.book(deal.slice(), table.slice(), 1, segment, { tree: other }), TypeError);
+  }
 });
 
 test("numbers that are none, or have too many bits", () => {
@@ -89,7 +93,9 @@ test("numbers that are none, or have too many bits", () => {
       for (const other of [-1, 1.5, NaN, Infinity, 2 ** 53, -1n, 2n ** 64n]) wrong(other, RangeError);
     }
   }
-  for (const house of [256, 257, 2n ** 63n]) assert.throws(() => vz.book(deal.slice(), table.slice(), house, segment), RangeError);
+  for (const house of [256, 257, 2n ** 63n]) {
+    assert.throws(() => vz.book(deal.slice(), table.slice(), house, segment), RangeError);
+  }
   refused(Refusal.SIZE, () => vz.indexNumbers(2n ** 64n - 1n));
   refused(Refusal.PLACE, () => vz.cancel(deal.slice(), table.slice(), 1, 2n ** 64n - 64n));
   refused(Refusal.HOUSE, () => vz.book(deal.slice(), table.slice(), 255, segment));
@@ -98,7 +104,8 @@ test("numbers that are none, or have too many bits", () => {
 test("a number and a BigInt are the same number", () => {
   assert.deepEqual(vz.build(deal, 7, 768n), record);
   assert.deepEqual(vz.makeEntry(commitment, 2 ** 53 - 1, 1n), vz.makeEntry(commitment, BigInt(2 ** 53 - 1), 1));
-  assert.deepEqual(vz.readEntry(vz.makeEntry(commitment, 2n ** 64n - 1n, 5)).entry, { commitment, offset: 2n ** 64n - 1n, size: 5n });
+  assert.deepEqual(vz.readEntry(vz.makeEntry(commitment, 2n ** 64n - 1n, 5)).entry,
+    { commitment, offset: 2n ** 64n - 1n, size: 5n });
 });
 
 // Calls that are refused, with the memory that they are lent to write.
@@ -144,7 +151,8 @@ test("what is written overlaps no other argument", () => {
   vz.treeRow(side.subarray(0, 128), side.subarray(128)); // side by side
   assert.deepEqual(side.slice(128, 160), vz.commitment(bytes(64)));
   vz.treeRow(bytes(0), bytes(0));
-  assert.deepEqual(vz.settleRecords(commitment, 1024, 7n, record, record), { kind: "same" }); // what is read may be lent twice
+  // what is read may be lent twice
+  assert.deepEqual(vz.settleRecords(commitment, 1024, 7n, record, record), { kind: "same" });
 });
 
 test("every view of bytes is read alike", () => {

@@ -1,6 +1,10 @@
 // A program that TypeScript accepts by javascript/vizhuthamen.d.mts, and lines that it must not accept.
-import { cid, hex, line, lines, load, MAX_RECORD, meaning, Refusal, SLOT_STATES, tableLength } from "../../javascript/vizhuthamen.mjs";
-import type { Booking, Field, ReadEntry, Settled, SlotState, Streaming, Vizhuthamen } from "../../javascript/vizhuthamen.mjs";
+import {
+  cid, hex, line, lines, load, MAX_RECORD, meaning, Refusal, SLOT_STATES, tableLength,
+} from "../../javascript/vizhuthamen.mjs";
+import type {
+  Booking, Field, ReadEntry, Settled, SlotState, Streaming, Vizhuthamen,
+} from "../../javascript/vizhuthamen.mjs";
 import type { Line, Playback } from "../../javascript/vizhuthamen.mjs";
 
 const vz: Vizhuthamen = await load(fetch("vizhuthamen.wasm"));

@@ -20,8 +20,8 @@ pub struct IpsecMb {
 }
 
 impl IpsecMb {
-    /// The manager for vectors of a number of bits; it stays for the whole run. With SHA instructions those of 128 and 256 bits
-    /// take them in the place of vectors.
+    /// The manager for vectors of a number of bits; it stays for the whole run. With SHA instructions those of 128 and
+    /// 256 bits take them in the place of vectors.
     pub fn new(bits: c_int) -> Option<IpsecMb> {
         // SAFETY: no argument is a pointer.
         let manager = unsafe { ipsec_mb_new(bits, with_sha_instructions().into()) };

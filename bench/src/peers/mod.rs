@@ -12,7 +12,8 @@ pub use openssl::OpenSsl;
 
 pub type Node = [u8; 32];
 
-/// An implementation of SHA-256. The rest follows from it, unless it has a way of its own to do the whole piece of work.
+/// An implementation of SHA-256. The rest follows from it, unless it has a way of its own to do the whole piece of
+/// work.
 pub trait Peer {
     fn name(&self) -> String;
 

@@ -255,7 +255,8 @@ fn records_of_deal<'a>(kept: &'a Kept, input: &'static str, repeats: usize) -> V
     ]
 }
 
-/// With the tree in hand: filling it, and its lowest row; booking, with the entry taken out again; building and settling.
+/// With the tree in hand: filling it, and its lowest row; booking, with the entry taken out again; building and
+/// settling.
 fn over_tree<'a>(kept: &'a Kept, input: &'static str, repeats: usize) -> Vec<Case<'a>> {
     let (deal, length, tree, nodes) = (&kept.deal, kept.deal.len(), &kept.tree, kept.tree.len());
     vec![
@@ -332,8 +333,8 @@ fn changes<'a>(kept: &'a Kept, input: &'static str, repeats: usize) -> Vec<Case<
     ]
 }
 
-/// A case that writes to a copy of the deal, into which the entry is put again before each call, of the tree, and of the
-/// table, in which the entry is the house's again.
+/// A case that writes to a copy of the deal, into which the entry is put again before each call, of the tree, and of
+/// the table, in which the entry is the house's again.
 fn change<'a>(
     function: &'static str,
     input: &'static str,

@@ -1,9 +1,11 @@
 //! Replays the cases of tests/operations.py on the library, for comparison with the independent model.
 //!
-//! A case is a header of eight little-endian u64 (operation, lengths of a, b, c, d and e, x, y), then the bytes a, b, c, d and e. Each
-//! gets one line of text: the code, the numbers in decimal, the bytes in hex. Values are zero where the library gives none.
+//! A case is a header of eight little-endian u64 (operation, lengths of a, b, c, d and e, x, y), then the bytes a, b,
+//! c, d and e. Each gets one line of text: the code, the numbers in decimal, the bytes in hex. Values are zero where
+//! the library gives none.
 //!
-//! Every case is run twice, by the safe functions and by the functions of the C interface; two answers that differ are an error.
+//! Every case is run twice, by the safe functions and by the functions of the C interface; two answers that differ are
+//! an error.
 mod operation;
 mod raw;
 mod safe;

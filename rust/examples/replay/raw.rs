@@ -1,5 +1,5 @@
-//! A case answered by the functions of the C interface. Outputs are lent full of a pattern: with a code that writes none the
-//! pattern must stay, and zeros are shown.
+//! A case answered by the functions of the C interface. Outputs are lent full of a pattern: with a code that writes
+//! none the pattern must stay, and zeros are shown.
 use super::{digest, pieces, Answer, Case, Line, Operation};
 use std::fmt::Write;
 use vizhuthamen::{ffi, ROWS, STREAM_STATE, WRONG_LINE};

@@ -115,8 +115,8 @@ fn row_bytes(row: &LedgerRow) -> Vec<u8> {
     [&[row.house], row.commitment.as_ref(), &size, &offset, &place].concat()
 }
 
-/// The lines that are read one by one are malformed somewhere exactly where the log is refused with 3, and are the log's
-/// bytes; the one that playback names does not say what the rules give for it.
+/// The lines that are read one by one are malformed somewhere exactly where the log is refused with 3, and are the
+/// log's bytes; the one that playback names does not say what the rules give for it.
 fn lines_agree(size: u64, log: &[u8], result: &Result<Playback, Refusal>) -> Result<(), Box<dyn Error>> {
     if *result == Err(Refusal::SIZE) {
         return Ok(());

@@ -5,7 +5,8 @@ use super::json::{self, Json};
 use std::path::{Path, PathBuf};
 use vizhuthamen::Refusal;
 
-/// An answer. Code 0 is shown by the values alone where there are any, every other code by a line of its own before them.
+/// An answer. Code 0 is shown by the values alone where there are any, every other code by a line of its own before
+/// them.
 #[derive(Debug)]
 pub struct Answer {
     code: u32,

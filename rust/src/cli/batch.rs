@@ -16,8 +16,8 @@ use vizhuthamen::{Refusal, MAX_DEAL, MAX_RAW, MAX_TABLE};
 /// Opening waits for nobody, and follows no link (O_NONBLOCK, O_NOFOLLOW).
 const PLAIN: i32 = 0o4000 | 0o400_000;
 
-/// No more different files are held, and no more bytes of areas, than two of the largest deals have: so many, and it can
-/// be told which of them do not fit.
+/// No more different files are held, and no more bytes of areas, than two of the largest deals have: so many, and it
+/// can be told which of them do not fit.
 const MOST_FILES: usize = 2 * MAX_TABLE;
 const MOST_BYTES: u64 = 2 * MAX_DEAL as u64;
 
@@ -30,7 +30,8 @@ pub struct Item {
     pub segment: Vec<u8>,
 }
 
-/// Files that are too many for a deal by far: how many they are, how many of these were read, and what is known of them.
+/// Files that are too many for a deal by far: how many they are, how many of these were read, and what is known of
+/// them.
 #[derive(Debug, PartialEq, Eq)]
 pub struct TooMany {
     pub given: usize,

@@ -258,8 +258,8 @@ fn build(deal: &Stream, number: Option<u64>, at: At, output: Output) -> Result<A
     put_or_show("record", vec![("number", Json::Number(number))], output, &record, &deal)
 }
 
-/// Writes bytes to the output and gives their length, and what else is to be told of them; shows them in hex where there
-/// is no output.
+/// Writes bytes to the output and gives their length, and what else is to be told of them; shows them in hex where
+/// there is no output.
 fn put_or_show(
     name: &'static str,
     told: Vec<(&'static str, Json)>,

@@ -85,7 +85,8 @@ pub fn usage(message: impl Display) -> Failure {
     Failure::new(USAGE, message)
 }
 
-/// A deal, a log, or the state of a stream, is damaged or is not what is known of it, and the call would make that worse.
+/// A deal, a log, or the state of a stream, is damaged or is not what is known of it, and the call would make that
+/// worse.
 pub fn data(message: impl Display) -> Failure {
     Failure::new(DATA, message)
 }

@@ -224,8 +224,8 @@ fn real(stream: &Stream) -> Option<PathBuf> {
     }
 }
 
-/// What is known of a deal that is read, which must have the length that is known, where it is a file. Nothing is known of
-/// a pipe or of a file without a name, nor where it may not be read.
+/// What is known of a deal that is read, which must have the length that is known, where it is a file. Nothing is known
+/// of a pipe or of a file without a name, nor where it may not be read.
 pub fn known(stream: &Stream, length: u64) -> Result<Option<Known>, Failure> {
     match real(stream).map(|real| store::known(&real, length)) {
         Some(Err(failure)) if failure.status == failure::DATA => Err(failure),

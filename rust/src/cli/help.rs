@@ -76,7 +76,8 @@ pub const TOPICS: &[Topic] = &[
         operands: &["DEAL", "SIZE"],
         options: &["number"],
         summary: "make an all-zero deal file",
-        text: "Makes the file DEAL with SIZE zero bytes. SIZE is a power of two from 512 to 16777216. A file that is there is
+        text: "\
+Makes the file DEAL with SIZE zero bytes. SIZE is a power of two from 512 to 16777216. A file that is there is
 never overwritten. Beside it goes DEAL.vz, a small text with the size, and with the deal's number where --number
 gives it: a deal that has another size than DEAL.vz says is neither read nor changed (exit status 65). DEAL.vz can
 be done without; the number is then given to each command that needs it. A DEAL.vz that was left by another deal,
@@ -90,7 +91,8 @@ there without it. A DEAL.owners that was left by another deal, with other bytes,
         operands: &["DEAL", "[N]"],
         options: &["instead-of", "no-wait"],
         summary: "show or keep the number of a deal",
-        text: "Prints the number that is kept of the deal in DEAL.vz; with N it keeps that one, from 0 to
+        text: "\
+Prints the number that is kept of the deal in DEAL.vz; with N it keeps that one, from 0 to
 18446744073709551615. A record names its deal by this number, and the bytes of the deal do not hold it. `build` and
 `settle-deal` take the kept number, and refuse any other that --number gives. Exit status 65: no number is kept.
 With --json a number above 2^53 - 1 is a text of its digits, which no reader rounds.
@@ -104,7 +106,8 @@ is locked as with `book`, and DEAL.vz is replaced as a whole; DEAL itself is not
         operands: &["DEAL", "[HOUSE]", "[PLACE...|--slot N]"],
         options: &["instead-of", "slot", "no-wait"],
         summary: "show or say which house owns which entries",
-        text: "Two houses, 1 and 2, book in one deal. Which of them an entry is of stands in the table DEAL.owners, one byte a
+        text: "\
+Two houses, 1 and 2, book in one deal. Which of them an entry is of stands in the table DEAL.owners, one byte a
 slot: 1 or 2 for the house, anything else for nobody; it counts only where the entry stands. `book` sets the
 slot's byte and `cancel` clears it, together with DEAL: both files are changed, or none is. Prints the owner of
 every entry that stands, and how many slots each house holds. A house that holds half the slots or more cannot
@@ -127,7 +130,8 @@ written.",
         operands: &["[--raw] FILE"],
         options: &["raw"],
         summary: "print the commitment of a file",
-        text: "Prints the commitment of the bytes of FILE in hex, with --cid as a piece CID. FILE has a power of two from 32 to
+        text: "\
+Prints the commitment of the bytes of FILE in hex, with --cid as a piece CID. FILE has a power of two from 32 to
 16777216 bytes.
 
 With --raw, FILE is a plain file of 1 to 68182605824 bytes: what is printed is the commitment of its segment, padded
@@ -138,7 +142,8 @@ and filled with zeros, as by `stream --raw`.",
         operands: &["[--raw] FILE"],
         options: &["raw", "state", "resume", "progress"],
         summary: "print the commitment of a file of up to 2^36 bytes, read in pieces",
-        text: "Prints the commitment of the bytes of FILE in hex, as `commit` does. FILE has a power of two from 32 to
+        text: "\
+Prints the commitment of the bytes of FILE in hex, as `commit` does. FILE has a power of two from 32 to
 68719476736 bytes; it is read in pieces and never held whole, so FILE may be - or a pipe that is slow. Of a regular
 file the size is judged first, before anything is read. Of a pipe bytes are judged as they arrive: a node with stray
 bits gets code 11 at once, whatever the size will be.
@@ -159,7 +164,8 @@ On a terminal the part that is done, the rate and the time that is left are show
         operands: &["RAW"],
         options: &["output", "force"],
         summary: "pad a raw archive to a segment (Fr32)",
-        text: "Pads the bytes of RAW, from 1 to 8323072 of them, to a segment: 254 bits and then two zero bits for every node of
+        text: "\
+Pads the bytes of RAW, from 1 to 8323072 of them, to a segment: 254 bits and then two zero bits for every node of
 32 bytes. The segment has 128/127 of the raw length, rounded up. With --output FILE the segment's bytes go to
 FILE and its length is printed; otherwise it is printed in hex, but not on a terminal.",
     },
@@ -168,7 +174,8 @@ FILE and its length is printed; otherwise it is printed in hex, but not on a ter
         operands: &["RAW_LENGTH", "SEGMENT"],
         options: &["output", "force"],
         summary: "take the raw bytes back out of a segment",
-        text: "Takes RAW_LENGTH raw bytes back out of the bytes of SEGMENT. Code 24: SEGMENT has another length than so many raw
+        text: "\
+Takes RAW_LENGTH raw bytes back out of the bytes of SEGMENT. Code 24: SEGMENT has another length than so many raw
 bytes give. Code 11: it has stray bits, or bits after the last raw one. A segment of T bytes made by `pad` has
 127 x T / 128 raw bytes, rounded down. With --output FILE the raw bytes go to FILE and their number is printed;
 otherwise they are printed in hex, but not on a terminal.",
@@ -178,7 +185,8 @@ otherwise they are printed in hex, but not on a terminal.",
         operands: &["DEAL", "[--raw] SEGMENT"],
         options: &["raw", "house", "log", "force", "reopen", "no-wait", "new-owner"],
         summary: "book a segment file into a deal file",
-        text: "Books the bytes of SEGMENT, already padded (see pad), into the file DEAL, and prints offset, entry place, size,
+        text: "\
+Books the bytes of SEGMENT, already padded (see pad), into the file DEAL, and prints offset, entry place, size,
 commitment and house. The size is from 1 byte to half of the deal; zeros follow up to the segment's area, the
 smallest power of two at or above both the size and 128. A segment that the house keeps in the deal already gets
 code 15, with its offset and entry place; what the other house keeps is booked again. Nothing is changed by any
@@ -216,7 +224,8 @@ they change an entry or its owner.",
         operands: &["FILE..."],
         options: &["deal", "size", "number", "records", "house", "log", "force", "reopen", "no-wait", "new-owner"],
         summary: "pack plain files and folders into a deal file, with a manifest",
-        text: "Pads (Fr32) each plain FILE, and each file of a folder FILE and of the folders in it, and books all of
+        text: "\
+Pads (Fr32) each plain FILE, and each file of a folder FILE and of the folders in it, and books all of
 them into the file DEAL in one change: all, or none where one does not fit. Beside DEAL goes the manifest
 DEAL.manifest.json, with the names, length, SHA-256, place, offset, size and commitment of each file (docs/FORMAT.md).
 What was booked and what is kept already, with place and offset, and the commitment of the deal are printed. A file
@@ -249,7 +258,8 @@ they are booked, all with that change. Where files do not fit nothing is booked,
         operands: &["DEAL", "[NAME...]"],
         options: &["to", "force", "no-wait"],
         summary: "write packed files out by their names",
-        text: "Writes the plain files with these names, all files below a name that is a folder, or all files of the
+        text: "\
+Writes the plain files with these names, all files below a name that is a folder, or all files of the
 manifest where no NAME is given, below the current folder, or below the one that --to names, which is made where it is
 not there. Each entry must be kept, and the unpadded bytes must have the length and the SHA-256 of the manifest; a
 file that is not so is not written and is named (exit status 65).
@@ -264,7 +274,8 @@ and it is said.",
         operands: &["DEAL"],
         options: &["records", "proofs", "force", "no-wait"],
         summary: "close a deal: its records and proofs are built from now on",
-        text: "Keeps in DEAL.vz that DEAL is closed, with its commitment, and prints commitment, size, number and the
+        text: "\
+Keeps in DEAL.vz that DEAL is closed, with its commitment, and prints commitment, size, number and the
 number of its entries. Every booking and every cancellation gives the deal another commitment, and all records that
 were built belong to the one before: from now on `book`, `cancel` and `pack` refuse DEAL (exit status 65) without
 --reopen, which opens it again with that change. DEAL itself is not written. `list` and `fsck` say that it is closed,
@@ -280,7 +291,8 @@ anew, and changes nothing else.",
         operands: &["DEAL", "PLACE|--slot N"],
         options: &["house", "commitment", "slot", "log", "reopen", "no-wait", "new-owner"],
         summary: "cancel an entry of a deal file",
-        text: "Cancels the entry of the house that stands at PLACE, a byte offset in the file DEAL, or in the slot of the number
+        text: "\
+Cancels the entry of the house that stands at PLACE, a byte offset in the file DEAL, or in the slot of the number
 that --slot gives (`list` shows both), whether it is kept or not, and prints what it said: offset, entry place, size
 and commitment, and the house. Its 64 bytes and its slot's byte of DEAL.owners are zeros afterwards, and no other
 byte changes. The slot is then free for booking, and so are the segment's bytes wherever no other standing entry
@@ -304,7 +316,8 @@ adds a line to the log, as with `book`.",
         operands: &["DEAL", "NEW"],
         options: &["number", "force", "no-wait"],
         summary: "write the segments of a deal without gaps to a new deal file",
-        text: "Makes the deal file NEW, of the same size as DEAL, of the segments whose entries stand in DEAL: all bytes of their
+        text: "\
+Makes the deal file NEW, of the same size as DEAL, of the segments whose entries stand in DEAL: all bytes of their
 areas, the larger ones first and equal ones by offset, packed from byte 0 on, and their entries from the first
 slot on in that order; all else is zero. For each entry its owner and the old and the new place and offset are
 printed, by new places. NEW.owners has each moved entry's byte as it was, nobody's too, for its new slot, and
@@ -328,7 +341,8 @@ out: where there is one, nothing is written and the exit status is 65, see fsck 
         operands: &["DEAL"],
         options: &[],
         summary: "list the index of a deal as a table",
-        text: "Lists every slot of the index: slot, entry place, state, owner, offset, size, commitment, and the names that the
+        text: "\
+Lists every slot of the index: slot, entry place, state, owner, offset, size, commitment, and the names that the
 manifest has for it, where there is one (see pack). The state is the first of these that applies:
   blank             all its bytes are zero
   damaged           its checksum is wrong
@@ -348,7 +362,8 @@ where the byte is another one.",
         operands: &["DEAL"],
         options: &[],
         summary: "judge every slot of a deal that another program may have made",
-        text: "Prints the table of `list`, and how many slots are in each of its states. Exit status 0: every slot is blank or
+        text: "\
+Prints the table of `list`, and how many slots are in each of its states. Exit status 0: every slot is blank or
 kept, as in a deal that only `book` and `pack`, `cancel` and `collect` have changed. Exit status 65: some are not.
 `fsck` says what is wrong with each, `repair` mends what is certain, and `salvage` writes out the segments that are
 whole, which can be booked into a new deal. Code 11: DEAL has stray bits, which `fsck` names. Nothing is changed.
@@ -361,7 +376,8 @@ says whose its entries are, before it is booked into.",
         operands: &["DEAL"],
         options: &[],
         summary: "count the blank, damaged and valid slots of a deal",
-        text: "Counts the slots of the index by their kind: blank (all 64 bytes are zero), damaged (the checksum is wrong) and
+        text: "\
+Counts the slots of the index by their kind: blank (all 64 bytes are zero), damaged (the checksum is wrong) and
 valid (the checksum is right, standing or not). Together they are all slots.",
     },
     Topic {
@@ -369,7 +385,8 @@ valid (the checksum is right, standing or not). Together they are all slots.",
         operands: &["DEAL", "COMMITMENT|--raw FILE"],
         options: &["raw", "output", "force"],
         summary: "find a segment by its commitment, or a plain file",
-        text: "Prints offset, size and entry place of the lowest slot that holds a kept entry with COMMITMENT.
+        text: "\
+Prints offset, size and entry place of the lowest slot that holds a kept entry with COMMITMENT.
 With --output FILE the segment's bytes go to FILE.
 
 With --raw FILE the segment of a plain file is found, padded as by `pad`: the lowest kept entry with its commitment
@@ -380,7 +397,8 @@ and its size. Code 16: it is not there; a note says what is there in its place."
         operands: &["DEAL", "PLACE|--slot N"],
         options: &["slot", "number", "output", "force"],
         summary: "build the inclusion record of an entry place",
-        text: "Builds the inclusion record of the kept entry at PLACE, a byte offset in the deal, or in the slot of
+        text: "\
+Builds the inclusion record of the kept entry at PLACE, a byte offset in the deal, or in the slot of
 the number that --slot gives; `list` shows both. It names the deal by the number that is kept of it (see number), or
 by the one that --number gives where none is kept. Exit status 65: the two differ, or there is neither. With --output
 FILE the record's bytes go to FILE, and length and number are printed; otherwise it is printed in hex, but not on a
@@ -391,7 +409,8 @@ terminal. The other commands read records as bytes.",
         operands: &["COMMITMENT", "SIZE", "RECORD"],
         options: &["number"],
         summary: "check a record against a deal's commitment, size and number",
-        text: "Checks the record in the file RECORD against the commitment, the size, a power of two from 512 to 68719476736,
+        text: "\
+Checks the record in the file RECORD against the commitment, the size, a power of two from 512 to 68719476736,
 and the number of a deal. Code 0: the record is accepted. Any other code comes with its reason in words (with --json
 as hint). Code 9: it does not belong to this commitment; a booking or a cancellation after the record was built gives
 the deal another one, and the record belongs to the older. Code 21: it names a deal of another number, which is
@@ -402,7 +421,8 @@ printed (with --json as record_number).",
         operands: &["COMMITMENT", "SIZE", "RECORD", "RECORD"],
         options: &["number"],
         summary: "settle two records of one deal",
-        text: "Checks two records against one deal's commitment, size and number, and compares them. Code 0: they are the
+        text: "\
+Checks two records against one deal's commitment, size and number, and compares them. Code 0: they are the
 same. Code 17: they differ and both are accepted; two different 64-byte strings with one node hash are printed in
 hex, the first record's as left. Any other code is that of the first record that is refused, and for each record it
 is said whether it is accepted, and why not (with --json in the list records). Code 18: both are accepted, and they
@@ -413,7 +433,8 @@ are of two different entries. Code 21: one names a deal of another number, which
         operands: &["DEAL", "RECORD"],
         options: &["number"],
         summary: "settle a record with the deal in hand",
-        text: "Checks a record against the commitment, the size and the number of the deal itself, and compares it with the
+        text: "\
+Checks a record against the commitment, the size and the number of the deal itself, and compares it with the
 deal. The number is chosen as with `build`. Code 0: it is the record that the deal gives. Code 17: it is accepted
 and is another one; two different 64-byte strings with one node hash are printed in hex, the record's as left. Code
 21: it names a deal of another number, which is printed.",
@@ -423,7 +444,8 @@ and is another one; two different 64-byte strings with one node hash are printed
         operands: &["SIZE", "LOG"],
         options: &[],
         summary: "play a log back: whether the rules give the answers that it says",
-        text: "Plays the lines of the file LOG back, as `book`, `cancel` and `pack` add them with --log, on an empty ledger for a
+        text: "\
+Plays the lines of the file LOG back, as `book`, `cancel` and `pack` add them with --log, on an empty ledger for a
 deal of SIZE bytes, a power of two from 512 to 16777216: each booking and each cancellation in turn is answered by
 the rules and compared with what its line says. Neither the deal nor the segments are needed.
 
@@ -442,7 +464,8 @@ its log: the new deal has other places. Nothing is changed; where a call adds a 
         operands: &["LOG"],
         options: &[],
         summary: "list the lines of a log",
-        text: "Lists the lines of the file LOG: number, the byte at which the line starts, what was asked by which house, the answer,
+        text: "\
+Lists the lines of the file LOG: number, the byte at which the line starts, what was asked by which house, the answer,
 and the offset, entry place, size and commitment. Whether the rules give these answers is not judged: see playback.
 Code 3: LOG is malformed; the lines before the fault are shown, and where it is.",
     },
@@ -451,7 +474,8 @@ Code 3: LOG is malformed; the lines before the fault are shown, and where it is.
         operands: &["RECORD"],
         options: &[],
         summary: "show the fields of a record",
-        text: "Shows the fields of a record in turn: tag, name, where the content starts, its length, the content. Numbers are
+        text: "\
+Shows the fields of a record in turn: tag, name, where the content starts, its length, the content. Numbers are
 in decimal, all else in hex, a path by its nodes. Code 3: the record is malformed; the fields before the fault are
 shown.",
     },
@@ -460,7 +484,8 @@ shown.",
         operands: &["DEAL"],
         options: &["no-wait"],
         summary: "find all that is wrong with a deal",
-        text: "Names every stray bit (its byte, its node, and whose area it lies in) and every slot that is not in
+        text: "\
+Names every stray bit (its byte, its node, and whose area it lies in) and every slot that is not in
 order:
   damaged       its checksum is wrong
   not standing  its checksum is right, but its size or its offset is not allowed
@@ -476,7 +501,8 @@ commitment than it was closed with, or its manifest does not agree with its entr
         operands: &["DEAL"],
         options: &["segment", "raw", "commitment", "place", "slot", "no-wait", "new-owner"],
         summary: "repair what can be told for certain",
-        text: "Clears stray bits, which no segment and no entry has. Makes the entry of each damaged slot anew where it can be
+        text: "\
+Clears stray bits, which no segment and no entry has. Makes the entry of each damaged slot anew where it can be
 told for certain: from its own bytes, where either its commitment or its checksum agrees with the bytes of the
 deal, or from the segment in hand: --segment or --raw names its file, --commitment its commitment. --place or
 --slot names the slot where several are damaged, or where it is not damaged but blank. With the segment in hand the
@@ -493,7 +519,8 @@ more. 65: something is left.",
         operands: &["DEAL", "FOLDER"],
         options: &["no-wait"],
         summary: "write out every segment that is whole for certain",
-        text: "Writes the segment of each entry that is kept, or would be after `repair`, to a file slot-N-COMMITMENT.segment in
+        text: "\
+Writes the segment of each entry that is kept, or would be after `repair`, to a file slot-N-COMMITMENT.segment in
 FOLDER, which is made where it is not there. DEAL is not changed, and may have stray bits. A file that is there
 stays: it must have the same bytes. Exit status 0: the segment of every slot that is not blank is written. 65:
 those of some are not, and they are named.",
@@ -503,12 +530,14 @@ those of some are not, and they are named.",
         operands: &["DEAL", "[--segment] FILE"],
         options: &["segment", "number", "place", "slot", "output", "force"],
         summary: "write the proof that a file is in a deal",
-        text: "Writes a proof file: a text (JSON) that says in words and members that the plain file FILE is in the deal, with its
+        text: "\
+Writes a proof file: a text (JSON) that says in words and members that the plain file FILE is in the deal, with its
 length and SHA-256, the deal's commitment, size and number, and the inclusion record that proves it. Whoever has
 FILE and the proof can check it with `verify`, and needs neither the deal nor the house.
 
 FILE is padded as by `pad`, and the lowest slot that keeps it is taken, or the one that --place or --slot names; with
---segment, FILE is a segment that was booked as it is. The number is chosen as with `build`. Code 16: DEAL does not keep FILE; a
+--segment, FILE is a segment that was booked as it is. The number is chosen as with `build`. Code 16: DEAL does not \
+keep FILE; a
 note says what it keeps in its place. The proof belongs to the commitment that DEAL has now: a booking or a
 cancellation gives DEAL another one.
 
@@ -519,7 +548,8 @@ The proof is written whole or not at all.",
         operands: &["PROOF", "FILE"],
         options: &["commitment", "size", "number"],
         summary: "say whether a proof proves that a file is in a deal",
-        text: "Says yes or no, and why: whether the proof file PROOF, as `prove` writes it, proves that FILE is in the deal. FILE is
+        text: "\
+Says yes or no, and why: whether the proof file PROOF, as `prove` writes it, proves that FILE is in the deal. FILE is
 padded and its commitment worked out, every member of PROOF is compared with the record in it and with FILE, and the
 record is checked. Nothing but the two files is needed.
 
@@ -536,7 +566,8 @@ there is given with --commitment, --size and --number; the answer says what it h
         operands: &["[COMMAND]"],
         options: &["man"],
         summary: "print help, of one command, or the man page",
-        text: "Prints the help of all commands, or that of COMMAND. With --man it prints the man page of the program
+        text: "\
+Prints the help of all commands, or that of COMMAND. With --man it prints the man page of the program
 (roff), as `make install` puts it in its place: vizhuthamen help --man | man -l -",
     },
     Topic {
@@ -544,7 +575,8 @@ there is given with --commitment, --size and --number; the answer says what it h
         operands: &["SHELL"],
         options: &[],
         summary: "print the completions for a shell: bash, zsh or fish",
-        text: "Prints a script that completes the commands, options and file names of this program in a shell: SHELL is
+        text: "\
+Prints a script that completes the commands, options and file names of this program in a shell: SHELL is
 bash, zsh or fish. `make install` puts all three in their places. In a bash without that:
 source <(vizhuthamen completions bash)",
     },
@@ -573,7 +605,8 @@ pub const ABOUT: &str = "deals, segments and inclusion records (FRC-0058), by a 
 pub const CONVENTIONS: &[(&str, &str)] = &[
     (
         "Conventions",
-        "Nodes are 64 hex digits; sizes, places, houses and deal numbers are decimal. A commitment is taken in hex or as a
+        "\
+Nodes are 64 hex digits; sizes, places, houses and deal numbers are decimal. A commitment is taken in hex or as a
 piece CID (baga6ea4seaq...), and shown as one with --cid. The file name - is standard input (for --output: standard
 output, without any other text there). -- ends the options. An output that is there is not replaced without --force,
 unless it has the very bytes already. Bytes are not written to a terminal. VIZHUTHAMEN_HOUSE in the environment is the
@@ -581,7 +614,8 @@ house where --house is not given.",
     ),
     (
         "Exit status",
-        "0 with code 0; with any other code that code, 1 to 24, and the line `code N: meaning` on standard output (on
+        "\
+0 with code 0; with any other code that code, 1 to 24, and the line `code N: meaning` on standard output (on
 standard error with --output -, where nothing else is written then);
 66 where verify says no and no code of the rules does, on standard output too;
 64 wrong usage; 65 a deal, a log, a proof, or the state of a stream, is damaged or is not what is known of it, or a
@@ -593,7 +627,8 @@ the deal or its log and --no-wait is given; each with a message on standard erro
 /// What is said of `--json`.
 pub const JSON: (&str, &str) = (
     "JSON",
-    "With --json every outcome is one object on one line of standard output, those with the exit statuses 64 to 75
+    "\
+With --json every outcome is one object on one line of standard output, those with the exit statuses 64 to 75
 too. It has `code`, the exit status; `meaning`; `command`, or null; the members of the answer, or `error`; and
 `hints`, a list of what can be done. Standard error is as without --json. A number above 2^53 - 1 is a text of its
 digits.",

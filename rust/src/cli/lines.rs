@@ -202,8 +202,8 @@ mod tests {
         let none = Answers { code: 14, offset: 0, place: 0 };
         assert_eq!(
             against(&booking(14, 0, 448), &none),
-            "says 14, no free place, with offset 0 and entry place 448; the rules give 14, no free place, with offset 0 and \
-             entry place 0"
+            "says 14, no free place, with offset 0 and entry place 448; the rules give 14, no free place, with offset \
+             0 and entry place 0"
         );
         assert_eq!(
             against(&booking(22, 0, 0), &none),
@@ -243,8 +243,8 @@ mod tests {
         let cut = "the log ends at byte 71, after 10 of the 13 bytes of a cancellation's line";
         let log = [&line, &cancelled[..10]].concat();
         assert_eq!(broken(&log, 512), (2, 61, 71, cut.to_string()));
-        let half = "the 8 bytes from byte 36 on say a segment of 0 bytes, and a segment has 1 byte or more, and at most half of \
-                    its deal's";
+        let half = "the 8 bytes from byte 36 on say a segment of 0 bytes, and a segment has 1 byte or more, and at \
+                    most half of its deal's";
         let mut none = line.clone();
         none[36] = 0;
         assert_eq!(broken(&none, u64::MAX), (1, 0, 36, half.to_string()));

@@ -177,8 +177,8 @@ impl Manifest {
         self.files.iter().find(|file| file.names.contains(name))
     }
 
-    /// The line of what a slot holds, or held before it was damaged: of its place, or else of the same segment, which the
-    /// other house may have listed. The manifest is up to date.
+    /// The line of what a slot holds, or held before it was damaged: of its place, or else of the same segment, which
+    /// the other house may have listed. The manifest is up to date.
     pub fn line_of(&self, slot: &Slot) -> Option<&Listed> {
         let same =
             |file: &&Listed| slot.standing().is_some_and(|entry| (entry.commitment, entry.size) == file.segment());

@@ -3,8 +3,8 @@ use super::survey::{self, allowed, area, overlap, Slot, State, Stray, Survey, Tr
 use std::cell::OnceCell;
 use vizhuthamen::{Entry, IndexNumbers, Node, ReadEntry, Refusal};
 
-/// Two checksums of 126 bits that differ in no more bits than this are one checksum with damaged bits: two of different entries
-/// differ in so few once in 2^40.
+/// Two checksums of 126 bits that differ in no more bits than this are one checksum with damaged bits: two of different
+/// entries differ in so few once in 2^40.
 const FEW_BITS: u32 = 24;
 
 /// A segment in hand: its commitment; its size and the bytes of its area, zeros after it, where they are known.
@@ -42,8 +42,8 @@ pub struct Mended {
     pub survey: Survey,
 }
 
-/// Mends a deal, with a segment in hand or without; a place names the one slot whose entry is made anew. Refusals: 2; 6 for the
-/// place.
+/// Mends a deal, with a segment in hand or without; a place names the one slot whose entry is made anew. Refusals: 2; 6
+/// for the place.
 pub fn mend(deal: &[u8], hand: Option<&Hand>, place: Option<u64>) -> Result<Mended, Refusal> {
     let before = survey::survey(deal)?;
     if place.is_some_and(|place| before.slots.iter().all(|slot| slot.place != place)) {
@@ -138,8 +138,8 @@ impl Mending {
         })
     }
 
-    /// Offset and size are whole: with the commitment of the area there, the checksum is right, or the commitment is the entry's own
-    /// and the checksum has some damaged bits.
+    /// Offset and size are whole: with the commitment of the area there, the checksum is right, or the commitment is
+    /// the entry's own and the checksum has some damaged bits.
     fn by_fields(&self, bytes: &[u8]) -> Option<Entry> {
         let (offset, size) = (number(bytes, 32), number(bytes, 40));
         let commitment = self.commitment(offset, size)?;
@@ -158,9 +158,9 @@ impl Mending {
         entries.find(|entry| checksum_apart(entry, bytes) == Some(0))
     }
 
-    /// The slot and the entry for the segment in hand: the slot that is named, or the only damaged one; an area of the deal that has
-    /// the commitment and no other entry, at best the one that the slot's bytes name; and the segment's size, or that of the slot's
-    /// bytes where the checksum agrees.
+    /// The slot and the entry for the segment in hand: the slot that is named, or the only damaged one; an area of the
+    /// deal that has the commitment and no other entry, at best the one that the slot's bytes name; and the segment's
+    /// size, or that of the slot's bytes where the checksum agrees.
     fn in_hand(&self, slots: &[Slot], hand: &Hand, place: Option<u64>) -> Option<(Slot, Entry)> {
         let mut open = slots.iter().filter(|slot| match place {
             Some(place) => slot.place == place && matches!(slot.state, State::Blank | State::Damaged),

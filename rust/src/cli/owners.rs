@@ -174,7 +174,8 @@ fn missing(file: &str, standing: usize, deal: &str) -> Failure {
 /// The table has not one byte a slot.
 fn wrong_length(file: &str, length: u64, slots: usize, deal: &str) -> Failure {
     failure::data(format!("{file} has {length} bytes, and {deal} has {slots} slots, with a byte each")).hint(format!(
-        "bring back the right table, or remove it and say whose the entries are: vizhuthamen owner {deal} HOUSE [PLACE...]"
+        "bring back the right table, or remove it and say whose the entries are: vizhuthamen owner {deal} HOUSE \
+         [PLACE...]"
     ))
 }
 

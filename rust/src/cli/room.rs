@@ -130,8 +130,8 @@ fn more(room: &Room, name: &str) -> Option<String> {
     match room.collected_area {
         // Some entry is nobody's: of two houses that hold all slots each holds half.
         _ if room.free_slots == 0 => Some(format!(
-            "a slot is freed by: vizhuthamen cancel {name} PLACE, and one that is nobody's after: vizhuthamen owner {name} \
-             HOUSE PLACE; a second deal is made by: vizhuthamen new"
+            "a slot is freed by: vizhuthamen cancel {name} PLACE, and one that is nobody's after: vizhuthamen owner \
+             {name} HOUSE PLACE; a second deal is made by: vizhuthamen new"
         )),
         Some(after) if after > room.largest_area => {
             Some(format!("without the gaps the largest would have {after} bytes: vizhuthamen collect {name} NEW"))
@@ -209,8 +209,8 @@ mod tests {
         assert_eq!((room.free_bytes, room.largest_area, room.collected_area), (512, 256, None));
     }
 
-    /// Of every deal that a row of bookings and cancellations of two houses leaves: a segment of the size that is told is
-    /// booked by a house that holds fewer than half of the slots, and one of a byte more is not.
+    /// Of every deal that a row of bookings and cancellations of two houses leaves: a segment of the size that is told
+    /// is booked by a house that holds fewer than half of the slots, and one of a byte more is not.
     #[test]
     fn what_is_told_is_what_the_library_books() {
         let mut state = 58u64;

@@ -1,5 +1,6 @@
-//! What the slots of a deal hold, whatever the deal's bytes are. The library is asked of each slot and of each area alone, so that stray
-//! bits in one place hide nothing elsewhere, and each area is hashed once however many entries name it.
+//! What the slots of a deal hold, whatever the deal's bytes are. The library is asked of each slot and of each area
+//! alone, so that stray bits in one place hide nothing elsewhere, and each area is hashed once however many entries
+//! name it.
 use std::collections::{BTreeSet, HashMap};
 use vizhuthamen::{Entry, IndexNumbers, Node, ReadEntry, Refusal, SlotState, MAX_DEAL};
 
@@ -192,7 +193,8 @@ fn judge_kept(deal: &[u8], slots: &mut [Slot]) {
     }
 }
 
-/// The commitments of areas of a deal, each node hashed once. An area within which another is wanted is hashed from its halves.
+/// The commitments of areas of a deal, each node hashed once. An area within which another is wanted is hashed from its
+/// halves.
 struct Areas<'d> {
     deal: &'d [u8],
     wanted: BTreeSet<(u64, u64)>,

@@ -47,8 +47,8 @@ fn what_to_do(deal: &str) -> [String; 2] {
     [
         format!("what is wrong with each slot, and which slot another overlaps, is shown by: vizhuthamen fsck {deal}"),
         format!(
-            "the segments that are whole are written out by: vizhuthamen salvage {deal} FOLDER; they can be booked into \
-             a new deal"
+            "the segments that are whole are written out by: vizhuthamen salvage {deal} FOLDER; they can be booked \
+             into a new deal"
         ),
     ]
 }

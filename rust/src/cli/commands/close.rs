@@ -29,8 +29,8 @@ pub fn close(closing: &Closing) -> Result<Answer, Failure> {
     }
     below::write(&built.outputs, closing.force)?;
     let answer = told(&deal, commitment, closing, &built)?.with_note(format!(
-        "{name} is closed: records and proofs are built from now on, for this commitment; book, cancel and pack refuse it \
-         without --reopen"
+        "{name} is closed: records and proofs are built from now on, for this commitment; book, cancel and pack refuse \
+         it without --reopen"
     ));
     let numberless = deal.number().is_none().then(|| number::needed(name));
     Ok(nameless.into_iter().chain(numberless).fold(answer, Answer::with_note))
@@ -71,8 +71,8 @@ fn nameless(deal: &[u8], manifest: &Manifest, name: &str) -> Result<Option<Strin
     let count = slots.iter().filter(|slot| slot.standing().is_some() && !listed(slot.place)).count();
     Ok((count > 0).then(|| {
         format!(
-            "the manifest of {name} has no names for {count} of its entries, and nothing is written for these; the record \
-             of one is built by: vizhuthamen build {name} PLACE"
+            "the manifest of {name} has no names for {count} of its entries, and nothing is written for these; the \
+             record of one is built by: vizhuthamen build {name} PLACE"
         )
     }))
 }

@@ -78,8 +78,8 @@ fn notes_of(old: &str, new: &str, number: Option<u64>, kept: Option<u64>) -> Vec
         )
     });
     let records = format!(
-        "records that were built from {old} belong to its commitment; those of {new} are built anew, at the new places; a log of \
-         {old} ends here, and {new} has none"
+        "records that were built from {old} belong to its commitment; those of {new} are built anew, at the new \
+         places; a log of {old} ends here, and {new} has none"
     );
     handed_on.into_iter().chain([records]).collect()
 }

@@ -160,7 +160,8 @@ impl Wrong {
             let Slot { number, place, .. } = slot;
             let byte = owner.0;
             self.lines.push(format!(
-                "slot {number} (place {place}) has the owner byte {byte}: {why}; 0 is put there by: vizhuthamen owner {name} 0"
+                "slot {number} (place {place}) has the owner byte {byte}: {why}; 0 is put there by: vizhuthamen owner \
+                 {name} 0"
             ));
             self.odd.push(Json::Object(vec![
                 ("slot", Json::Number(*number)),

@@ -99,8 +99,8 @@ impl Housed {
             false => answer,
             true => {
                 let hint = format!(
-                    "house {house} may hold {half} of the {slots} slots of {name}, half of them, and holds {held}: it books \
-                     {} more",
+                    "house {house} may hold {half} of the {slots} slots of {name}, half of them, and holds {held}: it \
+                     books {} more",
                     half.saturating_sub(held)
                 );
                 let members = vec![("held", Json::Number(held as u64)), ("hint", text(&hint))];
@@ -128,8 +128,9 @@ impl Housed {
         let (held, slots) = (self.owners.held(&self.slots).by(self.house()), self.slots.len());
         let (house, name) = (self.number, &deal.name);
         let hint = format!(
-            "house {house} holds {held} of the {slots} slots of {name}, and books while it holds fewer than half of them: \
-             cancel an entry of house {house} first, or take another deal; they are shown by: vizhuthamen owner {name}"
+            "house {house} holds {held} of the {slots} slots of {name}, and books while it holds fewer than half of \
+             them: cancel an entry of house {house} first, or take another deal; they are shown by: vizhuthamen owner \
+             {name}"
         );
         let members = vec![("held", Json::Number(held as u64)), ("hint", text(&hint))];
         room::told_to_house(answer.with_text(String::new(), members).with_hint(hint), deal, house)

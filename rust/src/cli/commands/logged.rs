@@ -58,8 +58,8 @@ impl Logged {
         self.file.is_some()
     }
 
-    /// The log will get these lines, where one is asked for. Refused unless playback confirms the log with them, and its
-    /// rows are the entries of the deal after the call.
+    /// The log will get these lines, where one is asked for. Refused unless playback confirms the log with them, and
+    /// its rows are the entries of the deal after the call.
     pub fn will_get(&mut self, new: &[Line], called: &Called) -> Result<(), Failure> {
         let Some(log) = self.file.as_mut().filter(|_| !new.is_empty()) else { return Ok(()) };
         let size = called.new_deal.len() as u64;

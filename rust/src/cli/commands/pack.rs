@@ -65,8 +65,8 @@ pub fn pack(packing: &Packing) -> Result<Answer, Failure> {
     Ok(note.into_iter().fold(answer, Answer::with_note))
 }
 
-/// Makes a deal that holds the files, as `new` does, once they are known to fit, and the log to be one for it. What could
-/// not be done beside it and the plan for it, or the refusal.
+/// Makes a deal that holds the files, as `new` does, once they are known to fit, and the log to be one for it. What
+/// could not be done beside it and the plan for it, or the refusal.
 #[allow(clippy::type_complexity)]
 fn make(
     path: &Path,

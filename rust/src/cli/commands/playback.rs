@@ -96,8 +96,8 @@ fn wrong_line(number: u64, ruling: &Answers, log: &Content, size: u64) -> Result
         .with_note("what the deal holds is shown by: vizhuthamen list DEAL".to_string()))
 }
 
-/// What is known of the other lines, and where they are shown. A place that no deal of that size has tells that the size
-/// is not the log's.
+/// What is known of the other lines, and where they are shown. A place that no deal of that size has tells that the
+/// size is not the log's.
 fn next_steps(number: u64, line: &Line, log: &Content, size: u64) -> String {
     let before = if number == 1 { "" } else { "every line before it is confirmed; " };
     let shown = format!("{before}no line after it is judged; all are shown by: vizhuthamen log {}", log.operand());

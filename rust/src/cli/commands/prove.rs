@@ -60,8 +60,8 @@ fn if_packed(failure: Failure, deal: &Stream, file: &Stream) -> Failure {
 /// What a deal that is not closed does to its proofs.
 fn not_closed(name: &str) -> String {
     format!(
-        "{name} is not closed: the next booking or cancellation gives it another commitment, and this proof is then one \
-         of an older deal; it is closed by: vizhuthamen close {name}"
+        "{name} is not closed: the next booking or cancellation gives it another commitment, and this proof is then \
+         one of an older deal; it is closed by: vizhuthamen close {name}"
     )
 }
 

@@ -15,7 +15,8 @@ use std::fs;
 use std::path::{Path, PathBuf};
 use vizhuthamen::Entry;
 
-/// Writes the segment of each entry that is kept, or would be after a repair, to a file of its own. The deal is not changed.
+/// Writes the segment of each entry that is kept, or would be after a repair, to a file of its own. The deal is not
+/// changed.
 pub fn salvage(deal: &Stream, folder: &Path, wait: bool) -> Result<Answer, Failure> {
     let read = read(deal, wait)?;
     let progress = Progress::start("salvaging", read.deal.bytes.len());

@@ -58,8 +58,8 @@ impl Unfit {
         let given = self.given;
         if self.files.iter().any(|(_, refusal)| *refusal == Refusal::SIZE) {
             return vec![format!(
-                "a file of more than {MAX_RAW} bytes is in no deal: leave it out; its commitment is printed by: vizhuthamen \
-                 stream --raw FILE"
+                "a file of more than {MAX_RAW} bytes is in no deal: leave it out; its commitment is printed by: \
+                 vizhuthamen stream --raw FILE"
             )];
         }
         let is_there = deal.metadata.is_some();
@@ -69,8 +69,8 @@ impl Unfit {
             }
             Some(size) => format!("a deal of {size} bytes holds all {given}: give --size {size}, or no --size"),
             None => format!(
-                "no deal holds all {given} for one house: pack those that are named into further ones (another --deal, each \
-                 with a --number of its own), and the others here"
+                "no deal holds all {given} for one house: pack those that are named into further ones (another --deal, \
+                 each with a --number of its own), and the others here"
             ),
         };
         let by_quota = self.files.iter().all(|(_, refusal)| *refusal == Refusal::QUOTA);
@@ -104,8 +104,8 @@ pub fn too_many(too_many: &TooMany) -> Answer {
     let refusal = if different > slots { Refusal::QUOTA } else { Refusal::NO_PLACE };
     let deals = different.div_ceil(slots).max((areas as usize).div_ceil(room));
     let hint = format!(
-        "{given} files are given, at least {different} of them different, which take up {areas} bytes; a deal has at most \
-         {slots} files of a house, and {room} bytes for them: they need {deals} deals or more"
+        "{given} files are given, at least {different} of them different, which take up {areas} bytes; a deal has at \
+         most {slots} files of a house, and {room} bytes for them: they need {deals} deals or more"
     );
     let members = vec![
         ("given", Json::Number(given as u64)),

@@ -34,7 +34,8 @@ impl Fill<'_> {
     }
 }
 
-/// A whole file, flushed to the disk and locked, that is not in its place yet. If it has a name, the name goes when this is dropped.
+/// A whole file, flushed to the disk and locked, that is not in its place yet. If it has a name, the name goes when
+/// this is dropped.
 pub struct Aside<'a> {
     file: File,
     name: PathBuf,
@@ -107,7 +108,8 @@ impl<'a> Aside<'a> {
         Ok(())
     }
 
-    /// The answer of a call that gives the file a name. One that failed may have done so all the same, as over a network.
+    /// The answer of a call that gives the file a name. One that failed may have done so all the same, as over a
+    /// network.
     fn has(&self, name: &Path, answer: io::Result<()>) -> io::Result<()> {
         answer.or_else(|error| match leads_to(name, &self.file) {
             Ok(true) => Ok(()),

@@ -39,7 +39,8 @@ impl<'a> Attributes<'a> {
     }
 }
 
-/// Gives a new file the owner, the extended attributes and the permissions of the old one. What cannot be kept is refused.
+/// Gives a new file the owner, the extended attributes and the permissions of the old one. What cannot be kept is
+/// refused.
 pub fn keep(new: &File, keep: &Keep) -> Result<(), String> {
     let old = keep.old.metadata().map_err(|error| format!("its attributes cannot be read: {error}"))?;
     keep_owner(new, &old, keep.new_owner)?;

@@ -30,8 +30,9 @@ pub enum Trouble {
     Made(String),
 }
 
-/// Puts files in their places; they are all in the folder of the home, whose names are used in between. `still` is asked last of all
-/// before the change, and can stop it. The caller holds the lock of the deal, or the change is one file.
+/// Puts files in their places; they are all in the folder of the home, whose names are used in between. `still` is
+/// asked last of all before the change, and can stop it. The caller holds the lock of the deal, or the change is one
+/// file.
 pub fn put(home: &Home, parts: &[Part], still: impl Fn() -> Result<(), String>) -> Result<(), Trouble> {
     put_logged(home, parts, None, still)
 }
@@ -64,8 +65,8 @@ pub fn put_logged(
     }
 }
 
-/// Several files that are put in their places, and lines that are added to a log, with a journal from before the first of
-/// it to after the last.
+/// Several files that are put in their places, and lines that are added to a log, with a journal from before the first
+/// of it to after the last.
 struct Together<'c, 'a> {
     home: &'c Home,
     parts: &'c [Part<'a>],
@@ -84,7 +85,8 @@ impl Together<'_, '_> {
         flush(folder).map_err(not_flushed).map_err(Trouble::Nothing)?;
         let unchanged = || self.log.as_ref().map_or(Ok(()), |log| log.unchanged());
         still().and_then(|()| unchanged()).map_err(Trouble::Nothing)?;
-        // With the journal in place the change is made, whoever ends it; before the first rename it can still be taken back.
+        // With the journal in place the change is made, whoever ends it; before the first rename it can still be taken
+        // back.
         if !aside.make(&self.home.journal(), held).map_err(Trouble::Nothing)? {
             return Err(Trouble::Nothing(format!("{} is in the way", near(self.home.journal()))));
         }
@@ -121,8 +123,8 @@ impl Together<'_, '_> {
     }
 }
 
-/// Ends a change whose journal is in place. Says whether there was one. The caller holds the lock of the deal; that of a
-/// log is waited for unless that is not wanted.
+/// Ends a change whose journal is in place. Says whether there was one. The caller holds the lock of the deal; that of
+/// a log is waited for unless that is not wanted.
 pub fn end(home: &Home, wait: bool) -> Result<bool, Failure> {
     let path = home.journal();
     let failed = |error: io::Error| failure::io(unfinished(home, &error));

@@ -33,8 +33,8 @@ pub struct NewDeal<'a> {
     pub number: Option<u64>,
 }
 
-/// Makes a deal file with its table and its manifest, all or none, and keeps its number beside it where it is known. A file that
-/// is there stays. Says what could not be done beside it, and can be done without.
+/// Makes a deal file with its table and its manifest, all or none, and keeps its number beside it where it is known. A
+/// file that is there stays. Says what could not be done beside it, and can be done without.
 pub fn create(given: &Path, new: &NewDeal, attributes: Attributes) -> Result<Option<String>, Failure> {
     let (name, home) = (shown(given), Home::of(given));
     let known = Known::new(new.fill.length(), new.number);

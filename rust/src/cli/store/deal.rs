@@ -38,8 +38,8 @@ pub struct DealFile {
 }
 
 impl DealFile {
-    /// Opens a deal for a change: nobody else changes it as long as this is there. It must be a regular file with one name that the
-    /// caller may write, and have the size that is known of it.
+    /// Opens a deal for a change: nobody else changes it as long as this is there. It must be a regular file with one
+    /// name that the caller may write, and have the size that is known of it.
     pub fn open(given: &Path, access: Access) -> Result<DealFile, Failure> {
         let deal = DealFile::lock(given, access, Share::Nobody)?;
         let cannot = |error| failure::io(format!("cannot clean up beside {}: {error}", shown(given)));
@@ -212,11 +212,13 @@ impl DealFile {
     pub fn open_or(&mut self, reopen: bool) -> Result<(), Failure> {
         match self.closed() {
             Some(node) if !reopen => Err(failure::data(format!(
-                "{} is closed: records and proofs are built for its commitment {node}, and any change of the deal would \
-                 make all of them belong to an older one; nothing is changed",
+                "{} is closed: records and proofs are built for its commitment {node}, and any change of the deal \
+                 would make all of them belong to an older one; nothing is changed",
                 self.content.name
             ))
-            .hint("put what is new into another deal, or give --reopen, and build all records and proofs anew afterwards")),
+            .hint(
+                "put what is new into another deal, or give --reopen, and build all records and proofs anew afterwards",
+            )),
             Some(_) => {
                 self.next = self.next.with_closed(None);
                 Ok(())
@@ -251,8 +253,8 @@ impl DealFile {
         Part { target: self.home.sidecar(), bytes: known.text().as_bytes(), keep: Some(keep) }
     }
 
-    /// The part that makes a copy of the deal as it was read, beside it: its target is a name that nothing has. None where there is
-    /// such a copy already.
+    /// The part that makes a copy of the deal as it was read, beside it: its target is a name that nothing has. None
+    /// where there is such a copy already.
     pub fn copy(&self) -> Result<(PathBuf, Option<Part<'_>>), Failure> {
         for number in 0.. {
             let target = self.home.copy(number);

@@ -1,9 +1,9 @@
 //! A log: a file that grows in place, by the lines of a change, under its own lock.
 //!
-//! Whoever adds lines holds the lock of the deal first and then that of the log, to the end of the change; whoever reads
-//! a log shares its lock. The lines are decided with the change: its journal has the log's name, its length before and
-//! the lines, so that whoever ends the change can tell whether they are there, in part or not at all. A log may lie
-//! anywhere, on another file system too; it is never replaced, since it may be long, and may be watched.
+//! Whoever adds lines holds the lock of the deal first and then that of the log, to the end of the change; whoever
+//! reads a log shares its lock. The lines are decided with the change: its journal has the log's name, its length
+//! before and the lines, so that whoever ends the change can tell whether they are there, in part or not at all. A log
+//! may lie anywhere, on another file system too; it is never replaced, since it may be long, and may be watched.
 use super::aside::{is_free, is_there, leads_to};
 use super::change;
 use super::journal::{Growth, LOG};
@@ -220,8 +220,8 @@ pub fn end(growth: &Growth, home: &Home, writer: u32, wait: bool) -> Result<(), 
     }
 }
 
-/// How many of the new bytes are there, one after the other. None where something else is in their place: all that a cut
-/// or a power failure leaves there is a part of them, and zeros in the place of others.
+/// How many of the new bytes are there, one after the other. None where something else is in their place: all that a
+/// cut or a power failure leaves there is a part of them, and zeros in the place of others.
 fn left_of(growth: &Growth, log: &[u8]) -> Option<usize> {
     let there = log.get(usize::try_from(growth.before).ok()?..)?;
     let same = there.iter().zip(&growth.bytes).take_while(|(a, b)| a == b).count();
@@ -270,8 +270,8 @@ impl Unfinished {
         format!("or, if it is lost for good, take the line that begins with `{LOG}` out of {}", self.journal)
     }
 
-    /// A journal lies in a folder that others may write, too, and a log anywhere. So it is obeyed only where whoever has
-    /// written it could have written the log himself: the caller, root, or the log's owner.
+    /// A journal lies in a folder that others may write, too, and a log anywhere. So it is obeyed only where whoever
+    /// has written it could have written the log himself: the caller, root, or the log's owner.
     fn may_be_ended(&self, writer: u32, log: Option<&Metadata>) -> Result<(), Failure> {
         let regular = log.is_none_or(Metadata::is_file);
         let his = writer == 0 || writer == system::user() || log.is_some_and(|log| log.uid() == writer);

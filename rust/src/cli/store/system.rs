@@ -1,4 +1,5 @@
-//! Functions of the system that std does not have, declared by hand as the C library (Linux, 64 bits) has them, each behind a safe one.
+//! Functions of the system that std does not have, declared by hand as the C library (Linux, 64 bits) has them, each
+//! behind a safe one.
 use std::ffi::{c_char, c_int, c_uint, c_void, CStr, CString};
 use std::fs::{File, OpenOptions};
 use std::io;
@@ -194,7 +195,8 @@ pub fn has_come(signals: &Signals) -> bool {
 /// Whether standard output was closed when the process began.
 static OUTPUT_CLOSED: AtomicBool = AtomicBool::new(false);
 
-/// Runs before main: std opens /dev/null in the place of a closed standard output, after which nothing shows that it was closed.
+/// Runs before main: std opens /dev/null in the place of a closed standard output, after which nothing shows that it
+/// was closed.
 extern "C" fn look_at_output() {
     // SAFETY: asks for the flags of a descriptor, which may be closed.
     OUTPUT_CLOSED.store(unsafe { fcntl(1, F_GETFD) } == -1, Ordering::Relaxed);
