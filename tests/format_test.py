@@ -21,6 +21,7 @@ from operations import MODEL
 from vectors_test import data, vz
 
 TEXT = (ROOT / "docs" / "FORMAT.md").read_text()
+PROSE = " ".join(TEXT.split())  # wherever its lines end
 CHECKS = [case for case in json.loads((ROOT / "vectors" / "vectors.json").read_text())["cases"]
           if case["routine"] == "check"]
 SEGMENTS = b"\x01" * 128, b"\x02" * 100  # as the document says of its example
@@ -104,7 +105,7 @@ def sizes(rows):
 
 def deal_table(rows):
     same("the deal", laid_out(rows), *booked())
-    root = bytes.fromhex(re.search(r"Its commitment is\s+`([0-9a-f]{64})`", TEXT)[1])
+    root = bytes.fromhex(re.search(r"Its commitment is `([0-9a-f]{64})`", PROSE)[1])
     same("the deal's commitment", root, MODEL.commitment(booked()[0])[1], vz.commitment(booked()[1]))
 
 
@@ -248,7 +249,7 @@ def zeros_table(rows):
 
 def example_proof():
     """The plain file of the example's proof and the members, by the model."""
-    file = told(re.search(r"whose segment is the second one above: (.*)\.", TEXT)[1])
+    file = told(re.search(r"whose segment is the second one above: ([^.]*)\.", PROSE)[1])
     return file, proofs.members(booked()[0], NUMBER, PLACE, file, "letter.txt")
 
 
@@ -304,11 +305,11 @@ def main():
     same("the tables that are read", sorted(read), sorted(TABLES))
     for head, rows in read.items():
         TABLES[head](rows)
-    shortest, longest = map(int, re.search(r"has (\d+) to (\d+) bytes\.", TEXT).groups())
+    shortest, longest = map(int, re.search(r"has (\d+) to (\d+) bytes\.", PROSE).groups())
     lengths = [len(data(case["inputs"]["record"])) for case in CHECKS if case["code"] == 0]
     same("the lengths of accepted records", (shortest, longest), (min(lengths), max(lengths)))
     same("the longest record", longest, vz.MAX_RECORD, defined("VZ_MAX_RECORD"))
-    same("the longest raw archive", int(re.search(r"1 to (\d+) bytes becomes", TEXT)[1]), MAX_RAW, vz.MAX_RAW,
+    same("the longest raw archive", int(re.search(r"1 to (\d+) bytes becomes", PROSE)[1]), MAX_RAW, vz.MAX_RAW,
          defined("VZ_MAX_RAW"))
     print(f"format_test: {len(read)} tables of docs/FORMAT.md are those of the model and the library")
 
