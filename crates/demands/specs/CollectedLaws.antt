@@ -70,8 +70,9 @@ module _ {deal : List ℕ} (c : Collectable deal) where
   in-new x h = omega (arith, ap entryCount (collected-length c))
 
   -- and a standing entry of the new deal comes from an old slot
-  from : (x : ℕ) → x < entryCount (length new) → standing (length new) (slotAt new x) ≡ true → From deal x
-  from x h = standing-from c x (omega (arith, ap entryCount (collected-length c)))
+  pub new-from : (x : ℕ) → x < entryCount (length (collectedDeal deal))
+      → standing (length (collectedDeal deal)) (slotAt (collectedDeal deal) x) ≡ true → From deal x
+  new-from x h = standing-from c x (omega (arith, ap entryCount (collected-length c)))
 
   -- where the area of a standing entry goes
   pub collected-place : (j : ℕ) → j < entryCount (length deal) → standing (length deal) (slotAt deal j) ≡ true
@@ -152,7 +153,7 @@ module _ {deal : List ℕ} (c : Collectable deal) where
           λ z.
               let k = answer-kept (lentDeal new) owners house segment z in
               let kept-there = k .1 .lowest-keeping .passes in
-              let f = from (k .0) (omega (arith, k .1 .lowest-keeping .below))
+              let f = new-from (k .0) (omega (arith, k .1 .lowest-keeping .below))
               (own-stands (lentDeal new) owners house segment (k .0) kept-there) in
               keeps-15 deal table house segment (f .old) passes (k .1 .bookable .house-allowed) t (f .old-in)
               (sym (collected-own c (f .old) (f .old-in) (f .stood) table house segment)
@@ -175,7 +176,7 @@ module _ {deal : List ℕ} (c : Collectable deal) where
           (collected-names c j h s commitment ∙ p .1 .is-lowest .passes),
       λ z.
           let p = find-zero (lentDeal new) commitment z in
-          let f = from (p .0) (omega (arith, p .1 .is-lowest .below))
+          let f = new-from (p .0) (omega (arith, p .1 .is-lowest .below))
           (kept-stands (nodeAt new) (length new) (slotAt new (p .0)) (p .1 .keeps-it .is-kept)) in
           find-some (lentDeal deal) commitment
           (searched-in deal commitment passes (p .1 .searched .commitment-length))

@@ -2,14 +2,12 @@
 -- for every call so answered, in order, these calls alone changing the deal and the house table, any tree buffer as
 -- (vii) asks, and no two different segments sharing commitment and size". "Collection ends a log."
 use mathlib.Core.Path.{_≡_}
-use mathlib.Core.Logic.{_⊎_}
 use Prim.Native.Nat.{ℕ, zero, suc}
 use mathlib.Core.List.{List, [], _∷_, _++_}
 use lib.ListN.{length}
 use Rattle.rules.specs.Choice.{choose}
 use Rattle.sizes.specs.Sizes.{entryCount, slotPlace}
 use Rattle.entries.specs.Entry.{commitmentIn, offsetIn, sizeIn}
-use Rattle.tree.specs.TreeNodes.{FilledFor}
 use Rattle.lent.specs.LentDeal.{LentDeal}
 use Rattle.index.specs.Slots.{slotAt, standing}
 use Rattle.room.specs.declared.Booked.{Booked}
@@ -20,7 +18,7 @@ use Rattle.cancel.specs.Cancel.{cancelCode}
 use Rattle.log.specs.Log.{Line, booking, cancelling, bookingLogged, cancellingLogged}
 use Rattle.playback.specs.declared.LedgerRow.{LedgerRow}
 use Rattle.demands.specs.Calls.{Call, bookSegment, cancelPlace, DealAndTable}
-use Rattle.demands.specs.DealCalls.{noTree, treeIn, lentBeside, DealCall, onDeal, collectInto}
+use Rattle.demands.specs.DealCalls.{lentBeside, TreeAsAsked, DealCall, onDeal, collectInto, BookedIn}
 use Rattle.demands.specs.DealCalls.{afterDealCall}
 
 -- the line for a booking of a segment and its answer, and that for a cancellation and its code
@@ -64,26 +62,14 @@ unfoldable pub dayLines : DealAndTable → List DealCall → List Line
 dayLines was [] = []
 dayLines was (call ∷ later) = callLines call was ++ dayLines (afterDealCall call was) later
 
--- a day's calls: bookings and cancellations; a tree that is lent holds the nodes of the deal as it then is ("as (vii)
--- asks": TreeHistoryLaws.history-filled)
+-- a day's calls: bookings and cancellations; a tree that is lent is as (vii) asks
 abbrev pub OfADay : DealCall → DealAndTable → Type 0
-OfADay (onDeal call noTree) was = Unit {0}
-OfADay (onDeal call (treeIn buffer)) was = FilledFor (was .deal) buffer
+OfADay (onDeal call tree) was = TreeAsAsked tree (was .deal)
 OfADay (collectInto second tree) was = ⊥
 
 abbrev pub Day : DealAndTable → List DealCall → Type 0
 Day was [] = Unit {0}
 Day was (call ∷ later) = OfADay call was × Day (afterDealCall call was) later
-
--- a segment is one of a booking among the calls, whatever that was answered
-abbrev pub BooksIt : DealCall → List ℕ → Type 0
-BooksIt (onDeal (bookSegment house other) tree) segment = segment ≡ other
-BooksIt (onDeal (cancelPlace house place) tree) segment = ⊥
-BooksIt (collectInto second tree) segment = ⊥
-
-abbrev pub BookedIn : List DealCall → List ℕ → Type 0
-BookedIn [] segment = ⊥
-BookedIn (call ∷ later) segment = BooksIt call segment ⊎ BookedIn later segment
 
 -- "no two different segments sharing commitment and size"
 abbrev pub NoTwoShare : List DealCall → Type 0

@@ -14,11 +14,11 @@ use Rattle.playback.specs.declared.LedgerRow.{LedgerRow}
 use Rattle.playback.specs.Ledger.{emptyLedger}
 use Rattle.playback.specs.Playback.{ruling, said, rowsFrom, playFrom, playback}
 use Rattle.demands.specs.Calls.{Call, DealAndTable}
-use Rattle.demands.specs.DealCalls.{TreeLent, DealCall, onDeal, collectInto}
-use Rattle.demands.specs.DealCalls.{afterDealCall, runDealCalls, allZeroDeal}
+use Rattle.demands.specs.DealCalls.{TreeLent, DealCall, onDeal, collectInto, BooksIt, BookedIn, afterDealCall}
+use Rattle.demands.specs.DealCalls.{runDealCalls, allZeroDeal}
 use Rattle.demands.specs.DealCallsLaws.{deal-call-length, deal-run-length}
 use Rattle.demands.specs.Day.{callLines, Names, dayLines, OfADay, Day}
-use Rattle.demands.specs.Day.{BooksIt, BookedIn, standingEntries}
+use Rattle.demands.specs.Day.{standingEntries}
 use Rattle.demands.specs.KeepsOnly.{Distinct, KeepsOnly}
 use Rattle.demands.specs.KeepsOnlyLaws.{zeros-keep, call-keeps, run-keeps}
 use Rattle.demands.specs.Mirror.{Mirrors}

@@ -2,13 +2,16 @@
 -- and the house table changed by these calls alone (after a collection answered 0 the second ones take their place)"
 -- (document 02, request (xiii)), whatever their codes, by the plain forms and with a tree in hand, whatever that holds.
 -- Runs of bookings and cancellations by the plain forms alone: Calls.
+use mathlib.Core.Path.{_≡_}
+use mathlib.Core.Logic.{_⊎_}
 use Prim.Native.Nat.{ℕ}
 use mathlib.Core.List.{List, [], _∷_}
 use lib.ListN.{replicate}
 use Rattle.rules.specs.Refusals.{unlessRefused}
+use Rattle.tree.specs.TreeNodes.{FilledFor}
 use Rattle.lent.specs.LentDeal.{LentDeal, lentDeal, treeDeal}
 use Rattle.collect.specs.Collect.{collectCode, secondDeal, secondOwners}
-use Rattle.demands.specs.Calls.{Call, DealAndTable, dealAfterCall, tableAfterCall}
+use Rattle.demands.specs.Calls.{Call, bookSegment, cancelPlace, DealAndTable, dealAfterCall, tableAfterCall}
 
 -- what is lent beside a deal: no tree, or a buffer for one, with whatever it holds
 pub data TreeLent : Type 0 where
@@ -20,11 +23,27 @@ abbrev pub lentBeside : TreeLent → List ℕ → LentDeal
 lentBeside noTree deal = lentDeal deal
 lentBeside (treeIn buffer) deal = treeDeal deal buffer
 
+-- "any tree buffer as (vii) asks": it holds the nodes of the deal as it then is (TreeHistoryLaws.history-filled and
+-- collection-starts-a-history)
+abbrev pub TreeAsAsked : TreeLent → List ℕ → Type 0
+TreeAsAsked noTree deal = Unit {0}
+TreeAsAsked (treeIn buffer) deal = FilledFor deal buffer
+
 -- a call: a booking or a cancellation, lent a tree beside the deal or none; or a collection into a second deal and a
 -- second table, lent a tree beside that deal or none
 pub data DealCall : Type 0 where
   onDeal : Call → TreeLent → DealCall
   collectInto : DealAndTable → TreeLent → DealCall
+
+-- a segment is one of a booking among the calls, whatever that was answered
+abbrev pub BooksIt : DealCall → List ℕ → Type 0
+BooksIt (onDeal (bookSegment house other) tree) segment = segment ≡ other
+BooksIt (onDeal (cancelPlace house place) tree) segment = ⊥
+BooksIt (collectInto second tree) segment = ⊥
+
+abbrev pub BookedIn : List DealCall → List ℕ → Type 0
+BookedIn [] segment = ⊥
+BookedIn (call ∷ later) segment = BooksIt call segment ⊎ BookedIn later segment
 
 -- the code of a collection, and what the second deal and the second table are after it
 abbrev pub collectingCode : DealAndTable → TreeLent → DealAndTable → ℕ

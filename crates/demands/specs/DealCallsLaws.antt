@@ -1,6 +1,7 @@
 -- What holds after calls that change a deal: a step for each kind of call, and a run by its steps. The deal's length
 -- stays.
 use mathlib.Core.Path.{_≡_, refl, sym, ap, _∙_, subst, subst₂}
+use mathlib.Core.Logic.{_≢_}
 use Prim.Native.Nat.{ℕ}
 use native.Mathlib.Decide.{ℕ-discrete}
 use mathlib.Core.List.{List, [], _∷_}
@@ -21,28 +22,34 @@ pub same-bytes : (tree : TreeLent) (deal : List ℕ) → lentBeside tree deal .b
 same-bytes noTree deal = refl
 same-bytes (treeIn buffer) deal = refl
 
--- a collection leaves deal and table as they were, or the collected ones take their place
+-- a collection leaves deal and table as they were, or with code 0 the collected ones take their place
 module _ (second : DealAndTable) (tree : TreeLent) (was : DealAndTable) where
   abbrev into : LentDeal
   into = lentBeside tree (second .deal)
+
+  pub by-collecting-code : (P : ℕ → DealAndTable → Type 0) → ((code : ℕ) → code ≢ 0 → P code was)
+      → (Collects (was .deal) (was .table) (lentBeside tree (second .deal)) (second .table)
+      → P 0 (record { deal = collectedDeal (was .deal); table = collectedTable (was .deal) (was .table) }))
+      → P (collectingCode second tree was) (afterDealCall (collectInto second tree) was)
+  by-collecting-code P same moved =
+      elim (ℕ-discrete (collectingCode second tree was) 0) [
+        | yes e ↦
+            rw e
+            (subst₂ (λ (x y : List ℕ). P 0 (record { deal = x; table = y }))
+            (sym (deal-collected (was .deal) (was .table) into (second .table) e))
+            (sym (owners-collected (was .deal) (was .table) into (second .table) e))
+            (moved (collects (was .deal) (was .table) into (second .table) .0 e)))
+        | no r ↦
+            let code : ℕ = collectingCode second tree was in
+            subst (P code)
+            (sym (answer-refused (λ (k : ℕ). was) (secondOnes second tree was) code r)) (same code r)
+      ]
 
   pub by-collecting : (P : DealAndTable → Type 0) → P was
       → (Collects (was .deal) (was .table) (lentBeside tree (second .deal)) (second .table)
       → P (record { deal = collectedDeal (was .deal); table = collectedTable (was .deal) (was .table) }))
       → P (afterDealCall (collectInto second tree) was)
-  by-collecting P same moved =
-      elim (ℕ-discrete (collectingCode second tree was) 0) [
-        | yes e ↦
-            rw e
-            (subst₂ (λ (x y : List ℕ). P (record { deal = x; table = y }))
-            (sym (deal-collected (was .deal) (was .table) into (second .table) e))
-            (sym (owners-collected (was .deal) (was .table) into (second .table) e))
-            (moved (collects (was .deal) (was .table) into (second .table) .0 e)))
-        | no r ↦
-            subst P
-            (sym
-            (answer-refused (λ (code : ℕ). was) (secondOnes second tree was) (collectingCode second tree was) r)) same
-      ]
+  by-collecting P same moved = by-collecting-code (λ code now. P now) (λ code r. same) moved
 
 -- what every call leaves true, every run does
 pub by-calls : (P : DealAndTable → Type 0)

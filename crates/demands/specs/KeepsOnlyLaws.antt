@@ -1,18 +1,21 @@
 -- The calls that change a deal leave standing entries that keep the segments of their bookings alone: an all-zero deal
 -- has none, a booking adds one that keeps its segment, a cancellation takes one away, and a collection moves them.
--- What a slot that keeps a segment holds: the segment's size and commitment.
+-- What a slot that keeps a segment holds: the segment's size and commitment, and at its offset the segment.
 use mathlib.Core.Path.{_≡_, refl, sym, ap, ap₂, _∙_, subst}
 use mathlib.Core.Bool.{true, true≢false}
 use mathlib.Core.Logic.{inl, inr}
 use Prim.Native.Nat.{ℕ, _<_}
 use native.Mathlib.Decide.{ℕ-discrete}
+use native.Mathlib.Nat.{add-zero}
 use native.Mathlib.Omega.{arith}
 use mathlib.Core.List.{List, [], _∷_}
 use lib.ListN.{length, replicate}
+use Rattle.octets.specs.FillLaws.{filled-head}
 use Rattle.octets.specs.Splice.{part}
+use Rattle.octets.specs.SpliceLaws.{part-part}
 use Rattle.merkle.specs.Tree.{commitmentOf, nodeAt}
 use Rattle.sizes.specs.Sizes.{lentSizeAllowed, area, segmentLevel, entryCount}
-use Rattle.sizes.specs.SizesLaws.{DealSize, lent-size}
+use Rattle.sizes.specs.SizesLaws.{DealSize, lent-size, index-start-le}
 use Rattle.entries.specs.Entry.{commitmentIn, offsetIn, sizeIn}
 use Rattle.lent.specs.LentDeal.{LentDeal, lentDeal, dealSize}
 use Rattle.index.specs.Slots.{slotAt, standing}
@@ -34,9 +37,9 @@ use Rattle.collect.specs.CollectPacked.{standing-from}
 use Rattle.demands.specs.Calls.{bookSegment, cancelPlace, DealAndTable}
 use Rattle.demands.specs.CancelKeepLaws.{cancelled-keeps-other}
 use Rattle.demands.specs.CollectKeepLaws.{collected-keeps}
-use Rattle.demands.specs.DealCalls.{lentBeside, DealCall, onDeal, collectInto, afterDealCall, runDealCalls}
+use Rattle.demands.specs.DealCalls.{lentBeside, DealCall, onDeal, collectInto, BooksIt, BookedIn, afterDealCall}
+use Rattle.demands.specs.DealCalls.{runDealCalls}
 use Rattle.demands.specs.DealCallsLaws.{same-bytes, by-collecting}
-use Rattle.demands.specs.Day.{BooksIt, BookedIn}
 use Rattle.demands.specs.ZeroDealLaws.{none-stands}
 use Rattle.demands.specs.Sound.{Sound}
 use Rattle.demands.specs.SoundLaws.{zeros-sound, call-sound}
@@ -60,6 +63,21 @@ module _ (deal segment : List ℕ) (i : ℕ) (t : DealSize (length deal))
       ∙ segment-node deal d (offsetIn entry) (sizeIn entry) (standing-size d entry t s) (standing-place d entry t s)
       ∙ ap (λ (n : ℕ). commitmentOf (segmentLevel n) (part deal (offsetIn entry) (area n))) keeps-size
       ∙ ap (commitmentOf (segmentLevel (length segment))) (p .2)
+
+  -- and the segment's bytes are at its offset
+  pub keeps-view : part deal (offsetIn (slotAt deal i)) (sizeIn (slotAt deal i)) ≡ segment
+  keeps-view =
+      let s = keeps-stands (lentDeal deal) segment i k in
+      let d = length deal in
+      let o = offsetIn entry in
+      let n = area (length segment) in
+      let same = ap area keeps-size in
+      ap₂ (part deal) (sym (add-zero o)) keeps-size
+      ∙ sym
+      (part-part deal o n 0 (length segment) (omega (arith, standing-size d entry t s .size-area, keeps-size))
+      (omega (arith, standing-place d entry t s .ends, index-start-le d)))
+      ∙ ap (λ (x : List ℕ). part x 0 (length segment)) (keeps-parts (lentDeal deal) segment i k .2)
+      ∙ filled-head n segment
 
 module _ (P : List ℕ → Type 0) where
   -- a slot that keeps what it kept in another deal, or in another slot

@@ -86,12 +86,16 @@ module _ (was : DealAndTable) (house : ℕ) where
   abbrev deal : LentDeal
   deal = lentDeal (was .deal)
 
+  pub refused-booking : (segment : List ℕ) → answerIn was house segment .code ≢ 0
+      → afterPlainCall (bookSegment house segment) was ≡ was
+  refused-booking segment r =
+      ap₂ (λ (x y : List ℕ). record { deal = x; table = y })
+      (B.refused-same deal (was .table) house segment r) (B.refused-table deal (was .table) house segment r)
+
   pub unlogged-booking : (segment : List ℕ) → bookingLogged (answerIn was house segment .code) ≡ false
       → afterPlainCall (bookSegment house segment) was ≡ was
   unlogged-booking segment l =
-      let r = unlisted bookingLogged refl (answerIn was house segment .code) l in
-      ap₂ (λ (x y : List ℕ). record { deal = x; table = y })
-      (B.refused-same deal (was .table) house segment r) (B.refused-table deal (was .table) house segment r)
+      refused-booking segment (unlisted bookingLogged refl (answerIn was house segment .code) l)
 
   pub refused-cancelling : (place : ℕ) → cancelCode (lentDeal (was .deal)) (was .table) house place ≢ 0
       → afterPlainCall (cancelPlace house place) was ≡ was

@@ -14,8 +14,8 @@ use Rattle.playback.specs.declared.Verdict.the-variants.{Line as LineNumber}
 use Rattle.playback.specs.declared.Playback.{Playback}
 use Rattle.playback.specs.Playback.{ruling, said, playFrom, playback}
 use Rattle.demands.specs.Calls.{Call, DealAndTable}
-use Rattle.demands.specs.DealCalls.{TreeLent, DealCall, onDeal, runDealCalls, allZeroDeal}
-use Rattle.demands.specs.Day.{callLines, Names, dayLines, Day, BookedIn, NoTwoShare}
+use Rattle.demands.specs.DealCalls.{TreeLent, DealCall, onDeal, BookedIn, runDealCalls, allZeroDeal}
+use Rattle.demands.specs.Day.{callLines, Names, dayLines, Day, NoTwoShare}
 use Rattle.demands.specs.PlayLaws.{said-from, says-number, gives-ruling}
 use Rattle.demands.specs.DayLaws.{ledgerThen, played-on, then-ruled}
 use Rattle.demands.specs.OneMoreLaws.{day-before, day-last, booked-before, booked-last, lines-more}

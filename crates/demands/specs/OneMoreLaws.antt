@@ -6,8 +6,8 @@ use Prim.Native.Nat.{ℕ}
 use mathlib.Core.List.{List, [], _∷_, _++_, append-assoc, append-nil}
 use Rattle.log.specs.Log.{Line}
 use Rattle.demands.specs.Calls.{DealAndTable}
-use Rattle.demands.specs.DealCalls.{DealCall, afterDealCall, runDealCalls}
-use Rattle.demands.specs.Day.{callLines, dayLines, OfADay, Day, BooksIt, BookedIn}
+use Rattle.demands.specs.DealCalls.{DealCall, BooksIt, BookedIn, afterDealCall, runDealCalls}
+use Rattle.demands.specs.Day.{callLines, dayLines, OfADay, Day}
 
 module _ (call : DealCall) where
   pub day-before : (calls : List DealCall) (was : DealAndTable) → Day was (calls ++ (call ∷ [])) → Day was calls

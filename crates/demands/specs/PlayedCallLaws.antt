@@ -17,8 +17,8 @@ use Rattle.playback.specs.declared.LedgerRow.{LedgerRow}
 use Rattle.playback.specs.Ledger.{ledgerAfter}
 use Rattle.playback.specs.Playback.{codeAlone, ruling, said}
 use Rattle.demands.specs.Calls.{Call, bookSegment, cancelPlace, DealAndTable, answerIn, afterPlainCall}
-use Rattle.demands.specs.DealCalls.{TreeLent, onDeal, afterDealCall}
-use Rattle.demands.specs.Day.{bookingLine, cancellingLine, loggedCall, callLines, Names, OfADay, BooksIt}
+use Rattle.demands.specs.DealCalls.{TreeLent, onDeal, BooksIt, afterDealCall}
+use Rattle.demands.specs.Day.{bookingLine, cancellingLine, loggedCall, callLines, Names, OfADay}
 use Rattle.demands.specs.DayTreeLaws.{plain-lines, plain-after}
 use Rattle.demands.specs.KeepsOnly.{Distinct, KeepsOnly}
 use Rattle.demands.specs.Mirror.{Mirrors}

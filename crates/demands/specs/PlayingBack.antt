@@ -18,8 +18,8 @@ use Rattle.log.specs.LogCanonical.{log-canonical}
 use Rattle.playback.specs.declared.Verdict.the-variants.{Code, Line as LineNumber}
 use Rattle.playback.specs.Playback.{ruling, said, says, withRows, playedLog, playback}
 use Rattle.demands.specs.Calls.{Call, DealAndTable}
-use Rattle.demands.specs.DealCalls.{TreeLent, DealCall, onDeal, runDealCalls, allZeroDeal}
-use Rattle.demands.specs.Day.{callLines, Names, dayLines, Day, BookedIn, NoTwoShare, standingEntries}
+use Rattle.demands.specs.DealCalls.{TreeLent, DealCall, onDeal, BookedIn, runDealCalls, allZeroDeal}
+use Rattle.demands.specs.Day.{callLines, Names, dayLines, Day, NoTwoShare, standingEntries}
 use Rattle.demands.specs.PlayLaws.{played-out}
 use Rattle.demands.specs.LinesFitLaws.{day-fits}
 use Rattle.demands.specs.DayLaws.{ledgerThen, then-rows, played-on}

@@ -30,8 +30,7 @@ use Rattle.collect.specs.CollectLaws.{collected-length, collected-blank}
 use Rattle.collect.specs.CollectPacked.{From, collected-from, collected-apart}
 use Rattle.collect.specs.CollectClear.{collected-clear}
 use Rattle.demands.specs.Calls.{Call, bookSegment, cancelPlace, DealAndTable, dealAfterCall}
-use Rattle.demands.specs.DealCalls.{lentBeside, DealCall, onDeal, collectInto}
-use Rattle.demands.specs.DealCalls.{afterDealCall, runDealCalls}
+use Rattle.demands.specs.DealCalls.{lentBeside, DealCall, onDeal, collectInto, afterDealCall, runDealCalls}
 use Rattle.demands.specs.DealCallsLaws.{same-bytes, by-collecting, by-calls}
 use Rattle.demands.specs.ZeroDealLaws.{all-blank}
 use Rattle.demands.specs.NoneOverlapLaws.{written-apart, cancelled-apart, zeros-apart}
@@ -122,7 +121,7 @@ module _ {deal : List ℕ} (c : Collectable deal) (s : Sound deal) where
       (λ k. f .kept-is ∙ k)
       (s .blank-or-kept (f .old) (f .old-in))
 
-  collected-sound : Sound (collectedDeal deal)
+  pub collected-sound : Sound (collectedDeal deal)
   collected-sound =
       record {
         size-allowed = ap lentSizeAllowed (collected-length c) ∙ s .size-allowed;
