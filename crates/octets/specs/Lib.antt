@@ -5,5 +5,6 @@ pub mod LittleEndian
 pub mod LittleEndianLaws
 pub mod Splice
 pub mod SpliceLaws
+pub mod PasteLaws
 pub mod Fill
 pub mod FillLaws

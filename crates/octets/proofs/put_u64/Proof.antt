@@ -8,7 +8,7 @@ use denote.Ref.{now}
 use borrow.Author.Needs.{needs}
 use Rattle.octets.specs.LittleEndian.{bytesOf}
 use Rattle.octets.specs.LittleEndianLaws.{length-bytesOf}
-use Rattle.octets.proofs.CopyLoops.{paste-next, paste-whole}
+use Rattle.octets.specs.PasteLaws.{paste-next, paste-whole}
 use Rattle.octets.proofs.NumberLoops.{byte-here, bytes-next}
 use Rattle.octets.proofs.put_u64.Statement.{statement}
 use Rattle.octets.proofs.put_u64.Tie as tie

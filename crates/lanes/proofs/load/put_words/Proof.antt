@@ -5,7 +5,7 @@ use native.Mathlib.Omega.{arith}
 use denote.Ref.{now}
 use lib.ListN.{length, length-set}
 use lib.Seq.{paste, paste-zero}
-use Rattle.lanes.proofs.LoadLaws.{put-more, put-all}
+use Rattle.octets.specs.PasteLaws.{paste-next, paste-whole}
 use borrow.Author.Needs.{needs}
 use Rattle.lanes.proofs.load.put_words.Statement.{statement}
 use Rattle.lanes.proofs.load.put_words.Tie as tie
@@ -27,7 +27,7 @@ loop-again c =
     let n : length (s .args .t3) ≡ 8 = search needs in (
       omega arith,
       simp length-set (o .inv .1),
-      put-more (now (s .args .words)) (8 * s .args .l) (s .args .t3) (o .words) (o .t) (omega (arith, s .pre .1))
+      paste-next (now (s .args .words)) (8 * s .args .l) (s .args .t3) (o .words) (o .t) (omega (arith, s .pre .1))
           (omega arith) (o .inv .2),
     )
 
@@ -36,7 +36,7 @@ returns c =
     let o = c .before .loop in
     let s = c .before .before in
     let n : length (s .args .t3) ≡ 8 = search needs in
-    o .inv .2 ∙ put-all (now (s .args .words)) (8 * s .args .l) (s .args .t3) (o .t) (omega arith)
+    o .inv .2 ∙ paste-whole (now (s .args .words)) (8 * s .args .l) (s .args .t3) (o .t) (omega arith)
 
 pub put-words-spec : {M : Type 1} → statement M
 put-words-spec =
