@@ -2,13 +2,24 @@
 // one tree can be filled at the same time.
 use crate::row::over_pairs;
 ghost use mathlib.Core.Path.{_≡_};
-ghost use Prim.Native.Nat.{_+_, _*_, _≤_};
+ghost use Prim.Native.Nat.{_+_, _*_, _≤_, _<_};
 ghost use lib.ListN.{length, drop};
 ghost use Rattle.octets.specs.Splice.{splice};
 ghost use Rattle.lanes.specs.Lanes.{lanes};
 ghost use Rattle.tree.specs.RowAbove.{rowAbove, rowCode, filledRow};
 
-// Writes up to sixteen nodes from position `first` on, all at once.
+// Writes one to sixteen nodes from position `first` on, all at once.
+fn fill_lanes(below: &[u8], above: &mut [u8], first: usize, count: usize)
+    requires { ⌜ (64 * (first + count) ≤ length (now below)) × (32 * (first + count) ≤ length (now above))
+        × (0 < count) × (count ≤ lanes) ⌝ }
+    ensures { λ _. ⌜ now (above .exit)
+        ≡ splice (now (above .entry)) (32 * first) (rowAbove count (drop (64 * first) (now (below .entry)))) ⌝ }
+{
+    let nodes = over_pairs(below, 64 * first, count);
+    lanes::store_nodes(nodes, count, above, 32 * first);
+}
+
+// The same for none to sixteen nodes. Sixteen are a case of their own, for which a compiler makes code without a count.
 fn fill_few(below: &[u8], above: &mut [u8], first: usize, count: usize)
     requires { ⌜ (64 * (first + count) ≤ length (now below)) × (32 * (first + count) ≤ length (now above))
         × (count ≤ lanes) ⌝ }
@@ -18,8 +29,11 @@ fn fill_few(below: &[u8], above: &mut [u8], first: usize, count: usize)
     if count == 0 {
         return;
     }
-    let nodes = over_pairs(below, 64 * first, count);
-    lanes::store_nodes(nodes, count, above, 32 * first);
+    if count == 16 {
+        fill_lanes(below, above, first, 16);
+        return;
+    }
+    fill_lanes(below, above, first, count);
 }
 
 // The same for any number of nodes: more than sixteen go by two parts, of which the first is made of sixteens.

@@ -73,7 +73,8 @@ fn renew_singly(deal: &[u8], tree: &mut [u8], below: usize, first: usize, count:
 }
 
 // Works the nodes at up to sixteen positions from `first` on, one level above `below`, out from their children: from
-// four on all at once, fewer one after the other.
+// four on all at once, fewer one after the other. Sixteen are a case of their own, for which a compiler makes code
+// without a count.
 fn renew_few(deal: &[u8], tree: &mut [u8], below: usize, first: usize, count: usize)
     requires { ⌜ RowInTree (length (now deal)) (suc below) first count × SizedFor (now deal) (now tree) ⌝ }
     requires { ⌜ count ≤ lanes ⌝ }
@@ -81,6 +82,10 @@ fn renew_few(deal: &[u8], tree: &mut [u8], below: usize, first: usize, count: us
 {
     if count < 4 {
         renew_singly(deal, tree, below, first, count);
+        return;
+    }
+    if count == 16 {
+        renew_lanes(deal, tree, below, first, 16);
         return;
     }
     renew_lanes(deal, tree, below, first, count);

@@ -1,10 +1,12 @@
--- `fill_few`: nothing, or the nodes over the pairs, each in a lane, and then written.
-use mathlib.Core.Path.{ap, _∙_}
-use Prim.Native.Nat.{_*_}
+-- `fill_few`: nothing, or the nodes over the pairs, where a count of 16 may stand as 16.
+use mathlib.Core.Path.{_≡_, ap, _∙_}
+use Prim.Native.Nat.{ℕ, _*_}
 use native.Mathlib.Omega.{arith}
+use lib.ListN.{drop}
 use denote.Ref.{now}
 use Rattle.octets.specs.Splice.{splice}
-use Rattle.tree.proofs.LanesAbove.{nothing-above, lanes-above}
+use Rattle.tree.specs.RowAbove.{rowAbove}
+use Rattle.tree.proofs.LanesAbove.{nothing-above}
 use borrow.Author.Needs.{needs}
 use Rattle.tree.proofs.above.fill_few.Statement.{statement}
 use Rattle.tree.proofs.above.fill_few.Tie as tie
@@ -17,22 +19,20 @@ returns c =
 returns-2 : tie.Need-returns-2
 returns-2 c =
     let w = c .before .before in
-    let p = w .before .before in
-    let s = p .before .before .before .before in
-    let a = s .args in
-    w .store-nodes .ensures
-    ∙ ap (splice (now (a .above)) (32 * a .first))
-    (lanes-above (now (a .below)) (64 * a .first) (p .over-pairs .result) (a .count) (omega (arith, s .pre .0))
-    (p .over-pairs .ensures))
+    let a = w .before .before .before .before .before .before .args in
+    let sixteen : 16 ≡ a .count = omega arith in
+    w .fill-lanes .ensures
+    ∙ ap (λ (n : ℕ). splice (now (a .above)) (32 * a .first) (rowAbove n (drop (64 * a .first) (now (a .below)))))
+    sixteen
 
 pub fill-few-spec : {M : Type 1} → statement M
 fill-few-spec =
     tie.close
     (tie.spec
     returns
-    (λ c. search needs)
     (λ c κs. search needs)
     (λ c. search needs)
+    returns-2
     (λ c κs. search needs)
     (λ c. search needs)
-    returns-2)
+    (λ c. search needs))
