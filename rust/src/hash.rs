@@ -27,8 +27,8 @@ pub fn commitment_with_threads(run: &[u8], threads: usize) -> Result<Node, Refus
 }
 
 /// The commitment of the parts' commitments, or the refusal of a part. That this is the answer for the run is proved:
-/// `parts-accepted` and `part-refused` in crates/merkle/specs/PartsLaws.antt, at 2^m parts of 2^13 nodes with
-/// m + 13 <= 19.
+/// `parts-accepted` and `part-refused` in crates/merkle/specs/PartsLaws.antt, at 2^m parts of 2^10 nodes with
+/// m + 10 <= 19.
 fn by_parts(run: &[u8], threads: usize) -> Result<Node, Refusal> {
     let answers = parts::each(threads, run.chunks_exact(parts::PART), by_one_call);
     let nodes: Vec<Node> = answers.into_iter().collect::<Result<_, _>>()?;
@@ -98,8 +98,8 @@ mod tests {
     #[test]
     fn stray_bits_in_each_part() {
         let mut run = noise(7, 1 << 20);
-        for part in 0..4 {
-            for node in [0, 1000, (1 << 13) - 1] {
+        for part in [0, 1, (1 << 20) / parts::PART - 1] {
+            for node in [0, 1000, parts::PART / 32 - 1] {
                 let last = part * parts::PART + 32 * node + 31;
                 for bit in [0x40, 0x80] {
                     run[last] ^= bit;

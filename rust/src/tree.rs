@@ -26,37 +26,49 @@ pub fn tree_fill(deal: &[u8], tree: &mut [u8]) -> Result<(), Refusal> {
 /// [`tree_fill`] with that many threads at most, this one among them. Below 2^20 bytes this one does all.
 pub fn tree_fill_with_threads(deal: &[u8], tree: &mut [u8], threads: usize) -> Result<(), Refusal> {
     let fits = threads > 1 && parts::pay_off(deal.len()) && tree.len() == tree_length(deal.len());
-    match fits && no_stray_bits(deal) {
+    match fits && no_stray_bits(deal, threads) {
         true => fill_by_parts(deal, tree, threads),
         false => fill_by_one_call(deal, tree),
     }
 }
 
+/// The bytes of a part in which one thread looks for stray bits: a thread looks through that many while another starts.
+const SEARCHED: usize = 1 << 20;
+
 /// Whether no node of a deal has stray bits. What has some is left to one call, which refuses it and writes nothing.
-/// One thread looks: it is done in a hundredth of the time that hashing takes.
-fn no_stray_bits(deal: &[u8]) -> bool {
-    deal.chunks_exact(32).fold(0, |bits, node| bits | node[31]) < 0x40
+fn no_stray_bits(deal: &[u8], threads: usize) -> bool {
+    let clear = |part: &[u8]| part.chunks_exact(32).fold(0, |bits, node| bits | node[31]) < 0x40;
+    parts::each(threads, deal.chunks(SEARCHED), clear).into_iter().all(|clear| clear)
 }
 
 /// The library hashes up to so many nodes at once.
 const LANES: usize = 16;
 
-/// Fills the rows over each part of the deal as long as a part has nodes for all lanes, and then the rows above, as one
-/// part: they are fewer than 16 nodes a part. Each slice is written from the one below it, which is written before.
-/// That the tree is then the one that `vz_tree_fill` writes is proved, however the rows are cut: `filled-by-ranges` in
-/// crates/tree/specs/RowAboveLaws.antt.
+/// Fewer parts are not worth a thread's start.
+const FEWEST: usize = 4;
+
+/// Fills the tree by parts of the deal. That it is then the one that `vz_tree_fill` writes is proved, however the rows
+/// are cut: `filled-by-ranges` in crates/tree/specs/RowAboveLaws.antt.
 fn fill_by_parts(deal: &[u8], tree: &mut [u8], threads: usize) -> Result<(), Refusal> {
-    let mut low = rows(deal.len(), tree);
+    fill_rows_by_parts(deal, rows(deal.len(), tree), threads)
+}
+
+/// Writes each row from the one below it: over each part by itself as long as a part has nodes for all lanes, and then
+/// the rows above, which are over 16 nodes a part, in the same way.
+fn fill_rows_by_parts(below: &[u8], mut low: Vec<&mut [u8]>, threads: usize) -> Result<(), Refusal> {
+    let count = below.len() / parts::PART;
+    if count < FEWEST {
+        return fill_rows(below, low);
+    }
     let high = low.split_off((parts::PART / 32 / LANES).ilog2() as usize);
-    let count = deal.len() / parts::PART;
     let mut over: Vec<Vec<&mut [u8]>> = (0..count).map(|_| vec![]).collect();
     for row in &mut low {
         let slices = row.chunks_exact_mut(row.len() / count);
         over.iter_mut().zip(slices).for_each(|(rows, slice)| rows.push(slice));
     }
-    let work = deal.chunks_exact(parts::PART).zip(over);
+    let work = below.chunks_exact(parts::PART).zip(over);
     parts::each(threads, work, |(part, rows)| fill_rows(part, rows)).into_iter().collect::<Result<(), Refusal>>()?;
-    fill_rows(low[low.len() - 1], high)
+    fill_rows_by_parts(low[low.len() - 1], high, threads)
 }
 
 /// The rows of the tree of a deal of that many bytes, from height 1 on.
@@ -156,8 +168,8 @@ mod tests {
             expected(&deal[..3 << 18], tree, Refusal::SIZE);
             expected(&deal[..(1 << 20) - 1], tree, Refusal::SIZE);
         }
-        for part in 0..4 {
-            for node in [0, 1000, (1 << 13) - 1] {
+        for part in [0, 1, (1 << 20) / parts::PART - 1] {
+            for node in [0, 1000, parts::PART / 32 - 1] {
                 let last = part * parts::PART + 32 * node + 31;
                 for bit in [0x40, 0x80] {
                     deal[last] ^= bit;
