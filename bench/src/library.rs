@@ -36,9 +36,9 @@ macro_rules! functions {
         pub const FUNCTIONS: &[&str] = &[$(concat!("vz_", stringify!($name)),)*];
 
         impl Library {
-            /// Opens a shared object; ends the program where it cannot be opened. A function that it lacks ends it when
-            /// called.
-            pub fn open(name: &str, file: &Path) -> Library {
+            /// Opens a shared object, and takes the functions that have the suffix; ends the program where it cannot
+            /// be opened. A function that it lacks ends it when called.
+            pub fn open(name: &str, file: &Path, suffix: &str) -> Library {
                 let object = opened(file);
                 // SAFETY: the object stays open, and its functions have the types of the header.
                 unsafe {
@@ -46,7 +46,7 @@ macro_rules! functions {
                         name: name.to_string(),
                         object,
                         $($name: std::mem::transmute::<*mut c_void, unsafe extern "C" fn($($argument),*) -> Code>(
-                            function(object, concat!("vz_", stringify!($name))),
+                            function(object, &format!("{}{suffix}", concat!("vz_", stringify!($name)))),
                         ),)*
                     }
                 }

@@ -1,8 +1,8 @@
 //! Times the library beside other implementations of SHA-256, in one process, and prints tables of ratios and a verdict
 //! for each aim.
 //!
-//! bench FOLDER [--peers]: FOLDER has chosen.so, v1.so, v3.so and v4.so, the library by level as bench/run makes them,
-//! and before.so where an earlier library is to be compared. With --peers only the table beside the peers.
+//! bench FOLDER [--peers]: FOLDER has chosen.so, the library that chooses its level and has all of them, as bench/run
+//! makes it, and before.so where an earlier library is to be compared. With --peers only the table beside the peers.
 //! bench --functions names the library's functions that are measured.
 mod aims;
 mod beside;
@@ -20,7 +20,7 @@ mod timing;
 mod tree;
 
 use aims::Aim;
-use library::Library;
+use library::{Library, LEVELS};
 use peers::Peer;
 use std::arch::is_x86_feature_detected;
 use std::path::Path;
@@ -30,7 +30,8 @@ const SEGMENT: usize = 1 << 16;
 /// Timed runs of long work, and of short work.
 const LONG: usize = 9;
 const SHORT: usize = 51;
-/// The name of an earlier library.
+/// The names of the library that chooses its level, and of an earlier one.
+const CHOSEN: &str = "chosen";
 const BEFORE: &str = "before";
 
 fn main() {
@@ -99,7 +100,9 @@ fn libraries(folder: &Path) -> Vec<Library> {
     let has_v3 = is_x86_feature_detected!("avx2") && is_x86_feature_detected!("bmi2");
     let has_v4 = has_v3 && is_x86_feature_detected!("avx512bw") && is_x86_feature_detected!("avx512vl");
     let before = folder.join(format!("{BEFORE}.so")).is_file();
-    let open = |(name, _): (&str, bool)| Library::open(name, &folder.join(format!("{name}.so")));
-    let names = [("chosen", true), ("v1", true), ("v3", has_v3), ("v4", has_v4), (BEFORE, before)];
-    names.into_iter().filter(|(_, has)| *has).map(open).collect()
+    let open = |name: &str, file: &str, suffix: &str| Library::open(name, &folder.join(format!("{file}.so")), suffix);
+    let level = |(name, _): (&str, bool)| open(name, CHOSEN, &format!("_{name}"));
+    let levels = LEVELS.into_iter().zip([true, has_v3, has_v4]).filter(|(_, has)| *has).map(level);
+    let earlier = before.then(|| open(BEFORE, BEFORE, ""));
+    [open(CHOSEN, CHOSEN, "")].into_iter().chain(levels).chain(earlier).collect()
 }
