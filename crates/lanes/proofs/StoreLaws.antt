@@ -1,17 +1,30 @@
--- The bytes of lanes, word by word.
+-- The words of lanes put in order, and their bytes, word by word.
 use mathlib.Core.Path.{_≡_, refl, sym, ap, ap₂, _∙_}
 use mathlib.Core.List.{List, [], _∷_, _++_}
 use Prim.Native.Nat.{ℕ, zero, suc, _+_, _-_, _*_, _/_, _%_, _^_, _≤_, _<_}
-use native.Mathlib.Nat.{div-one}
+use native.Mathlib.Nat.{div-one, mod-eq-of-lt, mod-mod}
 use native.Mathlib.Omega.{arith}
 use lib.ListN.{length, getD}
 use Rattle.octets.specs.Splice.{splice}
-use Rattle.octets.specs.SpliceLaws.{splice-nothing, splice-append}
+use Rattle.octets.specs.SpliceLaws.{getD-part, splice-nothing, splice-append}
 use Rattle.sha256.specs.Table.{table}
-use Rattle.sha256.specs.TableLaws.{length-table, getD-table, table-ext, table-append}
-use Rattle.sha256.specs.Fips.{digestByte, digest}
+use Rattle.sha256.specs.TableLaws.{length-table, getD-table, table-ext, as-table, table-append}
+use Rattle.sha256.specs.Fips.{word, digestByte, digest}
+use Rattle.sha256.specs.WordLaws.{bytes-of-number}
 use Rattle.lanes.specs.Lanes.{lanes, lane}
 use Rattle.lanes.specs.NodeWords.{laneByLane, wordBytes, laneBytes}
+use Rattle.lanes.proofs.PlacedLaws.{Placed}
+
+-- the bytes of a word are those of the exchanged word, the least significant first
+pub swapped-bytes : (x y : ℕ) → x < 2 ^ 32 → y ≡ word (x % 256) (x / 2 ^ 8 % 256) (x / 2 ^ 16 % 256) (x / 2 ^ 24)
+    → y % 256 ∷ y / 2 ^ 8 % 256 ∷ y / 2 ^ 16 % 256 ∷ y / 2 ^ 24 % 256 ∷ [] ≡ wordBytes x
+swapped-bytes x y h e =
+    let top : x / 2 ^ 24 < 256 = omega arith in
+    let b = bytes-of-number (x / 2 ^ 24) (x / 2 ^ 16 % 256) (x / 2 ^ 8 % 256) (x % 256) y
+    top (omega arith) (omega arith) (omega arith) (omega arith) in
+    let first : y % 256 ≡ x / 2 ^ 24 % 256 = b .0 ∙ sym (mod-eq-of-lt top) in
+    let last : y / 2 ^ 24 % 256 ≡ x % 256 = ap (λ (n : ℕ). n % 256) (b .3) ∙ mod-mod x 256 in
+    λ j. first j ∷ b .1 j ∷ b .2 j ∷ last j ∷ []
 
 -- the bytes of the first i words
 abbrev pub firstBytes : List ℕ → ℕ → List ℕ
@@ -51,8 +64,21 @@ module _ (run words : List ℕ) (at : ℕ) where
       ∙ sym (table-append (digestByte words) (4 * i) 4)
       ∙ ap (table (digestByte words)) e)
 
--- the bytes of all words are those of the lanes
 module _ (nodes : List ℕ) where
+  -- every lane at its place: all words are in order
+  pub placed-lanes : (l : ℕ) (words : List ℕ) → lanes ≤ l → Placed (lane 8 nodes) l words → words ≡ laneByLane nodes
+  unfolding laneByLane
+  placed-lanes l words b c =
+      as-table words (lanes * 8) (c .sized)
+      ∙ table-ext (λ i. getD words i 0) (λ i. getD nodes (lanes * (i % 8) + i / 8) 0) (lanes * 8)
+      (λ i h.
+      let e : i ≡ 8 * (i / 8) + i % 8 = omega arith in
+      ap (λ (k : ℕ). getD words k 0) e
+      ∙ sym (getD-part words (8 * (i / 8)) 8 (i % 8) (omega arith))
+      ∙ ap (λ (w : List ℕ). getD w (i % 8) 0) (c .placed (i / 8) (omega arith))
+      ∙ getD-table (λ t. getD nodes (lanes * t + i / 8) 0) 8 (i % 8) (omega arith))
+
+  -- the bytes of all words are those of the lanes
   lane-bytes : (l : ℕ) → l < lanes
       → table (λ k. digestByte (laneByLane nodes) (32 * l + k)) 32 ≡ digest (lane 8 nodes l)
   unfolding laneByLane

@@ -1,5 +1,9 @@
 // The bytes of up to sixteen nodes, written to a run. The words are put in order first, and then written one after the
-// other: a compiler then moves whole words.
+// other: a compiler then moves whole words. The bytes of a word are exchanged, and then written with the least
+// significant first: a compiler then writes a word in one move, and several words at once.
+use crate::lane::lane_of;
+use crate::load::put_words;
+use sha256::swapped;
 ghost use mathlib.Core.Path.{_≡_};
 ghost use Prim.Native.Nat.{_+_, _*_, _≤_};
 ghost use lib.ListN.{length};
@@ -12,10 +16,10 @@ fn lane_by_lane(nodes: [u32; 128]) -> [u32; 128]
     ensures { λ r. ⌜ r ≡ laneByLane nodes ⌝ }
 {
     let mut words = [0u32; 128];
-    let mut i = 0;
-    while i < 128 {
-        words[i] = nodes[16 * (i % 8) + i / 8];
-        i += 1;
+    let mut l = 0;
+    while l < 16 {
+        put_words(&mut words, l, lane_of(&nodes, l));
+        l += 1;
     }
     words
 }
@@ -25,11 +29,12 @@ fn put_word(run: &mut [u8], at: usize, x: u32)
     requires { ⌜ at + 4 ≤ length (now run) ⌝ }
     ensures { λ _. ⌜ now (run .exit) ≡ splice (now (run .entry)) at (wordBytes x) ⌝ }
 {
+    let y = swapped(x);
     let bytes = [
-        ((x >> 24) % 256) as u8,
-        ((x >> 16) % 256) as u8,
-        ((x >> 8) % 256) as u8,
-        (x % 256) as u8,
+        (y % 256) as u8,
+        ((y >> 8) % 256) as u8,
+        ((y >> 16) % 256) as u8,
+        ((y >> 24) % 256) as u8,
     ];
     octets::put(run, at, &bytes);
 }

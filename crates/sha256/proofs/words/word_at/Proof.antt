@@ -4,7 +4,7 @@ use Prim.Native.Nat.{ℕ, _+_, _<_}
 use native.Mathlib.Omega.{arith}
 use lib.ListN.{getD}
 use denote.Ref.{now}
-use Rattle.sha256.proofs.WordLaws.{word-swapped}
+use Rattle.sha256.specs.WordLaws.{word-swapped}
 use borrow.Author.Needs.{needs}
 use Rattle.sha256.proofs.words.word_at.Statement.{statement}
 use Rattle.sha256.proofs.words.word_at.Tie as tie
