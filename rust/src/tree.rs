@@ -44,8 +44,8 @@ fn no_stray_bits(deal: &[u8], threads: usize) -> bool {
 /// The library hashes up to so many nodes at once.
 const LANES: usize = 16;
 
-/// Fewer parts are not worth a thread's start.
-const FEWEST: usize = 4;
+/// Fewer parts are not worth a thread's start, and more make slices of rows so short that to begin with each costs time.
+const PARTS: (usize, usize) = (4, 128);
 
 /// Fills the tree by parts of the deal. That it is then the one that `vz_tree_fill` writes is proved, however the rows
 /// are cut: `filled-by-ranges` in crates/tree/specs/RowAboveLaws.antt.
@@ -56,17 +56,18 @@ fn fill_by_parts(deal: &[u8], tree: &mut [u8], threads: usize) -> Result<(), Ref
 /// Writes each row from the one below it: over each part by itself as long as a part has nodes for all lanes, and then
 /// the rows above, which are over 16 nodes a part, in the same way.
 fn fill_rows_by_parts(below: &[u8], mut low: Vec<&mut [u8]>, threads: usize) -> Result<(), Refusal> {
-    let count = below.len() / parts::PART;
-    if count < FEWEST {
+    let part = parts::PART.max(below.len() / PARTS.1);
+    let count = below.len() / part;
+    if count < PARTS.0 {
         return fill_rows(below, low);
     }
-    let high = low.split_off((parts::PART / 32 / LANES).ilog2() as usize);
+    let high = low.split_off((part / 32 / LANES).ilog2() as usize);
     let mut over: Vec<Vec<&mut [u8]>> = (0..count).map(|_| vec![]).collect();
     for row in &mut low {
         let slices = row.chunks_exact_mut(row.len() / count);
         over.iter_mut().zip(slices).for_each(|(rows, slice)| rows.push(slice));
     }
-    let work = below.chunks_exact(parts::PART).zip(over);
+    let work = below.chunks_exact(part).zip(over);
     parts::each(threads, work, |(part, rows)| fill_rows(part, rows)).into_iter().collect::<Result<(), Refusal>>()?;
     fill_rows_by_parts(low[low.len() - 1], high, threads)
 }
