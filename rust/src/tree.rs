@@ -44,7 +44,7 @@ fn no_stray_bits(deal: &[u8], threads: usize) -> bool {
 /// The library hashes up to so many nodes at once.
 const LANES: usize = 16;
 
-/// Fewer parts are not worth a thread's start, and more make slices of rows so short that to begin with each costs time.
+/// Fewer parts are not worth a thread's start, and more make slices of rows so short that the start of each costs time.
 const PARTS: (usize, usize) = (4, 128);
 
 /// Fills the tree by parts of the deal. That it is then the one that `vz_tree_fill` writes is proved, however the rows
