@@ -18,7 +18,7 @@ import sys
 NAME = r'[^\s(){}.;,@"«»`]+'
 DECLARED = re.compile(
     r"^\s*(?:(?:abbrev|pub|unfoldable|private|opaque|instance|record|data|ruleset)\s+)*(" + NAME + r")"
-    r"(?:\s+[({][^)}]*[)}])*\s+(?::(?:\s|$)|=)"
+    r"(?:\s+[({][^)}]*[)}])*\s+:(?:\s|$)"
 )
 BOUND = re.compile(r"[({]\s*((?:" + NAME + r"\s+)+):\s|λ ((?:" + NAME + r"\s*)+)\.")
 LOCAL = re.compile(r"(?:\blet|^(?:pub )?ruleset)\s+(" + NAME + r")\s+[:=]\s")
@@ -75,6 +75,19 @@ def imported_from_the_kit(text):
     return found
 
 
+def plain_of_others(text, table, path):
+    """Names without a dash or a capital that are no lemma's here: a field's, a variable's, or one of the source."""
+    plain = {it for it in table if in_snake_case(it) == it}
+    if path.endswith(".rt"):
+        return plain
+    here = set(declared(path))
+    for line in text.split("\n"):
+        use = USE.match(line)
+        if use and use[2]:
+            here.update(re.split(r"[\s,]+", use[2]))
+    return plain - here
+
+
 def own_path(path):
     steps = path.split(".")
     return steps[0] == "Rattle" and len(steps) > 1 and os.path.isdir("crates/" + steps[1])
@@ -104,7 +117,7 @@ def names():
 
 def turned_code(text, table, path):
     """The text with its names respelled, but for comments and strings."""
-    kept = imported_from_the_kit(text)
+    kept = imported_from_the_kit(text) | plain_of_others(text, table, path)
     made = of_a_function(path)
     lines = []
     for line in text.split("\n"):
@@ -141,6 +154,8 @@ def turned_line(code, table, kept, made, path):
         if made and path_of.split(".")[0] in ("goal", "tie"):
             continue
         if path.endswith(".rt") and inside_string(code, word.start()):
+            continue
+        if path_of and in_snake_case(name) == name:
             continue
         # in a function's proof a name behind a dot may be a step's, which Rattle spells as the source does
         new = in_snake_case(name) if made and path_of and not path_of.startswith("Rattle.") else table[name]

@@ -18,7 +18,7 @@ use Rattle.fields.specs.declared.FieldRule.{FieldRule}
 use Rattle.record.specs.Form.{layout, table_row, Fields, fields, contents_of, encode, record_length}
 use Rattle.lent.specs.LentDeal.{LentDeal, deal_size}
 use Rattle.builder.specs.Build.{segment_path_of, entry_path_of}
-use Rattle.builder.specs.BuildLaws.{InDeal, segment_start_lem, segment_path_length_lem, entry_path_length_lem}
+use Rattle.builder.specs.BuildLaws.{InDeal, segment_start_lem, segment_path_length, entry_path_length}
 use Rattle.builder.specs.Encode.{record_for}
 use Rattle.builder.specs.EncodeLaws.{record_length_lem}
 
@@ -68,10 +68,10 @@ module _ {deal : LentDeal} {entry : Row} {place level position : ℕ}
   segment_path_sized : length SegmentPath ≡ 32 * SegmentLevels
   segment_path_sized =
       rw (w.level_is, w.position_is)
-      (segment_path_length_lem deal w.each place entry.offset entry.size w.within)
+      (segment_path_length deal w.each place entry.offset entry.size w.within)
 
   entry_path_sized : length EntryPath ≡ 32 * EntryLevels
-  entry_path_sized = entry_path_length_lem deal w.each place entry.offset entry.size w.within
+  entry_path_sized = entry_path_length deal w.each place entry.offset entry.size w.within
 
   -- both were written behind one another, and the deal's number behind them
   pub wrote_paths : {out after last : List ℕ} {at next end : ℕ} (number : ℕ)

@@ -136,11 +136,11 @@ entry_node nodes deal top place t e o h =
 -- where the nodes have 32 bytes each, the paths have as many nodes as they have levels
 module _ (deal : LentDeal) (each : NodesSized deal.nodes (deal_level (deal_size deal))) where
   module _ (place offset size : ℕ) (w : InDeal (deal_size deal) place offset size) where
-    pub segment_path_length_lem : length (segment_path_of deal offset size) ≡ 32 * segment_path_levels (deal_size deal) size
-    segment_path_length_lem = path_length deal.nodes _ each _ (segment_start_lem w)
+    pub segment_path_length : length (segment_path_of deal offset size) ≡ 32 * segment_path_levels (deal_size deal) size
+    segment_path_length = path_length deal.nodes _ each _ (segment_start_lem w)
 
-    pub entry_path_length_lem : length (entry_path_of deal place) ≡ 32 * entry_path_levels (deal_size deal)
-    entry_path_length_lem = path_length deal.nodes _ each _ (entry_start_lem w)
+    pub entry_path_length : length (entry_path_of deal place) ≡ 32 * entry_path_levels (deal_size deal)
+    entry_path_length = path_length deal.nodes _ each _ (entry_start_lem w)
 
 -- where they are a tree, the paths lead to the deal's commitment
 module _ (deal : LentDeal) (t : IsTree deal.nodes deal.bytes (deal_level (deal_size deal))) where
@@ -206,8 +206,8 @@ module _ (deal : LentDeal) (t : IsTree deal.nodes deal.bytes (deal_level (deal_s
         let oh : o + area z ≤ index_start (deal_size deal) = w.segment_is.ends in
         let zh : z ≤ area z = w.size_is.size_area in
         let th : deal_level (deal_size deal) ≤ 19 = w.lent_is.lent_level in
-        let a = segment_path_length_lem deal each place o z w in
-        let c = entry_path_length_lem deal each place o z w in
+        let a = segment_path_length deal each place o z w in
+        let c = entry_path_length deal each place o z w in
         record {
           commitment_32 = part_length e 0 32 (omega arith);
           offset_8 = omega arith;
@@ -235,8 +235,8 @@ module _ (deal : LentDeal) (t : IsTree deal.nodes deal.bytes (deal_level (deal_s
           size_allowed = m.is_kept_lem.is_standing.size_allowed;
           offset_allowed_lem = m.is_kept_lem.is_standing.offset_allowed_lem;
           place_allowed_lem = m.place_allowed_lem;
-          segment_path_length_lem = segment_path_length_lem deal each place o z w;
-          entry_path_length_lem = entry_path_length_lem deal each place o z w;
+          segment_path_length = segment_path_length deal each place o z w;
+          entry_path_length = entry_path_length deal each place o z w;
           commitment_clear =
               entry_clear deal.bytes place w.place_is.at_position w.place_is.in_deal m.clean;
           segment_path_clear = segment_path_clear place o z w;

@@ -12,7 +12,7 @@ use Rattle.record.specs.Form.{layout, encode, record_length}
 use Rattle.record.specs.FormLaws.{encode_length}
 use Rattle.lent.specs.LentDeal.{LentDeal, deal_size}
 use Rattle.builder.specs.Build.{fields_for}
-use Rattle.builder.specs.BuildLaws.{InDeal, in_deal, segment_path_length_lem, entry_path_length_lem, Builds}
+use Rattle.builder.specs.BuildLaws.{InDeal, in_deal, segment_path_length, entry_path_length, Builds}
 use Rattle.builder.specs.Encode.{record_for}
 
 -- the record for the bytes of an entry
@@ -35,8 +35,8 @@ module _ (deal : LentDeal) (each : NodesSized deal.nodes (deal_level (deal_size 
   unfolding record_for record_length
   record_length_lem number commitment offset size place l w =
       encode_length _ l
-      ∙ ap₂ (λ (m n : ℕ). table_length layout (m ∷ n ∷ [])) (segment_path_length_lem deal each place offset size w)
-      (entry_path_length_lem deal each place offset size w)
+      ∙ ap₂ (λ (m n : ℕ). table_length layout (m ∷ n ∷ [])) (segment_path_length deal each place offset size w)
+      (entry_path_length deal each place offset size w)
 
   -- the length of a record that was built
   pub built_length : (number place : ℕ) (r : List ℕ) → Builds deal number place r

@@ -62,7 +62,7 @@ module _ (terms : DealTerms) (x : Fields) (h : Sized x) (a : Accepted terms x) w
   unfolding entry_strings
   entry_chain =
       path_chain (entry_start terms.size x.place) (node_hash (entry_for x)) x.entry_path (true ∷ [])
-      (entry_for x ∷ []) (node_hash_length (entry_for x)) a.entry_path_length_lem a.entry_path_leads
+      (entry_for x ∷ []) (node_hash_length (entry_for x)) a.entry_path_length a.entry_path_leads
       (entry_length x.commitment x.offset x.size h.commitment_32, refl, tt)
 
   pub segment_chain :
@@ -70,7 +70,7 @@ module _ (terms : DealTerms) (x : Fields) (h : Sized x) (a : Accepted terms x) w
   unfolding segment_strings
   segment_chain =
       path_chain (segment_start terms.size x.offset x.size) x.commitment x.segment_path [] []
-      h.commitment_32 a.segment_path_length_lem a.segment_path_leads tt
+      h.commitment_32 a.segment_path_length a.segment_path_leads tt
 
 -- strings to hold against those of a record: chains from the same commitment along the same two ways. The segment part
 -- is asked for only where the entry parts are the same

@@ -20,7 +20,7 @@ module _ (table : List ℕ) (house : ℕ) (deal other : List ℕ) (apart : NoneO
   -- Booking, of every segment: the same code, offset and place; and the same table afterwards.
   pub isolated_booking : (segment : List ℕ)
       → book_answer (lent_deal other) table house segment ≡ book_answer (lent_deal deal) table house segment
-  isolated_booking = I.same_answer_lem apart changed
+  isolated_booking = I.same_answer apart changed
 
   pub isolated_booked_table : (segment : List ℕ)
       → booked_table (lent_deal other) table house segment ≡ booked_table (lent_deal deal) table house segment

@@ -51,8 +51,8 @@ module _ (terms : DealTerms) (x y : Fields) (hx : Sized x) (hy : Sized y) (ax : 
       let f = named e in
       let start = segment_start terms.size in
       (same_strings (start x.offset x.size) x.commitment y.commitment x.segment_path y.segment_path [] []
-      hx.commitment_32 hy.commitment_32 ax.segment_path_length_lem
-      (ay.segment_path_length_lem ∙ ap (λ (z : ℕ). 32 * segment_path_levels terms.size z) (sym f.2))
+      hx.commitment_32 hy.commitment_32 ax.segment_path_length
+      (ay.segment_path_length ∙ ap (λ (z : ℕ). 32 * segment_path_levels terms.size z) (sym f.2))
       (g ∙ (λ i. strings_from (start (sym f.1 i) (sym f.2 i)) y.commitment y.segment_path []))).same_siblings
 
   same_record : entry_strings terms.size x ≡ entry_strings terms.size y

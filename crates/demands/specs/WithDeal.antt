@@ -74,7 +74,7 @@ module _ (deal : LentDeal) (t : IsTree deal.nodes deal.bytes (deal_level (deal_s
         let f = entry_for x in
         let g = entry_at deal.bytes x.place in
         let r = own_path deal.nodes deal.bytes _ t _ (entry_start_lem w) (node_hash f) x.entry_path (f ∷ []) (g ∷ [])
-        (node_hash_length f) a.entry_path_length_lem e in
+        (node_hash_length f) a.entry_path_length e in
         let q : f ∷ [] ≡ g ∷ [] = r.same_below in
         (r.same_siblings, cc)
 
@@ -84,7 +84,7 @@ module _ (deal : LentDeal) (t : IsTree deal.nodes deal.bytes (deal_level (deal_s
     unfolding segment_strings
     same_segment_lem e =
         let r = own_path deal.nodes deal.bytes _ t _ (segment_start_lem w) x.commitment x.segment_path [] []
-        h.commitment_32 a.segment_path_length_lem e in
+        h.commitment_32 a.segment_path_length e in
         let b : segment_level x.size < deal_level (deal_size deal) = w.size_is.below_deal in
         (r.same_siblings, r.same_node (omega arith))
 

@@ -80,7 +80,7 @@ fn with_cancelling(size: u64, ledger: Ledger, line: CancellingLine, code: u8) ->
 }
 
 // Whether two answers are the same.
-fn same_answer_lem(x: Booked, y: Booked) -> bool
+fn same_answer(x: Booked, y: Booked) -> bool
     ensures { result ≡ same_answer x y }
 {
     x.code == y.code && (x.offset == y.offset && x.place == y.place)
@@ -95,7 +95,7 @@ fn play_booking(size: u64, ledger: Ledger, line: BookingLine) -> Step
     let ranges = ranges_of(ledger);
     let ruling = room::answer(size, ranges, made);
     let said = line.answer;
-    let confirmed = same_answer_lem(ruling, said);
+    let confirmed = same_answer(ruling, said);
     let rows = with_booking(size, ledger, line, made);
     Step {
         confirmed,

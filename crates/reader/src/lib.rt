@@ -13,7 +13,7 @@ pub struct RecordReader<'a> {
 }
 
 // The place after the field that was read at a place; after the refusal it is the same place.
-fn next_place_lem(field: Field, place: usize) -> usize
+fn next_place(field: Field, place: usize) -> usize
     ensures { result ≡ next_place field place }
 {
     match field {
@@ -43,7 +43,7 @@ impl<'a> RecordReader<'a> {
             × (self.new ≡ moved_on self.old) }
     {
         let field = fields::read_field(self.bytes, self.place);
-        self.place = next_place_lem(field, self.place);
+        self.place = next_place(field, self.place);
         field
     }
 }

@@ -34,7 +34,7 @@ module _ (commitment : List ℕ) (d number : ℕ) (r : List ℕ) where
 
       -- the commitment and the two parts that are lent to the judgement are the record's fields
       pub well_formed_lem : {answer : ℕ} {x : ParsedRecord} → x ≡ parsed_record r → x.code ≡ 0
-          → let u = x.segment_path_lem in let v = x.entry_path_lem in
+          → let u = x.segment_path in let v = x.entry_path in
           answer ≡ first_refusal (judgement (deal_terms commitment d number)
           (parsed (fields x.commitment x.offset x.size x.place
           (take (u + x.segment_path_length - u) (drop u r)) (take (v + x.entry_path_length - v) (drop v r))
@@ -47,6 +47,6 @@ module _ (commitment : List ℕ) (d number : ℕ) (r : List ℕ) where
           j
           ∙ (λ i. first_refusal (judgement (deal_terms commitment d number)
           (parsed (fields x.commitment x.offset x.size x.place
-          (part_range r x.segment_path_lem x.segment_path_length i)
-          (part_range r x.entry_path_lem x.entry_path_length i) x.number))))
+          (part_range r x.segment_path x.segment_path_length i)
+          (part_range r x.entry_path x.entry_path_length i) x.number))))
           ∙ rw (eq-eqb (length commitment) 32 l, s, q)

@@ -107,9 +107,9 @@ module _ (r : List ℕ) where
           offset = offset;
           size = size;
           place = place;
-          segment_path_lem = get_or starts 4 0;
+          segment_path = get_or starts 4 0;
           segment_path_length = get_or lengths 4 0;
-          entry_path_lem = get_or starts 5 0;
+          entry_path = get_or starts 5 0;
           entry_path_length = get_or lengths 5 0;
           number = number;
         })
@@ -121,9 +121,9 @@ module _ (r : List ℕ) where
           offset = (o ∙ ap number_of (content_there 1 8 (omega arith) refl)) i;
           size = (s ∙ ap number_of (content_there 2 8 (omega arith) refl)) i;
           place = (p ∙ ap number_of (content_there 3 8 (omega arith) refl)) i;
-          segment_path_lem = get_or starts 4 0;
+          segment_path = get_or starts 4 0;
           segment_path_length = get_or lengths 4 0;
-          entry_path_lem = get_or starts 5 0;
+          entry_path = get_or starts 5 0;
           entry_path_length = get_or lengths 5 0;
           number = (n ∙ ap number_of (content_there 6 8 (omega arith) refl)) i;
         }

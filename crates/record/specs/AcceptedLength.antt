@@ -28,7 +28,7 @@ module _ (terms : DealTerms) (r : List ℕ) (b : Bytes r) (e : check_of terms r 
       let a = accepted_fields r terms e in
       sym (ap length (accepted_encodes r terms e b))
       ∙ encode_length (fields_of r) (accepted_sized r terms e b).commitment_32
-      ∙ ap₂ (λ (m n : ℕ). table_length layout (m ∷ n ∷ [])) a.segment_path_length_lem a.entry_path_length_lem
+      ∙ ap₂ (λ (m n : ℕ). table_length layout (m ∷ n ∷ [])) a.segment_path_length a.entry_path_length
 
   pub accepted_range : (213 ≤ length r) × (length r ≤ 1973)
   accepted_range =

@@ -16,8 +16,8 @@ pub record Accepted (terms : DealTerms) (x : Fields) : Type 0 where
   pub size_allowed : segment_size_allowed terms.size x.size ≡ true
   pub offset_allowed_lem : offset_allowed terms.size x.offset x.size ≡ true
   pub place_allowed_lem : place_allowed terms.size x.place ≡ true
-  pub segment_path_length_lem : length x.segment_path ≡ 32 * segment_path_levels terms.size x.size
-  pub entry_path_length_lem : length x.entry_path ≡ 32 * entry_path_levels terms.size
+  pub segment_path_length : length x.segment_path ≡ 32 * segment_path_levels terms.size x.size
+  pub entry_path_length : length x.entry_path ≡ 32 * entry_path_levels terms.size
   pub commitment_clear : clear_node x.commitment ≡ true
   pub segment_path_clear : no_stray_bits x.segment_path ≡ true
   pub entry_path_clear : no_stray_bits x.entry_path ≡ true
@@ -44,9 +44,9 @@ judged terms x e =
       size_allowed = b.0;
       offset_allowed_lem = b.1.0;
       place_allowed_lem = b.1.1.0;
-      segment_path_length_lem = eqb-true (length x.segment_path) (32 * segment_path_levels terms.size x.size)
+      segment_path_length = eqb-true (length x.segment_path) (32 * segment_path_levels terms.size x.size)
           (and_left u v b.1.1.1.0);
-      entry_path_length_lem = eqb-true (length x.entry_path) (32 * entry_path_levels terms.size)
+      entry_path_length = eqb-true (length x.entry_path) (32 * entry_path_levels terms.size)
           (and_right u v b.1.1.1.0);
       commitment_clear = b.1.1.1.1.0;
       segment_path_clear = and_left (no_stray_bits x.segment_path) (no_stray_bits x.entry_path) b.1.1.1.1.1.0;
@@ -60,8 +60,8 @@ judges terms x a =
     let u = eqb (length x.segment_path) (32 * segment_path_levels terms.size x.size) in
     let v = eqb (length x.entry_path) (32 * entry_path_levels terms.size) in
     let sized = and_both u v
-    (eq-eqb (length x.segment_path) (32 * segment_path_levels terms.size x.size) a.segment_path_length_lem)
-    (eq-eqb (length x.entry_path) (32 * entry_path_levels terms.size) a.entry_path_length_lem) in
+    (eq-eqb (length x.segment_path) (32 * segment_path_levels terms.size x.size) a.segment_path_length)
+    (eq-eqb (length x.entry_path) (32 * entry_path_levels terms.size) a.entry_path_length) in
     let clear = and_both (no_stray_bits x.segment_path) (no_stray_bits x.entry_path) a.segment_path_clear
     a.entry_path_clear in
     let segment_leads = same_of (segment_path_root terms.size x) terms.commitment a.segment_path_leads in

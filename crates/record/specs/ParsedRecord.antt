@@ -15,9 +15,9 @@ unread code =
       offset = 0;
       size = 0;
       place = 0;
-      segment_path_lem = 0;
+      segment_path = 0;
       segment_path_length = 0;
-      entry_path_lem = 0;
+      entry_path = 0;
       entry_path_length = 0;
       number = 0;
     }
@@ -35,9 +35,9 @@ read_at r (spans starts lengths) =
       offset = number_of (content_at r starts lengths 1);
       size = number_of (content_at r starts lengths 2);
       place = number_of (content_at r starts lengths 3);
-      segment_path_lem = get_or starts 4 0;
+      segment_path = get_or starts 4 0;
       segment_path_length = get_or lengths 4 0;
-      entry_path_lem = get_or starts 5 0;
+      entry_path = get_or starts 5 0;
       entry_path_length = get_or lengths 5 0;
       number = number_of (content_at r starts lengths 6);
     }

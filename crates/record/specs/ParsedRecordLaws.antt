@@ -16,13 +16,13 @@ use Rattle.record.specs.declared.ParsedRecord.{ParsedRecord}
 -- the fields that an answer names in a record
 abbrev pub fields_at : List ℕ → ParsedRecord → Fields
 fields_at r x =
-    fields x.commitment x.offset x.size x.place (part r x.segment_path_lem x.segment_path_length)
-    (part r x.entry_path_lem x.entry_path_length) x.number
+    fields x.commitment x.offset x.size x.place (part r x.segment_path x.segment_path_length)
+    (part r x.entry_path x.entry_path_length) x.number
 
 -- the paths lie within the record
 pub record Within (r : List ℕ) (x : ParsedRecord) : Type 0 where
-  pub segment_path_within : x.segment_path_lem + x.segment_path_length ≤ length r
-  pub entry_path_within : x.entry_path_lem + x.entry_path_length ≤ length r
+  pub segment_path_within : x.segment_path + x.segment_path_length ≤ length r
+  pub entry_path_within : x.entry_path + x.entry_path_length ≤ length r
 
 module _ (r : List ℕ) where
   -- the contents of the table's rows, as fields

@@ -24,9 +24,9 @@ fn paths_sized(d: u64, size: u64, segment_path_length: usize, entry_path_length:
 
 // Whether no node of either path has stray bits.
 fn paths_clear(segment_path: &[u8], entry_path: &[u8]) -> bool
-    ensures { result ≡ (no_stray_bits segment_path_lem.now && no_stray_bits entry_path_lem.now) }
+    ensures { result ≡ (no_stray_bits segment_path.now && no_stray_bits entry_path.now) }
 {
-    stray::no_stray_bits(segment_path_lem) && stray::no_stray_bits(entry_path_lem)
+    stray::no_stray_bits(segment_path) && stray::no_stray_bits(entry_path)
 }
 
 // Whether a path leads from a node at a position to a commitment.
@@ -49,8 +49,8 @@ pub(crate) fn judge(
 ) -> u8
     requires { deal_size_allowed d ≡ true }
     ensures { result ≡ first_refusal (judgement (deal_terms commitment.now d number)
-        (parsed (fields x.commitment x.offset x.size x.place segment_path_lem.now
-        entry_path_lem.now x.number))) }
+        (parsed (fields x.commitment x.offset x.size x.place segment_path.now
+        entry_path.now x.number))) }
 {
     if x.number != number {
         return 21;
@@ -64,22 +64,22 @@ pub(crate) fn judge(
     if !sizes::place_allowed(d, x.place) {
         return 6;
     }
-    if !paths_sized(d, x.size, segment_path_lem.len(), entry_path_lem.len()) {
+    if !paths_sized(d, x.size, segment_path.len(), entry_path.len()) {
         return 7;
     }
     let segment = x.commitment;
     if segment[31] >= 64 {
         return 8;
     }
-    if !paths_clear(segment_path_lem, entry_path_lem) {
+    if !paths_clear(segment_path, entry_path) {
         return 19;
     }
     let position = sizes::segment_position(x.offset, x.size);
-    if !leads_to(commitment, segment, position, segment_path_lem) {
+    if !leads_to(commitment, segment, position, segment_path) {
         return 9;
     }
     let entry = entries::entry_of(segment, x.offset, x.size);
-    if !leads_to(commitment, node::node_hash(entry), x.place / 64, entry_path_lem) {
+    if !leads_to(commitment, node::node_hash(entry), x.place / 64, entry_path) {
         return 10;
     }
     0

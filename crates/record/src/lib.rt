@@ -42,10 +42,10 @@ pub fn check(commitment: &[u8], size: u64, number: u64, record: &[u8]) -> u8
     if parsed.code != 0 {
         return parsed.code;
     }
-    let segment_path_lem = parsed.segment_path_lem;
-    let segment_path_end = segment_path_lem + parsed.segment_path_length;
-    let entry_path_lem = parsed.entry_path_lem;
-    let entry_path_end = entry_path_lem + parsed.entry_path_length;
+    let segment_path = parsed.segment_path;
+    let segment_path_end = segment_path + parsed.segment_path_length;
+    let entry_path = parsed.entry_path;
+    let entry_path_end = entry_path + parsed.entry_path_length;
     judgement::judge(
         commitment,
         size,

@@ -63,10 +63,10 @@ module _ (deal : LentDeal) (fine : deal_refusal deal ≡ 0) where
 
     -- the lengths of the record's paths tell their levels
     pub entry_levels : length x.entry_path / 32 ≡ entry_path_levels (deal_size deal)
-    entry_levels = let l = a.entry_path_length_lem in omega arith
+    entry_levels = let l = a.entry_path_length in omega arith
 
     pub segment_levels : length x.segment_path / 32 ≡ segment_path_levels (deal_size deal) x.size
-    segment_levels = let l = a.segment_path_length_lem in omega arith
+    segment_levels = let l = a.segment_path_length in omega arith
 
     -- what is found in the two parts
     pub entries_found_lem :

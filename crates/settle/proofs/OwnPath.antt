@@ -10,7 +10,7 @@ use Rattle.paths.specs.NodesSized.{NodesSized}
 use Rattle.sizes.specs.Sizes.{deal_level, segment_path_levels, entry_path_levels}
 use Rattle.lent.specs.LentDeal.{LentDeal, deal_size}
 use Rattle.builder.specs.Build.{segment_path_of, entry_path_of}
-use Rattle.builder.specs.BuildLaws.{InDeal, segment_path_length_lem, entry_path_length_lem}
+use Rattle.builder.specs.BuildLaws.{InDeal, segment_path_length, entry_path_length}
 use Rattle.settle.specs.OwnPaths.{own_paths}
 
 -- two strings behind one another at the start of a buffer
@@ -45,10 +45,10 @@ module _ (deal : LentDeal) (each : NodesSized deal.nodes (deal_level (deal_size 
   paths_room = omega (arith, w.segment_up, w.entry_up, w.size_is.level_low, w.lent_is.lent_level)
 
   segment_sized : length (segment_path_of deal offset size) ≡ SegmentBytes
-  segment_sized = segment_path_length_lem deal each place offset size w
+  segment_sized = segment_path_length deal each place offset size w
 
   entry_sized : length (entry_path_of deal place) ≡ EntryBytes
-  entry_sized = entry_path_length_lem deal each place offset size w
+  entry_sized = entry_path_length deal each place offset size w
 
   module _ (out : List ℕ) (e : out ≡ own_paths deal offset size place (replicate 1120 0)) where
     pub own_length : length out ≡ 1120

@@ -46,7 +46,7 @@ module _ {terms : DealTerms} {x y : Fields} (ax : Accepted terms x) (ay : Accept
       let f = entry_for y in
       let start = entry_start terms.size in
       paths_compared_lem (node_hash e) x.entry_path (e ∷ []) (node_hash f) y.entry_path (f ∷ []) (start x.place)
-      ax.entry_path_length_lem ay.entry_path_length_lem
+      ax.entry_path_length ay.entry_path_length
       ∙ (λ i. compared (first_difference (entry_strings terms.size x)
       (strings_from (start (at i)) (node_hash f) y.entry_path (f ∷ []))))
 
@@ -58,8 +58,8 @@ module _ {terms : DealTerms} {x y : Fields} (ax : Accepted terms x) (ay : Accept
   segments_found_lem o z =
       let start = segment_start terms.size in
       paths_compared_lem x.commitment x.segment_path [] y.commitment y.segment_path []
-      (start x.offset x.size) ax.segment_path_length_lem
-      (ay.segment_path_length_lem ∙ ap (λ (m : ℕ). 32 * segment_path_levels terms.size m) (sym z))
+      (start x.offset x.size) ax.segment_path_length
+      (ay.segment_path_length ∙ ap (λ (m : ℕ). 32 * segment_path_levels terms.size m) (sym z))
       ∙ (λ i. compared (first_difference (segment_strings terms.size x)
       (strings_from (start (o i) (z i)) y.commitment y.segment_path [])))
 
@@ -88,7 +88,7 @@ module _ {terms : DealTerms} {r s : List ℕ} {x y : ParsedRecord} (a : Accepted
 
   -- what the code requires on the way: entry paths of one length, and an area to divide by
   pub entry_paths : length (fields_at r x).entry_path ≡ length (fields_at s y).entry_path
-  entry_paths = (accepted a).entry_path_length_lem ∙ sym (accepted b).entry_path_length_lem
+  entry_paths = (accepted a).entry_path_length ∙ sym (accepted b).entry_path_length
 
   pub area_there : 0 < area x.size
   area_there =
@@ -133,9 +133,9 @@ module _ {terms : DealTerms} {r s : List ℕ} {x y : ParsedRecord} (a : Accepted
 
         pub segment_paths : length (fields_at r x).segment_path ≡ length (fields_at s y).segment_path
         segment_paths =
-            (accepted a).segment_path_length_lem
+            (accepted a).segment_path_length
             ∙ ap (λ (size : ℕ). 32 * segment_path_levels terms.size size) named.2
-            ∙ sym (accepted b).segment_path_length_lem
+            ∙ sym (accepted b).segment_path_length
 
         pub entries_same : {rest : Compared}
             → rest

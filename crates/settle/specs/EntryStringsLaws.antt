@@ -26,7 +26,7 @@ same_entry terms x y ax ay at e =
     let start = entry_start terms.size in
     let r = same_strings (start x.place) (node_hash (entry_for x)) (node_hash (entry_for y)) x.entry_path
     y.entry_path (entry_for x ∷ []) (entry_for y ∷ []) (node_hash_length (entry_for x)) (node_hash_length (entry_for y))
-    ax.entry_path_length_lem ay.entry_path_length_lem
+    ax.entry_path_length ay.entry_path_length
     (e ∙ ap (λ (p : ℕ). strings_from (start p) (node_hash (entry_for y)) y.entry_path (entry_for y ∷ [])) (sym at)) in
     let q : entry_for x ∷ [] ≡ entry_for y ∷ [] = r.same_below in
     (r.same_siblings, cc)

@@ -27,9 +27,9 @@ fn settle_accepted(first: &[u8], x: ParsedRecord, second: &[u8], y: ParsedRecord
     let found = compare_entries(
         place / 64,
         entry_for(x),
-        path_in(first, x.entry_path_lem, x.entry_path_length),
+        path_in(first, x.entry_path, x.entry_path_length),
         entry_for(y),
-        path_in(second, y.entry_path_lem, y.entry_path_length),
+        path_in(second, y.entry_path, y.entry_path_length),
     );
     if found.differs {
         return settled_from(found);
@@ -39,9 +39,9 @@ fn settle_accepted(first: &[u8], x: ParsedRecord, second: &[u8], y: ParsedRecord
     settled_from(compare_segments(
         sizes::segment_position(x.offset, x.size),
         commitment,
-        path_in(first, x.segment_path_lem, x.segment_path_length),
+        path_in(first, x.segment_path, x.segment_path_length),
         other_commitment,
-        path_in(second, y.segment_path_lem, y.segment_path_length),
+        path_in(second, y.segment_path, y.segment_path_length),
     ))
 }
 

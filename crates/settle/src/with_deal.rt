@@ -120,9 +120,9 @@ fn compare_deal_entry(
     let entry = entry_for(x);
     let own_entry = octets::pair_at(deal, place);
     let seen = compare_strings(entry, own_entry);
-    let entry_path_lem = path_in(record, x.entry_path_lem, x.entry_path_length);
+    let entry_path = path_in(record, x.entry_path, x.entry_path_length);
     let node = node::node_hash(entry);
-    let levels = entry_path_lem.len() / 32;
+    let levels = entry_path.len() / 32;
     let own_node = lent::node_in(deal, tree, has_tree, levels, 1, place / 64);
     lent::compare_with_own(
         deal,
@@ -133,7 +133,7 @@ fn compare_deal_entry(
         own_node,
         own_path,
         node,
-        entry_path_lem,
+        entry_path,
         seen,
     )
 }
@@ -163,7 +163,7 @@ fn compare_deal_segment(
     let level = sizes::segment_level(x.size);
     let position = sizes::segment_position(x.offset, x.size) as usize;
     let commitment = x.commitment;
-    let segment_path_lem = path_in(record, x.segment_path_lem, x.segment_path_length);
+    let segment_path = path_in(record, x.segment_path, x.segment_path_length);
     let seen = no_difference();
     lent::compare_with_own(
         deal,
@@ -174,7 +174,7 @@ fn compare_deal_segment(
         own_node,
         own_path,
         commitment,
-        segment_path_lem,
+        segment_path,
         seen,
     )
 }
@@ -208,8 +208,8 @@ fn settle_in(deal: &[u8], tree: &[u8], has_tree: bool, number: u64, record: &[u8
     if found.differs {
         return settled_from(found);
     }
-    let segment_path_lem = &own[..middle];
-    settled_from(compare_deal_segment(deal, tree, has_tree, node, segment_path_lem, record, x))
+    let segment_path = &own[..middle];
+    settled_from(compare_deal_segment(deal, tree, has_tree, node, segment_path, record, x))
 }
 
 // Settles a record with a deal: 2 for a deal size that is not allowed, 11 for a deal with stray bits, the refusal of

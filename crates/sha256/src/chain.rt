@@ -23,7 +23,7 @@ fn small_sigma1(x: u32) -> u32
 }
 
 // A word of the schedule, from those 2, 7, 15 and 16 before it.
-pub(crate) fn next_word_lem(w2: u32, w7: u32, w15: u32, w16: u32) -> u32
+pub(crate) fn next_word(w2: u32, w7: u32, w15: u32, w16: u32) -> u32
     ensures { result ≡ F.schedule_word w2 w7 w15 w16 }
 {
     add(add(add(small_sigma1(w2), w7), small_sigma0(w15)), w16)

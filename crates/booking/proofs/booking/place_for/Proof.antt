@@ -15,7 +15,7 @@ use Rattle.booking.proofs.Deciding.{
   slots_fit,
   held_within,
   gathered_end,
-  held_by_lem,
+  held_by,
   decided_below,
   answer_by,
 }
@@ -50,7 +50,7 @@ held_is h =
     let g = h.before in
     let s = start g in
     h.held-count.ensures
-    ∙ held_by_lem (lent s) (table s) s.args.house (segment s) s.pre.0 g.gather.result g.gather.ensures
+    ∙ held_by (lent s) (table s) s.args.house (segment s) s.pre.0 g.gather.result g.gather.ensures
 
 gather-requires : tie.Need-gather-requires
 gather-requires c κs = c.before.before.before.before.requires.0.bookable.deal_allowed

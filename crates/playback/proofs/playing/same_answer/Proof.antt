@@ -1,6 +1,6 @@
 use borrow.Author.Tests.{eq-eqb, ne_eqb}
-use Rattle.playback.proofs.playing.same_answer_lem.Statement.{statement}
-use Rattle.playback.proofs.playing.same_answer_lem.Tie as tie
+use Rattle.playback.proofs.playing.same_answer.Statement.{statement}
+use Rattle.playback.proofs.playing.same_answer.Tie as tie
 
 -- up to the test of the offsets: the codes are the same
 abbrev same_code : tie.After-struct-known4 → tie.Then1

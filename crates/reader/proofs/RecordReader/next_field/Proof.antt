@@ -62,10 +62,10 @@ use Rattle.reader.specs.Reader.{reader_at, next_place}
 use Rattle.reader.specs.declared.RecordReader.{RecordReader}
 use Rattle.reader.specs.contracts.RecordReader as T
 use Rattle.reader.proofs.RecordReader.TheLaws as T'
-use Rattle.reader.specs.contracts.next_place_lem as after
-use Rattle.reader.proofs.next_place_lem.Symbol as after-def
-use Rattle.reader.proofs.next_place_lem.Symbol.{name as #reader·next-place}
-use Rattle.reader.proofs.next_place_lem.Met as after-thm
+use Rattle.reader.specs.contracts.next_place as after
+use Rattle.reader.proofs.next_place.Symbol as after-def
+use Rattle.reader.proofs.next_place.Symbol.{name as #reader·next-place}
+use Rattle.reader.proofs.next_place.Met as after-thm
 use Rattle.reader.specs.contracts.RecordReader.next_field.Key.{name as #reader·next-field}
 use Rattle.reader.specs.contracts.RecordReader.next_field as next_field
 use Rattle.reader.proofs.RecordReader.next_field.Statement as stated

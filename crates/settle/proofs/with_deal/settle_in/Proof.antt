@@ -147,9 +147,9 @@ sized c =
     let r = bytes (start (node2 c)) in
     let i = within (taken c) in
     let a = accepted (taken c) in (
-      sym (part_length r (x c).segment_path_lem (x c).segment_path_length i.segment_path_within)
+      sym (part_length r (x c).segment_path (x c).segment_path_length i.segment_path_within)
           ∙ a.segment_path_length,
-      sym (part_length r (x c).entry_path_lem (x c).entry_path_length i.entry_path_within) ∙ a.entry_path_length,
+      sym (part_length r (x c).entry_path (x c).entry_path_length i.entry_path_within) ∙ a.entry_path_length,
     )
 
 -- they fit, and each is read where it stands

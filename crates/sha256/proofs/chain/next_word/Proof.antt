@@ -1,8 +1,8 @@
 -- `next_word`: what each call gives, put together.
 use Rattle.sha256.specs.Fips.{schedule_word}
 use Rattle.std.proofs.Common.{rules}
-use Rattle.sha256.proofs.chain.next_word_lem.Statement.{statement}
-use Rattle.sha256.proofs.chain.next_word_lem.Tie as tie
+use Rattle.sha256.proofs.chain.next_word.Statement.{statement}
+use Rattle.sha256.proofs.chain.next_word.Tie as tie
 
 returns : tie.Need-returns
 unfolding schedule_word
