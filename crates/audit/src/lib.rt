@@ -1,4 +1,6 @@
 // The audit of a deal's index: the state of every slot, each area hashed at most once.
+#![tactic(auto)]
+
 ghost use Rattle.std.specs.Prelude.{◌≡◌, true, ◌≤◌, ◌<◌, length};
 ghost use Rattle.octets.specs.Splice.{splice};
 ghost use Rattle.sizes.specs.Sizes.{lent_size_allowed, entry_count, slot_place};

@@ -27,7 +27,7 @@ fn area_node(
 ) -> [u8; 32]
     requires usable { Usable (lent_with has_tree deal.now tree.now) }
     requires size_value { segment_size_allowed (length deal.now) size ≡ true }
-    requires size_value_2 { offset_allowed (length deal.now) offset size ≡ true }
+    requires offset_value { offset_allowed (length deal.now) offset size ≡ true }
     ensures { result
         ≡ choose has_tree
         (tree_nodes deal.now tree.now (segment_level size) (segment_position offset size))

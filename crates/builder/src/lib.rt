@@ -1,4 +1,6 @@
 // Building an inclusion record.
+#![tactic(auto)]
+
 mod building;
 mod writing;
 

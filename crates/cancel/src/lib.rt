@@ -1,4 +1,6 @@
 // Cancelling an entry of a house in a deal, with a tree beside the deal or without one.
+#![tactic(auto)]
+
 ghost use Rattle.std.specs.Prelude.{◌≡◌};
 ghost use Rattle.rules.specs.Choice.{choose};
 ghost use Rattle.lent.specs.LentDeal.{lent_with, lent_deal, tree_deal};

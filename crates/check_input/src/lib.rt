@@ -1,5 +1,7 @@
 // The check of a record as the program `check_record` reads it: commitment, deal size, deal number and record in one
 // run of bytes.
+#![tactic(auto)]
+
 ghost use Rattle.std.specs.Prelude.{◌≡◌};
 ghost use Rattle.check_input.specs.Input.{check_input};
 

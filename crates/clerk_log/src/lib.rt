@@ -1,4 +1,6 @@
 // The clerks' log: tagged fields, a line for each booking and each cancellation whose answer gets one.
+#![tactic(auto)]
+
 mod reading; // reading.rt: the line at a place of a log
 mod whole; // whole.rt: the form of a whole log
 
@@ -13,6 +15,7 @@ pub const CANCELLING: u8 = 2;
 
 // A line for a booking: house, commitment and size of the segment, and the answer.
 #[derive(Drop)]
+#[derive(Clone, Copy)]
 pub struct BookingLine {
     pub house: u8,
     pub commitment: [u8; 32],
@@ -22,6 +25,7 @@ pub struct BookingLine {
 
 // A line for a cancellation: house, entry place, and the code that was answered.
 #[derive(Drop)]
+#[derive(Clone, Copy)]
 pub struct CancellingLine {
     pub house: u8,
     pub place: u64,

@@ -1,6 +1,7 @@
 // The form of a whole log: lines and nothing else, each of which may stand in the log of a deal of this size.
 ghost use Rattle.std.specs.Prelude.{◌≡◌};
-ghost use Rattle.clerk_log.specs.Log.{booking_logged, cancelling_logged, booking_allowed, cancelling_allowed, log_lines};
+ghost use Rattle.clerk_log.specs.Log.{booking_logged, cancelling_logged, booking_allowed, cancelling_allowed};
+ghost use Rattle.clerk_log.specs.Log.{log_lines};
 ghost use Rattle.clerk_log.specs.LineAt.{line_field, line_of, is_log};
 ghost use Rattle.clerk_log.specs.Log.{line_allowed};
 ghost use Rattle.fields.specs.declared.Field.TheVariants.{Content};

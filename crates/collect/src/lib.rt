@@ -1,5 +1,7 @@
 // Collection: a deal's standing segments packed from 0 in a second deal, with a tree beside that or without one, and
 // their owners in a second table.
+#![tactic(auto)]
+
 mod moving; // moving.rt: areas and entries written into the new deal, owners into the new table
 
 ghost use Rattle.std.specs.Prelude.{◌≡◌, true, length};
@@ -26,7 +28,7 @@ fn write_new_deal(deal: &[u8], new: &mut [u8], ranges: Ranges, slots: usize)
 // Writes the new table over whatever the second one holds.
 fn write_new_table(deal: &[u8], table: &[u8], new: &mut [u8], ranges: Ranges, slots: usize)
     requires ready { Ready deal.now ranges slots × (table_sized (length deal.now) table.now ≡ true) }
-    requires value { table_sized (length deal.now) new.old ≡ true }
+    requires new_sized { table_sized (length deal.now) new.old ≡ true }
     ensures { new.new ≡ collected_table deal.now table.now }
 {
     octets::fill_zero(new);

@@ -1,4 +1,6 @@
 // Index entries: their bytes, their checksum, and their kinds.
+#![tactic(auto)]
+
 mod entry; // entry.rt: entries and their checksum
 
 pub use entry::{entry_of, kind_of, make_entry, read_entry};

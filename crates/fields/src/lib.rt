@@ -1,5 +1,7 @@
 // Tagged fields: one tag byte, two length bytes (the least first), content. Read at a place or by a row of a table, and
 // written one behind another.
+#![tactic(auto)]
+
 mod reading; // reading.rt: the field at a place
 mod writing; // writing.rt: a field into an output
 
@@ -8,6 +10,7 @@ pub use writing::{put_head, put_node, put_number};
 
 // A field: its tag, where its content starts, the content's length, and the next field's place; or the refusal, code 3.
 #[derive(Drop)]
+#[derive(Clone, Copy)]
 pub enum Field {
     Content {
         tag: u8,

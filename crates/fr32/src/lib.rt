@@ -1,4 +1,6 @@
 // Fr32 padding: raw bytes to a segment and back.
+#![tactic(auto)]
+
 mod bits; // bits.rt: eight bits across two bytes
 mod padding; // padding.rt: raw bytes to a segment
 mod unpadding; // unpadding.rt: a segment to raw bytes

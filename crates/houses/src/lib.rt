@@ -1,4 +1,6 @@
 // Two houses in one deal: their numbers, and the table that says which of them owns which slot.
+#![tactic(auto)]
+
 ghost use Rattle.std.specs.Prelude.{◌≡◌, true, ◌≤◌, ◌<◌, length};
 ghost use Rattle.rules.specs.Refusals.{first_refusal};
 ghost use Rattle.sizes.specs.Sizes.{lent_size_allowed, place_allowed};

@@ -47,10 +47,10 @@ fn tried_before(
 
 // Whether the entry of a row is kept. An area that was tried before in vain is not hashed again.
 fn keeps(deal: &[u8], row: Row, tried: bool) -> bool
-    requires deal_value { lent_size_allowed (length deal.now) ≡ true }
-    requires size_value { row.stands ≡ true → segment_size_allowed (length deal.now) row.size ≡ true }
-    requires size_value_2 { row.stands ≡ true → offset_allowed (length deal.now) row.offset row.size ≡ true }
-    requires row_value { tried ≡ true → kept_by (node_at deal.now) row ≡ false }
+    requires deal_allowed { lent_size_allowed (length deal.now) ≡ true }
+    requires size_allowed { row.stands ≡ true → segment_size_allowed (length deal.now) row.size ≡ true }
+    requires offset_allowed { row.stands ≡ true → offset_allowed (length deal.now) row.offset row.size ≡ true }
+    requires tried_in_vain { tried ≡ true → kept_by (node_at deal.now) row ≡ false }
     ensures { result ≡ kept_by (node_at deal.now) row }
 {
     if tried {
@@ -127,11 +127,11 @@ pub fn find_numbers(deal: &[u8], commitment: &[u8]) -> FoundSegment
 // The bytes of that segment: the part of the lent deal itself, at the offset and of the size that were found; empty on
 // every refusal.
 pub fn find<'d, 'c>(deal: &'d [u8], commitment: &'c [u8]) -> &'d [u8]
-    ensures result_value { result.now ≡ find_view (lent_deal deal.now) commitment.now }
-    ensures ref_ptr_value { result.ref_ptr.0 ≡ deal.entry.ref_ptr.0 }
-    ensures ref_ptr_value_2 { result.ref_ptr.1
+    ensures view { result.now ≡ find_view (lent_deal deal.now) commitment.now }
+    ensures same_region { result.ref_ptr.0 ≡ deal.entry.ref_ptr.0 }
+    ensures at_offset { result.ref_ptr.1
         ≡ (find_numbers (lent_deal deal.now) commitment.now).offset + deal.entry.ref_ptr.1 }
-    ensures result_len { length result.now ≡ (find_numbers (lent_deal deal.now) commitment.now).size }
+    ensures size { length result.now ≡ (find_numbers (lent_deal deal.now) commitment.now).size }
 {
     let found = find_numbers(deal, commitment);
     let start = found.offset as usize;

@@ -1,4 +1,6 @@
 // The index of a lent deal: its slots, finding a segment, and the tally of its slots.
+#![tactic(auto)]
+
 mod finding; // finding.rt: finding a segment by its commitment
 mod slots; // slots.rt: standing and kept entries
 mod tallying; // tallying.rt: how many slots are of each kind
@@ -9,6 +11,7 @@ pub use tallying::tally;
 
 // A row: what stands in a slot; zeros where nothing does.
 #[derive(Drop)]
+#[derive(Clone, Copy)]
 pub struct Row {
     pub stands: bool,
     pub commitment: [u8; 32],

@@ -1,7 +1,8 @@
 // The slots of a deal's index: which entries stand, and which are kept.
 ghost use Rattle.std.specs.Prelude.{◌≡◌, true, ◌+◌, ◌≤◌, length};
 ghost use Rattle.octets.specs.Equality.{same_bytes};
-ghost use Rattle.sizes.specs.Sizes.{lent_size_allowed, segment_size_allowed, offset_allowed, segment_level, segment_position};
+ghost use Rattle.sizes.specs.Sizes.{lent_size_allowed, segment_size_allowed, offset_allowed};
+ghost use Rattle.sizes.specs.Sizes.{segment_level, segment_position};
 ghost use Rattle.lent.specs.LentDeal.{lent_with};
 ghost use Rattle.lent.specs.Usable.{Usable};
 ghost use Rattle.index.specs.Slots.{entry_at, free, row_of, kept_row, row_area};
@@ -83,8 +84,8 @@ pub(crate) fn segment_has(
     commitment: [u8; 32],
 ) -> bool
     requires usable { Usable (lent_with has_tree deal.now tree.now) }
-    requires size_value { segment_size_allowed (length deal.now) size ≡ true }
-    requires size_value_2 { offset_allowed (length deal.now) offset size ≡ true }
+    requires size_allowed { segment_size_allowed (length deal.now) size ≡ true }
+    requires offset_allowed { offset_allowed (length deal.now) offset size ≡ true }
     ensures { result
         ≡ same_bytes
         ((lent_with has_tree deal.now tree.now).nodes (segment_level size)

@@ -1,6 +1,8 @@
 // A lent deal, with a tree beside it or without one: the refusals that routines over it start with, its nodes, its
 // Merkle paths, filling the tree, and bringing it up to date. A tree is told by `has_tree`; where it is false, `tree`
 // is not looked at.
+#![tactic(auto)]
+
 mod comparing; // comparing.rt: a path compared with the deal's own pairs of nodes
 mod filling; // filling.rt: filling the tree, and bringing it up to date
 mod nodes; // nodes.rt: the nodes of the deal
@@ -18,6 +20,7 @@ pub use own_paths::write_paths;
 
 // A node of the deal's tree on a level: its position there, and its bytes.
 #[derive(Drop)]
+#[derive(Clone, Copy)]
 pub struct PathNode {
     pub position: usize,
     pub node: [u8; 32],

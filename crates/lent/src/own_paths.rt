@@ -103,7 +103,7 @@ fn write_below(
     requires usable { Usable (lent_with has_tree deal.now tree.now) }
     requires in_tree { InTree (deal_level (length deal.now)) (path_start levels level node.position) }
     requires node { IsNode (lent_with has_tree deal.now tree.now).nodes level node }
-    requires count_le_levels { (count ≤ levels) × (at + 32 * levels ≤ length out.old) }
+    requires fits { (count ≤ levels) × (at + 32 * levels ≤ length out.old) }
     ensures { IsNode (lent_with has_tree deal.now tree.now).nodes (level + count) result
         × InTree (deal_level (length deal.now)) (path_start (levels - count) (level + count) result.position)
         × (splice out.old at
@@ -148,11 +148,11 @@ fn write_both(
     second_at: usize,
 ) -> [u8; 32]
     requires usable { Usable (lent_with has_tree deal.now tree.now) }
-    requires in_tree { InTree (deal_level (length deal.now)) (path_start levels level first.position) }
-    requires in_tree_2 { InTree (deal_level (length deal.now)) (path_start levels level second.position) }
-    requires node { IsNode (lent_with has_tree deal.now tree.now).nodes level first }
-    requires node_2 { IsNode (lent_with has_tree deal.now tree.now).nodes level second }
-    requires levels_bound { (at + 32 * levels ≤ second_at) × (second_at + 32 * levels ≤ length out.old) }
+    requires first_in_tree { InTree (deal_level (length deal.now)) (path_start levels level first.position) }
+    requires second_in_tree { InTree (deal_level (length deal.now)) (path_start levels level second.position) }
+    requires first_node { IsNode (lent_with has_tree deal.now tree.now).nodes level first }
+    requires second_node { IsNode (lent_with has_tree deal.now tree.now).nodes level second }
+    requires fits { (at + 32 * levels ≤ second_at) × (second_at + 32 * levels ≤ length out.old) }
     ensures { (result
         ≡ (lent_with has_tree deal.now tree.now).nodes (deal_level (length deal.now)) 0)
         × (out.new ≡ splice (splice out.old at

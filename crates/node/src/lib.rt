@@ -1,4 +1,6 @@
 // The node hash: SHA-256 of the 64 bytes of two nodes, with the two high bits of its last byte cleared.
+#![tactic(auto)]
+
 mod padding_block; // padding_block.rt: the second block, which is always the same
 
 ghost use Rattle.std.specs.Prelude.{◌≡◌};

@@ -1,4 +1,6 @@
 // Byte strings: equality, copies, little-endian numbers.
+#![tactic(auto)]
+
 mod fill; // fill.rt: strings filled with zeros
 
 ghost use Rattle.std.specs.Prelude.{◌≡◌, ◌+◌, ◌≤◌, ◌++◌, length, take, drop, replicate};

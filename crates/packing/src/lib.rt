@@ -1,5 +1,7 @@
 // Packing without gaps, from numbers alone: from the bytes that each slot takes up, the order of collection, and where
 // each slot moves.
+#![tactic(auto)]
+
 ghost use Rattle.std.specs.Prelude.{◌≡◌, ◌≤◌, ◌<◌};
 ghost use Rattle.rules.specs.Choice.{choose};
 ghost use Rattle.room.specs.Room.{Bounded, range, ranges_in};

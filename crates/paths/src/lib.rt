@@ -1,4 +1,6 @@
 // Merkle paths: the node that a path leads to, two paths compared, and the sibling of a node.
+#![tactic(auto)]
+
 ghost use Rattle.std.specs.Prelude.{◌≡◌, ◌/◌, length};
 ghost use Rattle.paths.specs.Path.{pair_of, path_root};
 ghost use Rattle.paths.specs.Compare.{compared_above, compared_up};

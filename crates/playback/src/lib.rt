@@ -1,5 +1,7 @@
 // Playing a log back: a ledger of rows under the rules of booking and cancelling, and the first line whose answers they
 // do not give.
+#![tactic(auto)]
+
 mod ledger; // ledger.rt: a ledger's rows, and the numbers that the rules look at
 mod playing; // playing.rt: one line played on a ledger
 mod rows; // rows.rt: the rows that come back, and their bytes
@@ -24,6 +26,7 @@ pub const ROWS: usize = 128;
 
 // A row of a ledger: house, commitment and size of the segment, offset, entry place; all zeros where it is vacant.
 #[derive(Drop)]
+#[derive(Clone, Copy)]
 pub struct LedgerRow {
     pub house: u8,
     pub commitment: [u8; 32],
@@ -34,6 +37,7 @@ pub struct LedgerRow {
 
 // What playback says: a code, 0, 2 or 3, or the number of the first line whose answers the rules do not give.
 #[derive(Drop)]
+#[derive(Clone, Copy)]
 pub enum Verdict {
     Code(u8),
     Line(u64),

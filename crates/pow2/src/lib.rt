@@ -1,4 +1,6 @@
 // Powers of two: the test by the count of ones, and the height by the count of trailing zeros.
+#![tactic(auto)]
+
 ghost use Rattle.std.specs.Prelude.{◌≡◌};
 ghost use Rattle.pow2.specs.Power.{is_power, height, power_between};
 

@@ -1,4 +1,6 @@
 // Which bytes the slots of a lent deal take up, each slot read and judged once.
+#![tactic(auto)]
+
 ghost use Rattle.std.specs.Prelude.{◌≡◌, true, length};
 ghost use Rattle.sizes.specs.Sizes.{lent_size_allowed, entry_count};
 ghost use Rattle.room.specs.Room.{SameBelow, ranges_in};

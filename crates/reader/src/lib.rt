@@ -1,4 +1,6 @@
 // A reader that holds a lent record and a place in it, and hands out the record's fields in turn.
+#![tactic(auto)]
+
 ghost use Rattle.std.specs.Prelude.{◌≡◌};
 ghost use Rattle.fields.specs.FieldAt.{field_at};
 ghost use Rattle.reader.specs.Reader.{next_place, place_after, left_after, reader_at, moved_on};

@@ -1,4 +1,6 @@
 // Inclusion records: their fields, and the check.
+#![tactic(auto)]
+
 mod form; // form.rt: the fields of a record, from its bytes alone
 mod judgement; // judgement.rt: the judgement over the fields, codes 21, 4 to 10 and 19
 mod layout; // layout.rt: the table of a record's fields
@@ -14,6 +16,7 @@ pub use layout::{
 // The fields of a record: code 0, its commitment and numbers, and where its paths stand in it; for bytes that are no
 // record code 3, and zeros.
 #[derive(Drop)]
+#[derive(Clone, Copy)]
 pub struct ParsedRecord {
     pub code: u8,
     pub commitment: [u8; 32],

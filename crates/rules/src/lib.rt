@@ -1,4 +1,5 @@
 // Refusals in order, choices and searches: definitions and laws in specs/.
+#![tactic(auto)]
 
 // What a search for the lowest number that passes a test comes to.
 #[derive(Drop)]

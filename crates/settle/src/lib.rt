@@ -1,4 +1,6 @@
 // Settling two records, or a record with a deal, with a tree beside it or without one.
+#![tactic(auto)]
+
 mod parsed; // parsed.rt: the entry and the paths of a parsed record
 mod records; // records.rt: two records
 mod strings; // strings.rt: strings compared

@@ -1,4 +1,6 @@
 // Allowed sizes, offsets and places, and the levels and positions that follow from them.
+#![tactic(auto)]
+
 ghost use Rattle.std.specs.Prelude.{◌≡◌, true, ◌≤◌, ◌<◌};
 ghost use Rattle.sizes.specs.Sizes.{deal_size_allowed, lent_size_allowed, area, segment_size_allowed, entry_count};
 ghost use Rattle.sizes.specs.Sizes.{index_start, offset_allowed, place_allowed, slot_place, deal_level, segment_level};

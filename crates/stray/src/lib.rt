@@ -1,6 +1,11 @@
 // Stray bits: bits 7 and 6 of byte 31 of a node.
+#![tactic(auto)]
+
 ghost use Rattle.std.specs.Prelude.{◌≡◌};
 ghost use Rattle.stray.specs.StrayBits.{no_stray_bits};
+
+// The least byte 31 of a node with stray bits.
+const LEAST_STRAY: u8 = 64;
 
 // Whether no whole node of a run has stray bits.
 pub fn no_stray_bits(run: &[u8]) -> bool
@@ -9,7 +14,7 @@ pub fn no_stray_bits(run: &[u8]) -> bool
     let n = run.len() / 32;
     let mut i = 0;
     while i < n {
-        if 64 <= run[i * 32 + 31] {
+        if LEAST_STRAY <= run[i * 32 + 31] {
             return false;
         }
         i += 1;

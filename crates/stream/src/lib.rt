@@ -1,5 +1,7 @@
 // The commitment of bytes that arrive in pieces. The state is handed in and handed back: it keeps the bytes of the node
 // that is not whole yet, and one waiting node for each height.
+#![tactic(auto)]
+
 mod packed; // packed.rt: the state as bytes
 mod parts; // parts.rt: the parts that a piece is taken by
 mod waiting; // waiting.rt: the waiting nodes

@@ -1,4 +1,6 @@
 // The inner nodes of a deal's tree, kept in a lent buffer beside it: heights from the bottom, left to right.
+#![tactic(auto)]
+
 mod nodes; // nodes.rt: where the nodes stand
 mod row; // row.rt: nodes of a row worked out from their children
 mod above; // above.rt: a row written from the row below it, in slices of their own

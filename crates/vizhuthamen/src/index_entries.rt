@@ -25,7 +25,7 @@ pub extern "C" fn vz_index_numbers(size: u64, entries: &mut u64, start: &mut u64
 #[unsafe(no_mangle)]
 pub extern "C" fn vz_make_entry(commitment: &[u8], offset: u64, size: u64, entry: &mut [u8]) -> u32
     ensures value { result ≡ lent_code 64 entry.old (made_entry commitment.now offset size).code }
-    ensures after { entry.new
+    ensures entry_after { entry.new
         ≡ lent_output result (made_entry commitment.now offset size).entry entry.old }
 {
     if entry.len() != 64 {

@@ -1,5 +1,7 @@
 // The library for programs in other languages: the functions of include/vizhuthamen.h, which says what each of them
 // does. A function passes what it is lent to the crate that does the work, and writes the answer to the lent outputs.
+#![tactic(auto)]
+
 pub mod bookings; // bookings.rt: booking a segment, with the tree beside the deal or without it, and filling that tree
 pub mod cancelling; // cancelling.rt: cancelling an entry, and collecting a deal into a second one
 pub mod deals; // deals.rt: the audit and the tally of an index, finding a segment
