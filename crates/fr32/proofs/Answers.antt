@@ -24,7 +24,8 @@ module _ (raw output : List ℕ) where
     pub pad_output_short : answer ≡ refused 12 → raw_length_allowed (length raw) ≡ true
         → length output < segment_length (length raw) → PadAnswered answer output
     unfolding pad_code
-    pad_output_short a t h = let k = lt-leb (segment_length (length raw)) (length output) h in (a ∙ rw (t, k), rw (t, k))
+    pad_output_short a t h = let k = lt-leb (segment_length (length raw)) (length output) h in
+        (a ∙ rw (t, k), rw (t, k))
 
     pub pad_done : {after : List ℕ} → answer ≡ written (segment_length (length raw))
         → raw_length_allowed (length raw) ≡ true → segment_length (length raw) ≤ length output

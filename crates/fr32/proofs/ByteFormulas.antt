@@ -1,5 +1,6 @@
 -- The bytes that the code works out from a place: of a segment, and of its raw bytes.
-use Rattle.std.proofs.Common.{◌≡◌, ℕ, ◌+◌, ◌*◌, ◌/◌, ◌%◌, ◌^◌, ◌<◌, ◌≤◌, Bool, true, false, ◌&&◌, eqb, ltb, List, length, get_or, sym, ap, ◌∙◌, ap₂, arith}
+use Rattle.std.proofs.Common.{◌≡◌, ℕ, ◌+◌, ◌*◌, ◌/◌, ◌%◌, ◌^◌, ◌<◌, ◌≤◌, Bool, true, false, ◌&&◌, eqb, ltb, List}
+use Rattle.std.proofs.Common.{length, get_or, sym, ap, ◌∙◌, ap₂, arith}
 use Rattle.octets.specs.Bytes.{Bytes}
 use Rattle.stray.specs.StrayBits.{no_stray_bits}
 use Rattle.fr32.specs.Padding.{segment_length, segment_nodes, data_of, padded, unpadded, only_raw_bits}
@@ -18,7 +19,8 @@ module _ (raw : List ℕ) (q : ℕ) (bytes : Bytes raw) (within : q < segment_le
   place : 32 * (q / 32) + q % 32 ≡ q
   place = omega arith
 
-  from_raw : byte ≡ (get_or raw (start_bit q / 8) 0 + 256 * get_or raw (start_bit q / 8 + 1) 0) / 2 ^ (start_bit q % 8) % 256
+  from_raw : byte
+      ≡ (get_or raw (start_bit q / 8) 0 + 256 * get_or raw (start_bit q / 8 + 1) 0) / 2 ^ (start_bit q % 8) % 256
   from_raw = b ∙ ap₂ (λ (x y : ℕ). (x + 256 * y) / 2 ^ (start_bit q % 8) % 256) l h
 
   pub at_place : (q % 32 ≡ 31 → ⊥) → byte ≡ get_or (padded raw) q 0

@@ -1,5 +1,6 @@
 -- The words that the code works out: from two words, of a segment, and of its raw bytes.
-use Rattle.std.proofs.Common.{◌≡◌, ℕ, ◌+◌, ◌-◌, ◌*◌, ◌/◌, ◌%◌, ◌^◌, ◌<◌, ◌≤◌, List, length, sym, ap, ◌∙◌, ap₂, mod-eq_of_lt, mul_assoc, mul_comm, div-one, arith, pow_pos, pow-add}
+use Rattle.std.proofs.Common.{◌≡◌, ℕ, ◌+◌, ◌-◌, ◌*◌, ◌/◌, ◌%◌, ◌^◌, ◌<◌, ◌≤◌, List, length, sym, ap, ◌∙◌, ap₂}
+use Rattle.std.proofs.Common.{mod-eq_of_lt, mul_assoc, mul_comm, div-one, arith, pow_pos, pow-add}
 use native.Mathlib.Nat.{add-mod-mod, add-mul-div_left}
 use native.Mathlib.Nat.{add-mul-mod_self_left}
 use lib.Pow.{mod-mod-pow}

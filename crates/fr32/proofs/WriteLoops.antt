@@ -1,5 +1,6 @@
 -- Turns of the loops that write word after word from the start of the output, and byte after byte from a place on.
-use Rattle.std.proofs.Common.{◌≡◌, ℕ, suc, ◌+◌, ◌-◌, ◌*◌, ◌<◌, ◌≤◌, List, ◌++◌, length, get_or, take, drop, set, sym, ap, ◌∙◌, ap₂, arith, length-drop, take-append-drop, length-take-le, get_or-drop, take-add}
+use Rattle.std.proofs.Common.{◌≡◌, ℕ, suc, ◌+◌, ◌-◌, ◌*◌, ◌<◌, ◌≤◌, List, ◌++◌, length, get_or, take, drop, set, sym}
+use Rattle.std.proofs.Common.{ap, ◌∙◌, ap₂, arith, length-drop, take-append-drop, length-take-le, get_or-drop, take-add}
 use lib.Seq.{paste, paste-zero, paste-suc, take-length}
 use Rattle.octets.specs.LittleEndian.{bytes_of}
 use Rattle.octets.specs.LittleEndianLaws.{length_bytes_of}

@@ -3,17 +3,16 @@ use Rattle.std.specs.Prelude.{◌≡◌, ℕ, zero, suc, ◌≤◌, true, List, 
 use Rattle.std.proofs.Math.Path.{sym}
 use Rattle.std.proofs.Common.{ap, ◌∙◌}
 use native.Mathlib.Omega.{arith}
-use borrow.Author.Tests.{leb-true, eqb-true, le-leb, eq-eqb}
+use borrow.Author.Tests.{leb-true, le-leb}
 use Rattle.rules.specs.Refusals.{unless_refused}
-use Rattle.rules.specs.RefusalLaws.{Codes, none_refused, all_passed}
+use Rattle.rules.specs.RefusalLaws.{none_refused, all_passed}
 use Rattle.octets.specs.Splice.{part, splice}
 use Rattle.octets.specs.SpliceLaws.{part_written}
 use Rattle.fr32.specs.declared.Written.{Written}
-use Rattle.fr32.specs.Padding.{raw_length_allowed, segment_length, padded, unpadded, only_raw_bits}
+use Rattle.fr32.specs.Padding.{raw_length_allowed, segment_length, padded, only_raw_bits}
 use Rattle.fr32.specs.PaddingLaws.{length_padded}
-use Rattle.fr32.specs.UnpaddingLaws.{length_unpadded}
 use Rattle.fr32.specs.Answers.{refused, written}
-use Rattle.fr32.specs.Answers.{pad_rules, pad_code, pad_answer, pad_output, unpad_rules, unpad_code, unpad_answer}
+use Rattle.fr32.specs.Answers.{pad_rules, pad_code, pad_answer, pad_output, unpad_answer}
 use Rattle.fr32.specs.Answers.{unpad_output}
 
 -- the bytes that a routine wrote
@@ -28,16 +27,18 @@ abbrev pub unpad_written : ℕ → List ℕ → List ℕ → List ℕ
 unpad_written n segment output = written_bytes (unpad_answer n segment output) (unpad_output n segment output)
 
 -- an answer has the code that was worked out
-answer_code : (code n : ℕ) → (unless_refused code refused (written n)).code ≡ code
+pub answer_code : (code n : ℕ) → (unless_refused code refused (written n)).code ≡ code
 answer_code zero n = refl
 answer_code (suc code) n = refl
 
 -- where nothing is refused, the bytes of s are written
-all_written : (code n : ℕ) (output s : List ℕ) → code ≡ 0 → length s ≡ n → n ≤ length output
-    → written_bytes (unless_refused code refused (written n)) (unless_refused code (λ c. output) (splice output 0 s)) ≡ s
+pub all_written : (code n : ℕ) (output s : List ℕ) → code ≡ 0 → length s ≡ n → n ≤ length output
+    → written_bytes (unless_refused code refused (written n)) (unless_refused code (λ c. output) (splice output 0 s))
+    ≡ s
 all_written code n output s e l h =
     ap
-    (λ (c : ℕ). written_bytes (unless_refused c refused (written n)) (unless_refused c (λ d. output) (splice output 0 s)))
+    (λ (c : ℕ). written_bytes (unless_refused c refused (written n))
+    (unless_refused c (λ d. output) (splice output 0 s)))
     e
     ∙ ap (part (splice output 0 s) 0) (sym l)
     ∙ part_written output 0 s (omega arith)
@@ -78,32 +79,3 @@ module _ (n : ℕ) (segment output : List ℕ) where
     pub sized : length segment ≡ segment_length n
     pub only_raw : only_raw_bits n segment ≡ true
     pub room : n ≤ length output
-
-  pub unpad_allowed : (unpad_answer n segment output).code ≡ 0 → UnpadAllowed
-  unfolding unpad_code
-  unpad_allowed e =
-      let code = sym (answer_code (unpad_code n segment output) n) ∙ e in
-      let codes : Codes (unpad_rules n segment output) =
-      (omega arith, (omega arith, (omega arith, (omega arith, tt)))) in
-      let p = none_refused (unpad_rules n segment output) codes code in
-      record {
-        raw_length = p.0;
-        sized = eqb-true (length segment) (segment_length n) p.1.0;
-        only_raw = p.1.1.0;
-        room = leb-true n (length output) p.1.1.1.0;
-      }
-
-  unpad_passes : UnpadAllowed → unpad_code n segment output ≡ 0
-  unfolding unpad_code
-  unpad_passes a =
-      let sized = eq-eqb (length segment) (segment_length n) a.sized in
-      let room = le-leb n (length output) a.room in
-      all_passed (unpad_rules n segment output) (a.raw_length, (sized, (a.only_raw, (room, tt))))
-
-  pub unpad_answers : UnpadAllowed → unpad_answer n segment output ≡ written n
-  unpad_answers a = ap (λ (c : ℕ). unless_refused c refused (written n)) (unpad_passes a)
-
-  pub unpad_writes : UnpadAllowed → unpad_written n segment output ≡ unpadded n segment
-  unpad_writes a =
-      all_written (unpad_code n segment output) n output (unpadded n segment) (unpad_passes a)
-      (length_unpadded n segment) a.room

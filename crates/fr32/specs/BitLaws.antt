@@ -1,6 +1,8 @@
 -- Bits of little-endian numbers. Eight of them from any bit on lie in two bytes.
-use Rattle.std.specs.Prelude.{◌≡◌, ℕ, zero, suc, ◌+◌, ◌-◌, ◌*◌, ◌/◌, ◌%◌, ◌^◌, ◌<◌, ◌≤◌, List, [], ◌∷◌, ◌++◌, length, take, drop, slice_index, refl}
-use Rattle.std.proofs.Common.{sym, ap, ap₂, ◌∙◌, pow-suc, add-zero, mul_assoc, mul_comm, div-one, arith, get_or-drop, pow_pos, pow-add, shr-shr}
+use Rattle.std.specs.Prelude.{◌≡◌, ℕ, zero, suc, ◌+◌, ◌-◌, ◌*◌, ◌/◌, ◌%◌, ◌^◌, ◌<◌, ◌≤◌, List, [], ◌∷◌, ◌++◌, length}
+use Rattle.std.specs.Prelude.{take, drop, slice_index, refl}
+use Rattle.std.proofs.Common.{sym, ap, ap₂, ◌∙◌, pow-suc, add-zero, mul_assoc, mul_comm, div-one, arith, get_or-drop}
+use Rattle.std.proofs.Common.{pow_pos, pow-add, shr-shr}
 use Rattle.std.proofs.Math.Nat.{zero-div, mod-add-div, add-mul-div_left, add-mul-mod_self_left}
 use Rattle.octets.specs.Bytes.{Bytes}
 use Rattle.octets.specs.LittleEndian.{number_of, bytes_of}
@@ -89,7 +91,8 @@ pub eight_bits : (xs : List ℕ) (a s : ℕ) → Bytes xs → s ≤ 8
 eight_bits xs a s h k =
     ap (λ (y : ℕ). y % 256) (sym (shr-shr (number_of xs) (8 * a) s))
     ∙ ap (λ (y : ℕ). y / 2 ^ s % 256) (number_from xs a h ∙ two_bytes (drop a xs))
-    ∙ bits_below (slice_index (drop a xs) 0 + 256 * slice_index (drop a xs) 1) (number_of (drop 2 (drop a xs))) 16 s (omega arith)
+    ∙ bits_below (slice_index (drop a xs) 0 + 256 * slice_index (drop a xs) 1) (number_of (drop 2 (drop a xs))) 16 s
+    (omega arith)
     ∙ ap₂ (λ (y z : ℕ). (y + 256 * z) / 2 ^ s % 256) (first a xs) (get_or-drop a xs 1 0)
   where
     first : (i : ℕ) (l : List ℕ) → slice_index (drop i l) 0 ≡ slice_index l i

@@ -1,6 +1,10 @@
 -- How many data bits a segment holds: 254 for each whole node, and 8 for each byte of a last node that is cut short.
-use Rattle.std.specs.Prelude.{◌≡◌, ℕ, zero, suc, ◌+◌, ◌*◌, ◌/◌, ◌%◌, ◌^◌, ◌<◌, ◌≤◌, Bool, true, false, List, [], length, take, drop, ◌==◌, nat_lt, refl}
-use Rattle.std.proofs.Common.{sym, ap, ap₂, ◌∙◌, add-zero, mul-suc, mod-lt, mod-eq_of_lt, lt_of_lt_of_le, le_trans, le_of_eq, mul-le-mul_left, div-lt_iff_lt-mul, le-div_iff_mul-le, mul_comm, one-mul, arith, length-drop, drop_of_length-le, take_all, pow_pos, pow_mono, pow-add, ltb-true, ltb-false, eq-eqb, ne_eqb}
+use Rattle.std.specs.Prelude.{◌≡◌, ℕ, zero, suc, ◌+◌, ◌*◌, ◌/◌, ◌%◌, ◌^◌, ◌<◌, ◌≤◌, Bool, true, false, List, [], length}
+use Rattle.std.specs.Prelude.{take, drop, ◌==◌, nat_lt, refl}
+use Rattle.std.proofs.Common.{sym, ap, ap₂, ◌∙◌, add-zero, mul-suc, mod-lt, mod-eq_of_lt, lt_of_lt_of_le, le_trans}
+use Rattle.std.proofs.Common.{le_of_eq, mul-le-mul_left, div-lt_iff_lt-mul, le-div_iff_mul-le, mul_comm, one-mul, arith}
+use Rattle.std.proofs.Common.{length-drop, drop_of_length-le, take_all, pow_pos, pow_mono, pow-add, ltb-true, ltb-false}
+use Rattle.std.proofs.Common.{eq-eqb, ne_eqb}
 use Rattle.std.proofs.Math.Nat.{div-eq_of_lt}
 use Rattle.octets.specs.Bytes.{Bytes, bytes_drop}
 use Rattle.octets.specs.LittleEndian.{number_of}
@@ -79,7 +83,8 @@ upper_zero x p h k = by_test (nat_lt x p) refl
 
 -- no data past n raw bytes: the eight bits after them are zero
 pub rest_zero : (n : ℕ) (segment : List ℕ) → Bytes segment → length segment ≡ segment_length n
-    → nat_lt (data_of (segment_nodes n) segment) (2 ^ (8 * n)) ≡ (data_of (segment_nodes n) segment / 2 ^ (8 * n) % 256 == 0)
+    → nat_lt (data_of (segment_nodes n) segment) (2 ^ (8 * n))
+    ≡ (data_of (segment_nodes n) segment / 2 ^ (8 * n) % 256 == 0)
 rest_zero n segment h e =
     let l = segment_length n in
     let b : data_of (segment_nodes n) segment < 2 ^ data_bits l =

@@ -1,9 +1,11 @@
 -- Fr32 padding in pieces, the zero trailer included (document 02, requests (iii) and (iv)): of the filled segment of a
 -- raw archive the 128 b bytes after the first 128 c are the segment of the 127 b raw bytes after the first 127 c,
 -- filled with zeros in its turn. So a last piece that is shorter, and the zeros after it, need no case of their own.
-use Rattle.std.specs.Prelude.{◌≡◌, ℕ, ◌+◌, ◌-◌, ◌*◌, ◌≤◌, Bool, true, false, List, [], ◌∷◌, ◌++◌, length, take, drop, replicate, nat_le, refl}
+use Rattle.std.specs.Prelude.{◌≡◌, ℕ, ◌+◌, ◌-◌, ◌*◌, ◌≤◌, Bool, true, false, List, [], ◌∷◌, ◌++◌, length, take, drop}
+use Rattle.std.specs.Prelude.{replicate, nat_le, refl}
 use Rattle.std.proofs.Math.Path.{sym, ap}
-use Rattle.std.proofs.Common.{◌∙◌, arith, append-nil, drop_of_length-le, take-append-drop, take_all, drop_at, length-take-le, leb-true, leb-false, le-leb}
+use Rattle.std.proofs.Common.{◌∙◌, arith, append-nil, drop_of_length-le, take-append-drop, take_all, drop_at}
+use Rattle.std.proofs.Common.{length-take-le, leb-true, leb-false, le-leb}
 use Rattle.std.proofs.Math.ListN.{length-drop}
 use Rattle.std.proofs.lemmas.List.{length-replicate}
 use Rattle.std.proofs.Math.Seq.{take-nil, take_at}

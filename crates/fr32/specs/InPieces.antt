@@ -1,6 +1,7 @@
 -- Fr32 padding in pieces: raw bytes whose number is a multiple of 127 fill whole nodes, four for each 127 bytes. So
 -- their segment followed by the segment of the bytes after them is the segment of all of them.
-use Rattle.std.specs.Prelude.{◌≡◌, ℕ, zero, suc, ◌+◌, ◌*◌, ◌/◌, ◌%◌, ◌^◌, ◌<◌, List, [], ◌∷◌, ◌++◌, map, length, take, refl}
+use Rattle.std.specs.Prelude.{◌≡◌, ℕ, zero, suc, ◌+◌, ◌*◌, ◌/◌, ◌%◌, ◌^◌, ◌<◌, List, [], ◌∷◌, ◌++◌, map, length, take}
+use Rattle.std.specs.Prelude.{refl}
 use Rattle.std.proofs.Common.{sym, ◌∙◌, mul_assoc, mul_comm, append_assoc, pow_pos, pow-add, shr_lt}
 use Rattle.std.proofs.Math.Path.{ap, ap₂}
 use Rattle.std.proofs.Math.Nat.{add-mul-div_left, add-mul-mod_self_left}
@@ -15,7 +16,8 @@ use Rattle.fr32.specs.PaddingLaws.{length_nodes_of}
 use Rattle.fr32.specs.CapacityLaws.{number_in_bits}
 
 -- a number with another above its 254 m bits: its m nodes, then those of the other
-nodes_append : (m n v w : ℕ) → v < 2 ^ (254 * m) → nodes_of (m + n) (v + 2 ^ (254 * m) * w) ≡ nodes_of m v ++ nodes_of n w
+nodes_append : (m n v w : ℕ) → v < 2 ^ (254 * m)
+    → nodes_of (m + n) (v + 2 ^ (254 * m) * w) ≡ nodes_of m v ++ nodes_of n w
 unfolding nodes_of
 nodes_append zero n v w h =
     let e : zero + n ≡ n = omega arith in

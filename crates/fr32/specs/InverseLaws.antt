@@ -1,6 +1,9 @@
 -- Nodes and the number in them, there and back, for any number of nodes of which the last may be cut short.
-use Rattle.std.specs.Prelude.{◌≡◌, ℕ, zero, suc, ◌+◌, ◌-◌, ◌*◌, ◌/◌, ◌%◌, ◌^◌, ◌<◌, ◌≤◌, true, List, [], ◌∷◌, ◌++◌, length, take, drop, slice_index, refl}
-use Rattle.std.proofs.Common.{sym, ap, ap₂, ◌∙◌, add-zero, zero-add, mod-lt, mod-eq_of_lt, lt_of_lt_of_le, div-lt_iff_lt-mul, arith, length-drop, take-append-drop, length-take-le, get_or-drop, take_at, drop_at, pow_pos, pow_mono, shr_lt}
+use Rattle.std.specs.Prelude.{◌≡◌, ℕ, zero, suc, ◌+◌, ◌-◌, ◌*◌, ◌/◌, ◌%◌, ◌^◌, ◌<◌, ◌≤◌, true, List, [], ◌∷◌, ◌++◌}
+use Rattle.std.specs.Prelude.{length, take, drop, slice_index, refl}
+use Rattle.std.proofs.Common.{sym, ap, ap₂, ◌∙◌, add-zero, zero-add, mod-lt, mod-eq_of_lt, lt_of_lt_of_le}
+use Rattle.std.proofs.Common.{div-lt_iff_lt-mul, arith, length-drop, take-append-drop, length-take-le, get_or-drop}
+use Rattle.std.proofs.Common.{take_at, drop_at, pow_pos, pow_mono, shr_lt}
 use Rattle.std.proofs.Math.Nat.{mod-mod, mod-add-div, add-mul-mod_self_left}
 use Rattle.std.proofs.lemmas.List.{take-append-le}
 use Rattle.std.proofs.Math.Seq.{take-append-add}

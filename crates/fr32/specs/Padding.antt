@@ -1,6 +1,7 @@
 -- Fr32 padding (document 02, request (iv)): raw bytes are read as one little-endian number, and each node of 32 bytes
 -- takes the next 254 bits of it; its two high bits are zero.
-use Rattle.std.specs.Prelude.{ℕ, zero, suc, ◌+◌, ◌*◌, ◌/◌, ◌%◌, ◌^◌, Bool, ◌&&◌, List, [], ◌++◌, length, take, drop, nat_le, nat_lt}
+use Rattle.std.specs.Prelude.{ℕ, zero, suc, ◌+◌, ◌*◌, ◌/◌, ◌%◌, ◌^◌, Bool, ◌&&◌, List, [], ◌++◌, length, take, drop}
+use Rattle.std.specs.Prelude.{nat_le, nat_lt}
 use Rattle.octets.specs.LittleEndian.{number_of, bytes_of}
 use Rattle.stray.specs.StrayBits.{no_stray_bits}
 

@@ -1,6 +1,8 @@
 -- Laws of a segment: its length, and each of its bytes from two raw bytes.
-use Rattle.std.specs.Prelude.{◌≡◌, ℕ, zero, suc, ◌+◌, ◌*◌, ◌/◌, ◌%◌, ◌^◌, ◌<◌, List, ◌++◌, length, slice_index, slice_index_or, refl}
-use Rattle.std.proofs.Common.{sym, ap, ap₂, ◌∙◌, zero-add, div-one, mod-lt, arith, length-append, get_or-append-add, length-take-le, lit<, shr-shr}
+use Rattle.std.specs.Prelude.{◌≡◌, ℕ, zero, suc, ◌+◌, ◌*◌, ◌/◌, ◌%◌, ◌^◌, ◌<◌, List, ◌++◌, length, slice_index}
+use Rattle.std.specs.Prelude.{slice_index_or, refl}
+use Rattle.std.proofs.Common.{sym, ap, ap₂, ◌∙◌, zero-add, div-one, mod-lt, arith, length-append, get_or-append-add}
+use Rattle.std.proofs.Common.{length-take-le, lit<, shr-shr}
 use Rattle.std.proofs.Math.ListN.{get_or-append}
 use Rattle.std.proofs.Math.Seq.{get_or-take}
 use Rattle.std.proofs.Math.Pow.{field}
@@ -54,7 +56,8 @@ six_of_eight x = omega arith
 
 -- byte j of node i of a segment: the eight data bits from bit 254 i + 8 j on, of which byte 31 has the first six
 module _ (raw : List ℕ) (i j : ℕ) (within : 32 * i + j < segment_length (length raw)) (place : j < 32) where
-  pub from_nodes : slice_index_or (padded raw) (32 * i + j) 0 ≡ number_of raw / 2 ^ (254 * i) % 2 ^ 254 / 2 ^ (8 * j) % 256
+  pub from_nodes : slice_index_or (padded raw) (32 * i + j) 0
+      ≡ number_of raw / 2 ^ (254 * i) % 2 ^ 254 / 2 ^ (8 * j) % 256
   unfolding padded
   from_nodes =
       let n = length raw in
@@ -82,7 +85,8 @@ module _ (raw : List ℕ) (i j : ℕ) (within : 32 * i + j < segment_length (len
 
   -- that bit is bit s of raw byte a
   module _ (bytes : Bytes raw) (a s : ℕ) (at : 254 * i + 8 * j ≡ 8 * a + s) (shift : s < 8) where
-    raw_bits : number_of raw / 2 ^ (254 * i + 8 * j) % 256 ≡ (slice_index raw a + 256 * slice_index raw (a + 1)) / 2 ^ s % 256
+    raw_bits : number_of raw / 2 ^ (254 * i + 8 * j) % 256
+        ≡ (slice_index raw a + 256 * slice_index raw (a + 1)) / 2 ^ s % 256
     raw_bits = ap (λ (b : ℕ). number_of raw / 2 ^ b % 256) at ∙ eight_bits raw a s bytes (omega arith)
 
     pub padded_byte : j < 31

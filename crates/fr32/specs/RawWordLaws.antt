@@ -1,6 +1,8 @@
 -- Each word of the raw bytes from two words of the segment.
-use Rattle.std.specs.Prelude.{◌≡◌, ℕ, zero, suc, ◌+◌, ◌-◌, ◌*◌, ◌/◌, ◌%◌, ◌^◌, ◌<◌, ◌≤◌, List, [], ◌∷◌, length, take, drop}
-use Rattle.std.proofs.Common.{sym, ap, ap₂, ◌∙◌, add_assoc, mul_assoc, mul-add, div-one, mod-eq_of_lt, arith, length-drop, get_or-take, drop-drop, length-take-le, pow_pos, shr-shr}
+use Rattle.std.specs.Prelude.{◌≡◌, ℕ, zero, suc, ◌+◌, ◌-◌, ◌*◌, ◌/◌, ◌%◌, ◌^◌, ◌<◌, ◌≤◌, List, [], ◌∷◌, length, take}
+use Rattle.std.specs.Prelude.{drop}
+use Rattle.std.proofs.Common.{sym, ap, ap₂, ◌∙◌, add_assoc, mul_assoc, mul-add, div-one, mod-eq_of_lt, arith}
+use Rattle.std.proofs.Common.{length-drop, get_or-take, drop-drop, length-take-le, pow_pos, shr-shr}
 use Rattle.std.proofs.Math.Nat.{mod-add-div, add-mul-div_left, add-mul-mod_self_left}
 use Rattle.std.proofs.Math.Pow.{field}
 use Rattle.octets.specs.Bytes.{Bytes, bytes_take, bytes_drop}

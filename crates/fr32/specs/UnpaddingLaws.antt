@@ -1,6 +1,8 @@
 -- Laws of the data in a segment: each raw byte from two bytes of it.
-use Rattle.std.specs.Prelude.{◌≡◌, ℕ, zero, suc, ◌+◌, ◌-◌, ◌*◌, ◌/◌, ◌%◌, ◌^◌, ◌<◌, ◌≤◌, List, [], ◌∷◌, length, take, drop, slice_index, slice_index_or, refl}
-use Rattle.std.proofs.Common.{sym, ap, ap₂, ◌∙◌, zero-add, add_assoc, mul_assoc, div-one, mod-lt, arith, length-drop, get_or-take, get_or-drop, drop-drop, pow_pos, shr-shr}
+use Rattle.std.specs.Prelude.{◌≡◌, ℕ, zero, suc, ◌+◌, ◌-◌, ◌*◌, ◌/◌, ◌%◌, ◌^◌, ◌<◌, ◌≤◌, List, [], ◌∷◌, length, take}
+use Rattle.std.specs.Prelude.{drop, slice_index, slice_index_or, refl}
+use Rattle.std.proofs.Common.{sym, ap, ap₂, ◌∙◌, zero-add, add_assoc, mul_assoc, div-one, mod-lt, arith, length-drop}
+use Rattle.std.proofs.Common.{get_or-take, get_or-drop, drop-drop, pow_pos, shr-shr}
 use Rattle.std.proofs.Math.Nat.{sub-zero, zero-sub, zero-div, add-mul-div_left, div-eq_of_lt}
 use Rattle.std.proofs.Math.Pow.{field}
 use Rattle.octets.specs.Bytes.{Bytes, bytes_take, bytes_drop}
@@ -45,7 +47,8 @@ data_at m segment bit i b e =
 
 -- eight bits of the first node, from bit s of byte a on
 node_bits : (m : ℕ) (segment : List ℕ) (a s : ℕ) → Bytes segment → length segment ≤ 32 * m → 8 * a + s + 8 ≤ 254 → s < 8
-    → data_of m segment / 2 ^ (8 * a + s) % 256 ≡ (slice_index segment a + 256 * slice_index segment (a + 1)) / 2 ^ s % 256
+    → data_of m segment / 2 ^ (8 * a + s) % 256
+    ≡ (slice_index segment a + 256 * slice_index segment (a + 1)) / 2 ^ s % 256
 unfolding data_of
 node_bits zero [] a s h l w k = ap (λ (y : ℕ). y % 256) (zero-div (2 ^ (8 * a + s)) ∙ sym (zero-div (2 ^ s)))
 node_bits zero (x ∷ xs) a s h l w k = absurd (omega arith)
@@ -93,7 +96,8 @@ last_byte m segment h =
 
 -- eight bits from bit s of byte 31 on, which end in the next node
 next_bits : (m : ℕ) (segment : List ℕ) (s : ℕ) → Bytes segment → length segment ≤ 32 * m → s ≤ 6
-    → data_of m segment / 2 ^ (248 + s) % 256 ≡ (slice_index segment 31 % 64 + 64 * slice_index segment 32) / 2 ^ s % 256
+    → data_of m segment / 2 ^ (248 + s) % 256
+    ≡ (slice_index segment 31 % 64 + 64 * slice_index segment 32) / 2 ^ s % 256
 unfolding data_of
 next_bits zero [] s h l k = ap (λ (y : ℕ). y % 256) (zero-div (2 ^ (248 + s)) ∙ sym (zero-div (2 ^ s)))
 next_bits zero (x ∷ xs) s h l k = absurd (omega arith)

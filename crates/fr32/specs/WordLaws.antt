@@ -1,6 +1,7 @@
 -- Laws of words of eight bytes: a word from its bytes, and 64 bits from any bit on in two words.
 use Rattle.std.specs.Prelude.{◌≡◌, ℕ, ◌+◌, ◌-◌, ◌*◌, ◌/◌, ◌%◌, ◌^◌, ◌<◌, ◌≤◌, List, length, take, drop, slice_index}
-use Rattle.std.proofs.Common.{sym, ap, ◌∙◌, add_assoc, mul_assoc, mul-add, arith, length-drop, take-append-drop, drop-drop, ext_get_or, length-take-le, shr-shr}
+use Rattle.std.proofs.Common.{sym, ap, ◌∙◌, add_assoc, mul_assoc, mul-add, arith, length-drop, take-append-drop}
+use Rattle.std.proofs.Common.{drop-drop, ext_get_or, length-take-le, shr-shr}
 use Rattle.octets.specs.Bytes.{Bytes}
 use Rattle.octets.specs.LittleEndian.{number_of, bytes_of}
 use Rattle.octets.specs.LittleEndianLaws.{length_bytes_of}

@@ -2,7 +2,6 @@
 use mathlib.Core.Path.{◌≡◌, sym, ap, ap₂, ◌∙◌}
 use mathlib.Core.List.{List}
 use Prim.Native.Nat.{ℕ, ◌+◌, ◌*◌, ◌≤◌, ◌<◌}
-use native.Mathlib.Nat.{not-suc-le-zero}
 use native.Mathlib.Omega.{arith}
 use borrow.Author.Count.{below_more}
 use lib.ListN.{length}
@@ -15,9 +14,6 @@ module _ (f : ℕ → List ℕ) where
   pub record Placed (l : ℕ) (words : List ℕ) : Type 0 where
     pub sized : length words ≡ lanes * 8
     pub placed : (q : ℕ) → q < l → part words (8 * q) 8 ≡ f q
-
-  pub placed_none : (words : List ℕ) → length words ≡ lanes * 8 → Placed 0 words
-  placed_none words e = record { sized = e; placed = λ q h. absurd (not-suc-le-zero h) }
 
   pub placed_next : (l : ℕ) (words eight new : List ℕ) → l < lanes → length (f l) ≡ 8 → Placed l words
       → eight ≡ f l → new ≡ splice words (8 * l) eight → Placed (l + 1) new

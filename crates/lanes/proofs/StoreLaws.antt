@@ -2,29 +2,17 @@
 use mathlib.Core.Path.{◌≡◌, refl, sym, ap, ap₂, ◌∙◌}
 use mathlib.Core.List.{List, [], ◌∷◌, ◌++◌}
 use Prim.Native.Nat.{ℕ, zero, suc, ◌+◌, ◌-◌, ◌*◌, ◌/◌, ◌%◌, ◌^◌, ◌≤◌, ◌<◌}
-use native.Mathlib.Nat.{div-one, mod-eq_of_lt, mod-mod}
+use native.Mathlib.Nat.{div-one}
 use native.Mathlib.Omega.{arith}
 use lib.ListN.{length, get_or}
 use Rattle.octets.specs.Splice.{splice}
 use Rattle.octets.specs.SpliceLaws.{get_d_part, splice_nothing, splice_append}
 use Rattle.sha256.specs.Table.{table}
 use Rattle.sha256.specs.TableLaws.{length_table, get_d_table, table_ext, as_table, table_append}
-use Rattle.sha256.specs.Fips.{word, digest_byte, digest}
-use Rattle.sha256.specs.WordLaws.{bytes_of_number}
+use Rattle.sha256.specs.Fips.{digest_byte, digest}
 use Rattle.lanes.specs.Lanes.{lanes, lane}
 use Rattle.lanes.specs.NodeWords.{lane_by_lane, word_bytes, lane_bytes}
 use Rattle.lanes.proofs.PlacedLaws.{Placed}
-
--- the bytes of a word are those of the exchanged word, the least significant first
-pub swapped_bytes : (x y : ℕ) → x < 2 ^ 32 → y ≡ word (x % 256) (x / 2 ^ 8 % 256) (x / 2 ^ 16 % 256) (x / 2 ^ 24)
-    → y % 256 ∷ y / 2 ^ 8 % 256 ∷ y / 2 ^ 16 % 256 ∷ y / 2 ^ 24 % 256 ∷ [] ≡ word_bytes x
-swapped_bytes x y h e =
-    let top : x / 2 ^ 24 < 256 = omega arith in
-    let b = bytes_of_number (x / 2 ^ 24) (x / 2 ^ 16 % 256) (x / 2 ^ 8 % 256) (x % 256) y
-    top (omega arith) (omega arith) (omega arith) (omega arith) in
-    let first : y % 256 ≡ x / 2 ^ 24 % 256 = b.0 ∙ sym (mod-eq_of_lt top) in
-    let last : y / 2 ^ 24 % 256 ≡ x % 256 = ap (λ (n : ℕ). n % 256) b.3 ∙ mod-mod x 256 in
-    λ j. first j ∷ b.1 j ∷ b.2 j ∷ last j ∷ []
 
 -- the bytes of the first i words
 abbrev pub first_bytes : List ℕ → ℕ → List ℕ
@@ -58,7 +46,8 @@ module _ (run words : List ℕ) (at : ℕ) where
   stored_next i h =
       let l = length_table (digest_byte words) (4 * i) in
       let e : 4 * i + 4 ≡ 4 * (i + 1) = omega arith in
-      splice_append run at (at + 4 * i) (first_bytes words i) (word_bytes (get_or words i 0)) (omega arith) (omega arith)
+      splice_append run at (at + 4 * i) (first_bytes words i) (word_bytes (get_or words i 0)) (omega arith)
+      (omega arith)
       ∙ ap (splice run at)
       (ap (λ (b : List ℕ). first_bytes words i ++ b) (sym (next_word_lem words i))
       ∙ sym (table_append (digest_byte words) (4 * i) 4)

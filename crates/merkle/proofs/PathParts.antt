@@ -75,8 +75,8 @@ over_more x path lower whole node root levels height tall room sized is low up =
       up.0 ∙ ap (λ (n : ℕ). node_over n x) e,
       up.1
           ∙ ap (λ (v : List ℕ). splice v (32 * (height + 1)) (path_over (levels - 1) (pairs_of x))) low
-          ∙ splice_append path (32 * height) (32 * (height + 1)) node (path_over (levels - 1) (pairs_of x)) (omega arith)
-          (omega arith)
+          ∙ splice_append path (32 * height) (32 * (height + 1)) node (path_over (levels - 1) (pairs_of x))
+          (omega arith) (omega arith)
           ∙ ap (λ (v : List ℕ). splice path (32 * height) (v ++ path_over (levels - 1) (pairs_of x)))
           (is ∙ ap (λ (n : ℕ). x (2 ^ n - 2)) (sym e))
           ∙ ap (λ (n : ℕ). splice path (32 * height) (path_over n x)) e,

@@ -92,7 +92,8 @@ module _ (nodes : NodeSource) (h : ℕ) where
       let e : q + 0 ≡ q = omega arith in
       let w : (i : ℕ) → q + suc i ≡ suc q + i = λ i. omega arith in
       let l : length (nodes h q) ≡ 32 = ap (λ (p : ℕ). length (nodes h p)) (sym e) ∙ sized 0 (omega arith) in
-      let c : get_or (nodes h q) 31 0 < 64 = subst (λ (p : ℕ). get_or (nodes h p) 31 0 < 64) e (clear 0 (omega arith)) in
+      let c : get_or (nodes h q) 31 0 < 64 =
+      subst (λ (p : ℕ). get_or (nodes h p) 31 0 < 64) e (clear 0 (omega arith)) in
       ap₂ (λ (x y : List ℕ). clear_node x && clear_nodes n y)
       (take_at (nodes h q) (node_row nodes h (suc q) n) 32 l) (drop_at (nodes h q) (node_row nodes h (suc q) n) 32 l)
       ∙ and_both (clear_node (nodes h q)) (clear_nodes n (node_row nodes h (suc q) n)) (clear_node_lem (nodes h q) c)

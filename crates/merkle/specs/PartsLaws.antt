@@ -1,8 +1,11 @@
 -- The law of the parts: the commitment of the parts' commitments is the run's. And so for the answers of the public
 -- routine: where a part is refused the run is, with the same code, and where none is, the answer for the parts' answers
 -- is the answer for the run.
-use Rattle.std.specs.Prelude.{◌≡◌, refl, Bool, true, false, ℕ, zero, suc, ◌+◌, ◌-◌, ◌*◌, ◌/◌, ◌%◌, ◌^◌, ◌≤◌, ◌<◌, length, get_or}
-use Rattle.std.proofs.Common.{sym, ap, subst, ◌∙◌, pow-suc, mul-one, mul_assoc, zero-mul, le_trans, le_of_eq, div-lt_iff_lt-mul, div-add-mod', mod-lt, add_comm, arith, drop_at, get_or-take, pow-add, pow_pos, pow_mono}
+use Rattle.std.specs.Prelude.{◌≡◌, refl, Bool, true, false, ℕ, zero, suc, ◌+◌, ◌-◌, ◌*◌, ◌/◌, ◌%◌, ◌^◌, ◌≤◌, ◌<◌}
+use Rattle.std.specs.Prelude.{length, get_or}
+use Rattle.std.proofs.Common.{sym, ap, subst, ◌∙◌, pow-suc, mul-one, mul_assoc, zero-mul, le_trans, le_of_eq}
+use Rattle.std.proofs.Common.{div-lt_iff_lt-mul, div-add-mod', mod-lt, add_comm, arith, drop_at, get_or-take, pow-add}
+use Rattle.std.proofs.Common.{pow_pos, pow_mono}
 use Rattle.std.proofs.Math.Path.{ap₂}
 use mathlib.Core.List.{List, [], ◌++◌}
 use Rattle.std.proofs.Math.Seq.{take_at}

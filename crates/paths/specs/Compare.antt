@@ -29,7 +29,8 @@ compared_above seen v w = choose (same_bytes v w) seen (unequal v w)
 unfoldable pub compared_up : ℕ → ℕ → List ℕ → List ℕ → List ℕ → List ℕ → Compared → Compared
 compared_up zero p x s y t seen = seen
 compared_up (suc n) p x s y t seen =
-    compared_up n (p / 2) (node_hash (pair_of p x (take 32 s))) (drop 32 s) (node_hash (pair_of p y (take 32 t))) (drop 32 t)
+    compared_up n (p / 2) (node_hash (pair_of p x (take 32 s))) (drop 32 s) (node_hash (pair_of p y (take 32 t)))
+    (drop 32 t)
     (compared_above seen (pair_of p x (take 32 s)) (pair_of p y (take 32 t)))
 
 -- the first difference of the strings of two paths from position p, whose lengths tell their levels, with what stands

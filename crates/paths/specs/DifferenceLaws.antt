@@ -1,5 +1,5 @@
 -- Two chains to one node: no string differs, or the first two that differ are a collision.
-use Rattle.std.specs.Prelude.{◌≡◌, refl, Bool, true, false, ℕ, suc, ◌+◌, List, [], ◌∷◌, ◌++◌, length}
+use Rattle.std.specs.Prelude.{◌≡◌, refl, Bool, true, false, ℕ, suc, List, [], ◌∷◌, ◌++◌, length}
 use Rattle.std.proofs.Common.{sym, ap, ap₂, ◌∙◌, subst, arith}
 use Rattle.rules.specs.Choice.{choose}
 use Rattle.octets.specs.Equality.{same_bytes}

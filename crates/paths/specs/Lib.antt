@@ -14,6 +14,4 @@ pub mod PathLaws
 pub mod SiblingsLaws
 pub mod AgreeLaws
 pub mod DealStartsLaws
-pub mod CompareLaws
 pub mod CompareOwn
-pub mod CompareOwnLaws

@@ -1,6 +1,8 @@
 -- Paths and their strings: the strings form a chain, and tell the siblings.
-use Rattle.std.specs.Prelude.{◌≡◌, refl, Bool, true, false, ℕ, zero, suc, ◌+◌, ◌*◌, ◌/◌, ◌%◌, ◌<◌, List, [], ◌∷◌, ◌++◌, eqb, length, take, drop}
-use Rattle.std.proofs.Common.{sym, ap, ap₂, ◌∙◌, subst, arith, length-drop, length-append, take-append-drop, take_at, drop_at, drop-drop, length-take-le}
+use Rattle.std.specs.Prelude.{◌≡◌, refl, Bool, true, false, ℕ, zero, suc, ◌+◌, ◌*◌, ◌/◌, ◌%◌, ◌<◌, List, [], ◌∷◌, ◌++◌}
+use Rattle.std.specs.Prelude.{eqb, length, take, drop}
+use Rattle.std.proofs.Common.{sym, ap, ap₂, ◌∙◌, subst, arith, length-drop, length-append, take-append-drop, take_at}
+use Rattle.std.proofs.Common.{drop_at, drop-drop, length-take-le}
 use Rattle.rules.specs.Choice.{choose}
 use Rattle.node.specs.Node.{node_hash, node_hash_length}
 use Rattle.paths.specs.Start.{PathStart}

@@ -43,7 +43,8 @@ pair_here nodes i q = go (q % 2) refl
         simp (ne_eqb (q % 2) 0 (λ e. omega arith)) (ap₂ (λ (m n : ℕ). nodes i m ++ nodes i n) b a)
 
 -- there is a pair for each level, above what stands below
-length_pairs : (nodes : NodeSource) (n i q : ℕ) (ws : List (List ℕ)) → length (node_pairs nodes n i q ws) ≡ n + length ws
+length_pairs : (nodes : NodeSource) (n i q : ℕ) (ws : List (List ℕ))
+    → length (node_pairs nodes n i q ws) ≡ n + length ws
 unfolding node_pairs
 length_pairs nodes zero i q ws = omega arith
 length_pairs nodes (suc n) i q ws =
@@ -127,7 +128,8 @@ module _ (nodes : NodeSource) (run : List ℕ) (top : ℕ) (t : IsTree nodes run
       → node_hash (pair_of q (nodes i q) (take 32 (siblings nodes (suc n) i q))) ≡ nodes (suc i) (q / 2)
   up_one n i q w = ap node_hash (step nodes top each n i q w) ∙ sym (t.split n i (q / 2) (above w).up (above w).among)
 
-  leads_up : (n i q : ℕ) → InTree top (path_start n i q) → path_root n (nodes i q) q (siblings nodes n i q) ≡ nodes top 0
+  leads_up : (n i q : ℕ) → InTree top (path_start n i q)
+      → path_root n (nodes i q) q (siblings nodes n i q) ≡ nodes top 0
   unfolding path_root
   leads_up zero i q w =
       let e : i + 0 ≡ top = w.up in

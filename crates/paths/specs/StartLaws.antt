@@ -21,7 +21,8 @@ beside {top} {n} {i} {q} m same w =
     let p = pow-suc 2 n in
     record { up = w.up; among = omega arith }
 
-pub sibling_in : {top n i q : ℕ} → InTree top (path_start (suc n) i q) → InTree top (path_start (suc n) i (sibling_of q))
+pub sibling_in : {top n i q : ℕ} → InTree top (path_start (suc n) i q)
+    → InTree top (path_start (suc n) i (sibling_of q))
 sibling_in {top} {n} {i} {q} w = beside (sibling_of q) (omega arith) w
 
 -- the turns of a loop up along a path: i of n levels are passed

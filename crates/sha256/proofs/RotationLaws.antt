@@ -1,6 +1,6 @@
 -- Two rotations at once: a rotation of the exclusive or of a word and that word rotated.
 use Rattle.std.proofs.Common.{◌≡◌, ℕ, ◌+◌, ◌*◌, ◌/◌, ◌%◌, ◌^◌, ◌<◌, sym, ap, arith}
-use lib.Bits.{bit_or, bit_xor, or_shifted_r, xor_shr, xor_mod, xor_block, xor_lt}
+use lib.Bits.{bit_or, or_shifted_r, xor_shr, xor_mod, xor_block, xor_lt}
 use Rattle.sha256.specs.Fips.{◌⊕◌, shr, rotr, σ0, σ1}
 
 -- a rotation by n of n + m bits: the lowest n go above the m others

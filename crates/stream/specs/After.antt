@@ -8,7 +8,8 @@ use Rattle.stream.specs.declared.Stream.{Stream}
 -- n whole nodes give n / 2 ^ h nodes of height h. Where that is odd, the last of them has no right neighbour yet: it
 -- waits
 abbrev pub Waits : List ℕ → List ℕ → ℕ → Type 0
-Waits bytes waiting n = (h : ℕ) → h < 32 → n / 2 ^ h % 2 ≡ 1 → part waiting (32 * h) 32 ≡ node_at bytes h (n / 2 ^ h - 1)
+Waits bytes waiting n = (h : ℕ) → h < 32 → n / 2 ^ h % 2 ≡ 1
+    → part waiting (32 * h) 32 ≡ node_at bytes h (n / 2 ^ h - 1)
 
 -- no code sticks: no node has stray bits, the count is that of the bytes, the last bytes are in the partial node, and
 -- the nodes of the tree wait

@@ -1,5 +1,6 @@
 -- The commitment of bytes that arrive in pieces (document 02, request (i)).
-use Rattle.std.specs.Prelude.{ℕ, zero, suc, ◌+◌, ◌-◌, ◌*◌, ◌/◌, ◌%◌, ◌^◌, List, [], ◌∷◌, ◌++◌, length, take, set, replicate, eqb, ltb}
+use Rattle.std.specs.Prelude.{ℕ, zero, suc, ◌+◌, ◌-◌, ◌*◌, ◌/◌, ◌%◌, ◌^◌, List, [], ◌∷◌, ◌++◌, length, take, set}
+use Rattle.std.specs.Prelude.{replicate, eqb, ltb}
 use Rattle.rules.specs.Choice.{choose}
 use Rattle.rules.specs.Refusals.{rule, first_refusal, unless_refused}
 use Rattle.octets.specs.Splice.{part, splice}

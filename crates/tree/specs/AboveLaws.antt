@@ -1,6 +1,7 @@
 -- The nodes above the bytes written: a row of each height, and with a node each node above it.
 use Rattle.std.specs.Prelude.{◌≡◌, refl, Bool, true, false, ◌&&◌, ◌⊎◌, ℕ, suc, ◌+◌, ◌-◌, ◌*◌, ◌/◌, ◌^◌, ◌≤◌, ◌<◌, ltb}
-use Rattle.std.proofs.Common.{sym, ap, ◌∙◌, inl, inr, ⊎_elim, mul_assoc, add-mul, le-div_iff_mul-le, div-lt_iff_lt-mul, arith, pow_pos, ltb-true, ltb-false, lt-ltb, le-ltb}
+use Rattle.std.proofs.Common.{sym, ap, ◌∙◌, inl, inr, ⊎_elim, mul_assoc, add-mul, le-div_iff_mul-le, div-lt_iff_lt-mul}
+use Rattle.std.proofs.Common.{arith, pow_pos, ltb-true, ltb-false, lt-ltb, le-ltb}
 use Rattle.rules.specs.RefusalLaws.{and_left, and_right}
 use Rattle.merkle.specs.TreeLaws.{double}
 use Rattle.tree.specs.Renewed.{first_above, count_above, above}
@@ -10,7 +11,8 @@ span_pos h = let p = pow_pos h in omega arith
 
 module _ (from len h r : ℕ) where
   -- the positions above the bytes written
-  pub above_row : above from len h r ≡ true → (first_above from h ≤ r) × (r < first_above from h + count_above from len h)
+  pub above_row : above from len h r ≡ true
+      → (first_above from h ≤ r) × (r < first_above from h + count_above from len h)
   above_row e =
       let s : ℕ = 32 * 2 ^ h in
       let a : from / s < r + 1 = (div-lt_iff_lt-mul (span_pos h)).1

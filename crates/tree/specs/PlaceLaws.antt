@@ -1,6 +1,7 @@
 -- The places of the inner nodes: in order, side by side, inside the buffer.
 use Rattle.std.specs.Prelude.{◌≡◌, refl, Bool, true, false, ◌⊎◌, ℕ, suc, ◌+◌, ◌-◌, ◌*◌, ◌/◌, ◌^◌, ◌≤◌, ◌<◌, ltb}
-use Rattle.std.proofs.Common.{sym, ap, ◌∙◌, inl, inr, pow-suc, mul_assoc, lt_of_not-le, arith, pow_pos, pow-add, pow_mono, ltb-true, ltb-false}
+use Rattle.std.proofs.Common.{sym, ap, ◌∙◌, inl, inr, pow-suc, mul_assoc, lt_of_not-le, arith, pow_pos, pow-add}
+use Rattle.std.proofs.Common.{pow_mono, ltb-true, ltb-false}
 use Rattle.std.proofs.Math.Nat.{div-eq_of_eq-mul_left}
 use Rattle.std.proofs.Math.Pow.{pow-lt}
 use Rattle.tree.specs.Place.{RowInTree, NodeInTree, node_place}

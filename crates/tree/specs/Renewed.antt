@@ -26,7 +26,8 @@ count_above from len h = (from + len - 1) / (32 * 2 ^ h) + 1 - first_above from 
 unfoldable pub renewed_up : List ℕ → List ℕ → ℕ → ℕ → ℕ → ℕ → List ℕ
 renewed_up bytes tree from len h zero = tree
 renewed_up bytes tree from len h (suc n) =
-    renewed_up bytes (renewed_row bytes tree h (first_above from (suc h)) (count_above from len (suc h))) from len (suc h) n
+    renewed_up bytes (renewed_row bytes tree h (first_above from (suc h)) (count_above from len (suc h))) from len
+    (suc h) n
 
 -- all heights of a tree of 2 ^ top nodes, after len bytes were written from a place on
 unfoldable pub renewed : ℕ → List ℕ → List ℕ → ℕ → ℕ → List ℕ

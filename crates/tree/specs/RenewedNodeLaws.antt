@@ -35,7 +35,8 @@ module _ (bytes tree : List ℕ) (s : length tree + 32 ≡ length bytes) (h q : 
 
   pub renewed_node_sized : length (renewed_node bytes tree h q) ≡ length tree
   unfolding renewed_node
-  renewed_node_sized = length_splice tree (node_place (length bytes) (suc h) q) (node_hash (children bytes tree h q)) fits
+  renewed_node_sized = length_splice tree (node_place (length bytes) (suc h) q)
+      (node_hash (children bytes tree h q)) fits
 
   pub node_anew : tree_nodes bytes (renewed_node bytes tree h q) (suc h) q ≡ node_hash (children bytes tree h q)
   unfolding renewed_node tree_nodes

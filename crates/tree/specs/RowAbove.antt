@@ -1,6 +1,7 @@
 -- The nodes over a run of pairs, and what the routine that works them out answers: the tree beside a deal (document 02,
 -- request (vii)) can be filled a row, or a part of a row, at a time.
-use Rattle.std.specs.Prelude.{◌≡◌, Bool, ◌&&◌, ℕ, zero, suc, ◌+◌, ◌*◌, ◌/◌, ◌%◌, ◌≤◌, ◌<◌, List, [], ◌++◌, length, take, drop, eqb}
+use Rattle.std.specs.Prelude.{◌≡◌, Bool, ◌&&◌, ℕ, zero, suc, ◌+◌, ◌*◌, ◌/◌, ◌%◌, ◌≤◌, ◌<◌, List, [], ◌++◌, length, take}
+use Rattle.std.specs.Prelude.{drop, eqb}
 use Rattle.rules.specs.Choice.{choose}
 use Rattle.node.specs.Node.{node_hash}
 use Rattle.merkle.specs.Parts.{node_row}

@@ -105,7 +105,8 @@ module _ (nodes : NodeSource) (h : ℕ) where
       (ap (λ (r : ℕ). length (nodes h r)) one ∙ sized 1 (omega arith)) in
       ap (λ (m : ℕ). row_above (suc n) (node_row nodes h (q * 2) m)) e
       ∙ ap₂ (λ (a b : List ℕ). node_hash a ++ row_above n b) p.0 p.1
-      ∙ ap₂ (λ (a : List ℕ) (r : ℕ). node_hash (x ++ a) ++ row_above n (node_row nodes h r (n * 2))) (ap (nodes h) one) w
+      ∙ ap₂ (λ (a : List ℕ) (r : ℕ). node_hash (x ++ a) ++ row_above n (node_row nodes h r (n * 2)))
+      (ap (nodes h) one) w
       ∙ ap (λ (l : List ℕ). node_hash (x ++ nodes h (q * 2 + 1)) ++ l)
       (above_row n (suc q) (λ i l. ap (λ (r : ℕ). length (nodes h r)) (v i) ∙ sized (suc (suc i)) (omega arith)))
 

@@ -22,4 +22,5 @@ SizedFor bytes tree = length tree + 32 ≡ length bytes
 -- the premise of request (vii) as a state: every inner node of the deal's tree stands in the buffer
 pub record FilledFor (bytes tree : List ℕ) : Type 0 where
   pub sized : SizedFor bytes tree
-  pub stands : (h q : ℕ) → NodeInTree (length bytes) (suc h) q → tree_nodes bytes tree (suc h) q ≡ node_at bytes (suc h) q
+  pub stands : (h q : ℕ) → NodeInTree (length bytes) (suc h) q
+      → tree_nodes bytes tree (suc h) q ≡ node_at bytes (suc h) q

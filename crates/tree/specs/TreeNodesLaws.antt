@@ -1,6 +1,7 @@
 -- A buffer that is filled for a deal: its nodes are those of the definition. Two buffers with the same nodes are the
 -- same.
-use Rattle.std.specs.Prelude.{◌≡◌, refl, true, ℕ, zero, suc, ◌+◌, ◌-◌, ◌*◌, ◌^◌, ◌≤◌, ◌<◌, List, ◌++◌, length, get_or, eqb}
+use Rattle.std.specs.Prelude.{◌≡◌, refl, true, ℕ, zero, suc, ◌+◌, ◌-◌, ◌*◌, ◌^◌, ◌≤◌, ◌<◌, List, ◌++◌, length, get_or}
+use Rattle.std.specs.Prelude.{eqb}
 use Rattle.std.proofs.Common.{sym, ap, ap₂, ◌∙◌, le_trans, le_of_eq, arith, ext_get_or, eqb-true, eq-eqb}
 use Rattle.octets.specs.Splice.{part}
 use Rattle.octets.specs.SpliceLaws.{part_length, get_d_part}
@@ -74,7 +75,8 @@ filled_tree_lem bytes tree top e f =
 
 -- where two buffers have the same node, they have the same bytes
 pub same_byte : (bytes x y : List ℕ) (h q j : ℕ) → tree_nodes bytes x (suc h) q ≡ tree_nodes bytes y (suc h) q
-    → node_place (length bytes) (suc h) q ≤ j → j < node_place (length bytes) (suc h) q + 32 → get_or x j 0 ≡ get_or y j 0
+    → node_place (length bytes) (suc h) q ≤ j → j < node_place (length bytes) (suc h) q + 32
+    → get_or x j 0 ≡ get_or y j 0
 unfolding tree_nodes
 same_byte bytes x y h q j same l g =
     let at : ℕ = node_place (length bytes) (suc h) q in
@@ -89,7 +91,8 @@ same_byte bytes x y h q j same l g =
 -- a buffer is known by its nodes
 module _ (bytes x y : List ℕ) (top : ℕ) (e : length bytes ≡ 32 * 2 ^ top)
     (sx : length x + 32 ≡ length bytes) (sy : length y + 32 ≡ length bytes)
-    (same : (h q : ℕ) → NodeInTree (length bytes) (suc h) q → tree_nodes bytes x (suc h) q ≡ tree_nodes bytes y (suc h) q)
+    (same : (h q : ℕ) → NodeInTree (length bytes) (suc h) q
+    → tree_nodes bytes x (suc h) q ≡ tree_nodes bytes y (suc h) q)
   where
     byte_of : (j h q : ℕ) → 0 < h → NodeInTree (length bytes) h q → node_place (length bytes) h q ≤ j
         → j < node_place (length bytes) h q + 32 → get_or x j 0 ≡ get_or y j 0

@@ -1,0 +1,11 @@
+-- `lane_by_lane`: the words of the lanes below l stand.
+use Prim.Native.Nat.{◌-◌}
+use Rattle.lanes.specs.Lanes.{lanes, lane}
+use Rattle.lanes.proofs.PlacedLaws.{Placed}
+use Rattle.lanes.proofs.store.lane_by_lane.Given as goal
+
+abbrev pub invariant-loop-l : goal.invariant-loop-l
+invariant-loop-l l = Placed (lane 8 l.nodes) l.l l.words
+
+abbrev pub decreases-loop-l : goal.decreases-loop-l
+decreases-loop-l l = lanes - l.l

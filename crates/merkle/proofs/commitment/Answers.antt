@@ -1,0 +1,50 @@
+-- `commitment`: the two refusals, and the root of a run of the height that the trailing zeros give.
+use Prim.Native.Nat.{ℕ, ◌-◌, ◌^◌}
+use mathlib.Core.Path.{◌≡◌, sym, ap, ◌∙◌}
+use mathlib.Core.Bool.{Bool, true}
+use mathlib.Core.List.{List}
+use native.Mathlib.Omega.{arith}
+use lib.ListN.{length}
+use Rattle.merkle.specs.Tree.{commitment_of}
+use Rattle.merkle.specs.CommitmentLaws.{size_refused, stray_refused, accepted, height_five, tree_sized_lem}
+use Rattle.merkle.proofs.commitment.Goals as goal
+
+-- a test that is passed
+passed : {test said : Bool} → said ≡ test → said ≡ true → test ≡ true
+passed e h = sym e ∙ h
+
+pub returns-then-not-is_power_between_usize : goal.returns-then-not-is_power_between_usize
+returns-then-not-is_power_between_usize c =
+    c.refused.ensures
+    ∙ sym
+    (size_refused _ (sym c.is_power_between_usize.ensures ∙ c.if-not-is_power_between_usize.true))
+
+pub returns-then-not-no_stray_bits : goal.returns-then-not-no_stray_bits
+returns-then-not-no_stray_bits c =
+    c.refused-then-not-no_stray_bits.ensures
+    ∙ sym
+    (stray_refused _ (passed c.is_power_between_usize.ensures c.if-not-is_power_between_usize.false)
+    (sym c.no_stray_bits.ensures ∙ c.if-not-no_stray_bits.true))
+
+pub overflow_sub-height : goal.overflow_sub-height
+overflow_sub-height c =
+    let run = c.args.run.now in
+    simp c.log2_usize.ensures
+    (height_five 32 (2 ^ 24) (length run) (omega arith) (omega arith)
+    (passed c.is_power_between_usize.ensures c.if-not-is_power_between_usize.false))
+
+pub root-node-requires : goal.root-node-requires
+root-node-requires c =
+    let run = c.args.run.now in
+    simp c.log2_usize.ensures
+    (tree_sized_lem 32 (2 ^ 24) (length run) (omega arith) (omega arith)
+    (passed c.is_power_between_usize.ensures c.if-not-is_power_between_usize.false))
+
+pub returns : goal.returns
+returns c =
+    let run = c.args.run.now in
+    let node = c.root-node.ensures ∙ ap (λ (n : ℕ). commitment_of (n - 5) run) c.log2_usize.ensures in
+    ap (λ (v : List ℕ). record { code = 0; node = v }) node
+    ∙ sym
+    (accepted run (passed c.is_power_between_usize.ensures c.if-not-is_power_between_usize.false)
+    (passed c.no_stray_bits.ensures c.if-not-no_stray_bits.false))

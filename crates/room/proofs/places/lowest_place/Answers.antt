@@ -1,0 +1,88 @@
+use mathlib.Core.Path.{◌≡◌, sym, ap, ◌∙◌}
+use Prim.Native.Nat.{ℕ, ◌*◌, ◌/◌, ◌<◌}
+use native.Mathlib.Omega.{arith}
+use Rattle.rules.specs.declared.Found.TheVariants.{At}
+use Rattle.rules.specs.SearchLaws.{lowest_start, found_here, found_nowhere}
+use Rattle.room.specs.Room.{ranges_in, is_missing, lowest_overlap}
+use Rattle.room.specs.RoomLaws.{met_below, jump_on, jump}
+use Rattle.room.specs.OverlapLaws.{place_ends}
+use Rattle.room.specs.declared.Ranges.{Ranges}
+use Rattle.rules.specs.declared.Found.{Found}
+use Rattle.room.proofs.places.lowest_place.Invariants.{fits_at}
+use Rattle.room.proofs.places.lowest_place.Goals as goal
+
+pub nonzero_div-places : goal.nonzero_div-places
+nonzero_div-places c = omega arith
+
+pub loop-k-init : goal.loop-k-init
+loop-k-init c = let a = c.args in lowest_start (fits_at a.ranges a.slots a.area) (a.limit / a.area)
+
+pub overflow_mul-k : goal.overflow_mul-k
+overflow_mul-k c =
+    let a = c.args in
+    omega (arith, (place_ends c.loop-k.k a.area a.limit c.requires.1.0).0 c.loop-k-test.true)
+
+pub lowest_overlap-requires : goal.lowest_overlap-requires
+lowest_overlap-requires c =
+    let a = c.args in
+    let ends = (place_ends c.loop-k.k a.area a.limit c.requires.1.0).0 c.loop-k-test.true in
+    (c.requires.0, omega arith, c.requires.3)
+
+pub returns-in_default : goal.returns-in_default
+returns-in_default c =
+    let a = c.args in
+    found_here (fits_at a.ranges a.slots a.area) (a.limit / a.area) c.loop-k.k c.loop-k.invariant (omega arith)
+    (ap is_missing (sym c.lowest_overlap.ensures ∙ c.in_default.is))
+
+-- a turn that meets a slot: it is below the count of slots
+below : (r : Ranges) (slots area k i : ℕ) (x : Found) → 0 < area → x ≡ lowest_overlap (ranges_in r) slots (k * area) area
+    → x ≡ At i → i < slots
+below r slots area k i x p e f = met_below (ranges_in r) slots area k i p (sym e ∙ f)
+
+pub offset_bounds-ranges-i : goal.offset_bounds-ranges-i
+offset_bounds-ranges-i c = let h = below c.args.ranges c.args.slots c.args.area c.loop-k.k c.in-At.i _ c.requires.1.0 c.lowest_overlap.ensures c.in-At.is in omega arith
+
+pub bounds-ranges-i : goal.bounds-ranges-i
+bounds-ranges-i c = let h = below c.args.ranges c.args.slots c.args.area c.loop-k.k c.in-At.i _ c.requires.1.0 c.lowest_overlap.ensures c.in-At.is in omega arith
+
+pub offset_bounds-ranges-i-in-loop-k : goal.offset_bounds-ranges-i-in-loop-k
+offset_bounds-ranges-i-in-loop-k c = let h = below c.args.ranges c.args.slots c.args.area c.loop-k.k c.in-At.i _ c.requires.1.0 c.lowest_overlap.ensures c.in-At.is in omega arith
+
+pub bounds-ranges-i-in-loop-k : goal.bounds-ranges-i-in-loop-k
+bounds-ranges-i-in-loop-k c = let h = below c.args.ranges c.args.slots c.args.area c.loop-k.k c.in-At.i _ c.requires.1.0 c.lowest_overlap.ensures c.in-At.is in omega arith
+
+pub overflow_add-end : goal.overflow_add-end
+overflow_add-end c =
+    let e = c.requires.3 c.in-At.i (below c.args.ranges c.args.slots c.args.area c.loop-k.k c.in-At.i _ c.requires.1.0 c.lowest_overlap.ensures c.in-At.is) in
+    omega arith
+
+pub overflow_add-k : goal.overflow_add-k
+overflow_add-k c =
+    let e = c.requires.3 c.in-At.i (below c.args.ranges c.args.slots c.args.area c.loop-k.k c.in-At.i _ c.requires.1.0 c.lowest_overlap.ensures c.in-At.is) in
+    omega arith
+
+pub overflow_sub-k : goal.overflow_sub-k
+overflow_sub-k c = omega arith
+
+pub nonzero_div-k : goal.nonzero_div-k
+nonzero_div-k c = omega arith
+
+pub loop-k-smaller : goal.loop-k-smaller
+loop-k-smaller c =
+    let a = c.args in
+    let met = sym c.lowest_overlap.ensures ∙ c.in-At.is in
+    let on = jump_on (ranges_in a.ranges) a.slots a.area c.loop-k.k c.in-At.i c.requires.1.0 met in
+    omega arith
+
+pub loop-k-preserved : goal.loop-k-preserved
+loop-k-preserved c =
+    let a = c.args in
+    let met = sym c.lowest_overlap.ensures ∙ c.in-At.is in
+    c.loop-k.invariant
+    ∙ jump (ranges_in a.ranges) a.slots a.area c.loop-k.k c.in-At.i c.requires.1.0 met
+    (a.limit / a.area)
+
+pub returns : goal.returns
+returns c =
+    let a = c.args in
+    found_nowhere (fits_at a.ranges a.slots a.area) (a.limit / a.area) c.loop-k.k c.loop-k.invariant (omega arith)

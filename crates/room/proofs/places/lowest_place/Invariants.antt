@@ -1,0 +1,18 @@
+use mathlib.Core.Path.{◌≡◌}
+use mathlib.Core.Bool.{Bool}
+use Prim.Native.Nat.{ℕ, ◌-◌, ◌*◌}
+use Rattle.rules.specs.Search.{lowest}
+use Rattle.room.specs.Room.{ranges_in, fits}
+use Rattle.room.specs.declared.Ranges.{Ranges}
+use Rattle.room.proofs.places.lowest_place.Given as goal
+
+-- the area from k times its size on fits
+abbrev pub fits_at : Ranges → ℕ → ℕ → ℕ → Bool
+fits_at ranges slots area k = fits (ranges_in ranges) slots area (k * area)
+
+abbrev pub invariant-loop-k : goal.invariant-loop-k
+invariant-loop-k l =
+    lowest (fits_at l.ranges l.slots l.area) 0 l.places ≡ lowest (fits_at l.ranges l.slots l.area) l.k (l.places - l.k)
+
+abbrev pub decreases-loop-k : goal.decreases-loop-k
+decreases-loop-k l = l.places - l.k

@@ -1,0 +1,6 @@
+-- `small_sigma0` is its definition, with two rotations at once.
+use Rattle.sha256.proofs.RotationLaws.{σ0_nested}
+use Rattle.sha256.proofs.chain.small_sigma0.Goals as goal
+
+pub returns : goal.returns
+returns c = σ0_nested c.args.x c.ranges.x.fits

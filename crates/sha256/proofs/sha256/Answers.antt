@@ -1,0 +1,12 @@
+-- `sha256`: the two ways by the message's length.
+use Rattle.std.proofs.Common.{le-leb}
+use borrow.Author.Tests.{lt-leb}
+use Rattle.sha256.specs.Fips.{sha256}
+use Rattle.sha256.proofs.sha256.Goals as goal
+
+pub returns-then-message-le16777216 : goal.returns-then-message-le16777216
+unfolding sha256
+returns-then-message-le16777216 c = simp (le-leb _ _ c.if-message-le16777216.true, c.digest-digest.ensures, c.hash_value.ensures)
+
+pub returns-else-message-le16777216 : goal.returns-else-message-le16777216
+returns-else-message-le16777216 c = simp (lt-leb _ _ c.if-message-le16777216.false)

@@ -1,0 +1,13 @@
+-- `digest`: after i turns the first i bytes stand.
+use Rattle.std.proofs.Common.{refl, arith}
+use Rattle.sha256.specs.TableLaws.{stored_none, stored_more, stored_all}
+use Rattle.sha256.proofs.words.digest.Goals as goal
+
+pub loop-i-init : goal.loop-i-init
+loop-i-init c = stored_none _ 32 _ refl
+
+pub loop-i-preserved : goal.loop-i-preserved
+loop-i-preserved c = stored_more c.loop-i.invariant (omega arith) c.byte_of.ensures
+
+pub returns : goal.returns
+returns c = stored_all c.loop-i.invariant (omega arith)

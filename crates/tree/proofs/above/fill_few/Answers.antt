@@ -1,0 +1,22 @@
+-- `fill_few`: nothing, or the nodes over the pairs, where a count of 16 may stand as 16.
+use mathlib.Core.Path.{◌≡◌, ap, ◌∙◌}
+use Prim.Native.Nat.{ℕ, ◌*◌}
+use native.Mathlib.Omega.{arith}
+use lib.ListN.{drop}
+use Rattle.octets.specs.Splice.{splice}
+use Rattle.tree.specs.RowAbove.{row_above}
+use Rattle.tree.proofs.LanesAbove.{nothing_above}
+use Rattle.tree.proofs.above.fill_few.Goals as goal
+
+pub returns-then-count-eq0 : goal.returns-then-count-eq0
+returns-then-count-eq0 c =
+    let a = c.args in
+    nothing_above a.below.now a.above.now a.first a.count (omega arith)
+
+pub returns-then-count-eq16 : goal.returns-then-count-eq16
+returns-then-count-eq16 c =
+    let a = c.args in
+    let sixteen : 16 ≡ a.count = omega arith in
+    c.fill_lanes.ensures
+    ∙ ap (λ (n : ℕ). splice a.above.now (32 * a.first) (row_above n (drop (64 * a.first) a.below.now)))
+    sixteen
