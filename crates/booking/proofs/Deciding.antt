@@ -30,7 +30,7 @@ use Rattle.booking.specs.BookableLaws.{
   area_some,
   table_length_lem,
 }
-use Rattle.booking.specs.BookingLaws.{decision_is, answer_is}
+use Rattle.booking.proofs.BookingLaws.{decision_is, answer_is}
 
 module _ (deal : LentDeal) (segment : List ℕ) (b : Bookable deal segment) where
   -- the commitment, by the height of the area's tree

@@ -55,7 +55,8 @@ module _ (deal : LentDeal) (segment : List ℕ) (i : ℕ) where
 
     same_bytes_lem : part deal.bytes (offset_in entry) (area (length segment)) ≡ area_bytes segment
     unfolding keeps_segment
-    same_bytes_lem = same_true _ _ (and_right size_here bytes_here (and_right (kept_at deal i) (size_here && bytes_here) e))
+    same_bytes_lem =
+        same_true _ _ (and_right size_here bytes_here (and_right (kept_at deal i) (size_here && bytes_here) e))
 
     range_is : ranges_of deal.bytes i ≡ range (offset_in entry) (area (size_in entry))
     range_is = range_stands (deal_size deal) entry (keeps_stands deal segment i e)
@@ -79,7 +80,8 @@ module _ (deal : LentDeal) (segment : List ℕ) (i : ℕ) where
 
     pub offset_fits : offset_allowed (deal_size deal) (ranges_of deal.bytes i).offset (length segment) ≡ true
     offset_fits =
-        ap₂ (offset_allowed (deal_size deal)) offset_there (sym z) ∙ (stands (deal_size deal) entry stood).offset_allowed_lem
+        ap₂ (offset_allowed (deal_size deal)) offset_there (sym z)
+        ∙ (stands (deal_size deal) entry stood).offset_allowed_lem
 
     -- its commitment and its bytes decide: the first by a node that is the one over its area wherever that holds
     -- exactly the segment's bytes and zeros after them

@@ -26,9 +26,9 @@ use Rattle.booking.specs.WriteLaws.{Fits, written_at_lem}
 use Rattle.booking.specs.Booking.{book_rules, decision, book_answer, booked_deal, booked_table}
 use Rattle.booking.specs.BookedTree.{renewed_for, booked_tree}
 use Rattle.booking.specs.BookableLaws.{Bookable, BookableFor, bookable_deal, bookable_segment, bookable_usable}
-use Rattle.booking.specs.BookingLaws.{refused_is, answer_is, deal_is, code_0, refused_same, refused_table}
-use Rattle.booking.specs.BookedLaws.{booked_fits, booked_is, booked_length, booked_table_is}
-use Rattle.booking.specs.BookedTreeLaws.{refused_tree, tree_is}
+use Rattle.booking.proofs.BookingLaws.{refused_is, answer_is, deal_is, code_0, refused_same, refused_table}
+use Rattle.booking.proofs.BookedLaws.{booked_fits, booked_is, booked_length, booked_table_is}
+use Rattle.booking.proofs.BookedTreeLaws.{refused_tree, tree_is}
 
 -- code 0: a place was found, and the segment and its entry fit there
 module _ (deal : LentDeal) (table : List ℕ) (house : ℕ) (segment : List ℕ) (answer : Booked)

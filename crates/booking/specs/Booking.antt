@@ -56,7 +56,8 @@ held_in deal table house = held_count (ranges_of deal) table house (entry_count 
 unfoldable pub decision : LentDeal → List ℕ → ℕ → List ℕ → Decision
 decision deal table house segment =
     unless_refused (first_refusal (book_rules deal table house segment)) Refuse
-    (decide_for (deal_size deal) (ranges_of deal.bytes) table house (area (length segment)) (keeps_segment deal segment))
+    (decide_for (deal_size deal) (ranges_of deal.bytes) table house (area (length segment))
+    (keeps_segment deal segment))
 
 -- the answer: offset and entry place
 unfoldable pub book_answer : LentDeal → List ℕ → ℕ → List ℕ → Booked

@@ -103,7 +103,8 @@ module _ {deal segment : List ℕ} {i o : ℕ} (facts : Fits deal segment i o) w
   unfolding keeps_segment
   keeps_written =
       let new : List ℕ = slot_at after i in
-      let size : eqb (size_in new) (length segment) ≡ true = eq-eqb (size_in new) (length segment) (size_written facts) in
+      let size : eqb (size_in new) (length segment) ≡ true =
+      eq-eqb (size_in new) (length segment) (size_written facts) in
       let bytes : same_bytes (part after (offset_in new) (area (length segment))) (area_bytes segment) ≡ true =
       same_of (part after (offset_in new) (area (length segment))) (area_bytes segment)
       (ap (λ (at : ℕ). part after at (area (length segment))) (offset_written facts) ∙ segment_written facts) in

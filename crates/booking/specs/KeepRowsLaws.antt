@@ -39,7 +39,8 @@ keeps_row deal segment i t =
     let n : ℕ = length segment in
     let with_size : Bool = eqb (size_in entry) n in
     let same_kept = kept_row_lem (length deal) entry t deal in
-    ap (λ (k : Bool). k && (with_size && same_bytes (part deal (offset_in entry) (area n)) (area_bytes segment))) same_kept
+    ap (λ (k : Bool). k && (with_size && same_bytes (part deal (offset_in entry) (area n)) (area_bytes segment)))
+    same_kept
     ∙ and_same (row_kept row (area_of deal row)) _ _
     (λ k.
     let s : standing (length deal) entry ≡ true =

@@ -3,13 +3,8 @@ pub mod Booking
 pub mod KeepRows
 pub mod BookedTree
 pub mod BookableLaws
-pub mod BookingLaws
 pub mod WriteLaws
 pub mod KeepRowsLaws
 pub mod KeepLaws
 pub mod OwnLaws
-pub mod BookedLaws
-pub mod AlreadyLaws
-pub mod NeverAgain
-pub mod BookedTreeLaws
-pub mod TreeBookingLaws
+pub mod Outcomes

@@ -30,9 +30,9 @@ use Rattle.cancel.specs.Cancel.{
   cancelled_table,
   cancelled_tree,
 }
-use Rattle.cancel.specs.CancelLaws.{cancels, refused_same, cancelled_at}
-use Rattle.cancel.specs.OwnerCancelLaws.{not_own, refused_table, table_is}
-use Rattle.cancel.specs.TreeCancelLaws.{refused_tree, tree_is}
+use Rattle.cancel.proofs.CancelLaws.{cancels, refused_same, cancelled_at}
+use Rattle.cancel.proofs.OwnerCancelLaws.{not_own, refused_table, table_is}
+use Rattle.cancel.proofs.TreeCancelLaws.{refused_tree, tree_is}
 
 -- the rules of the house come first
 house_first : (allowed lent sized : Bool) (later : ℕ) → first_of allowed 23 (first_of lent 2 (first_of sized 23 0)) ≢ 0
@@ -51,23 +51,22 @@ module _ (has_tree : Bool) (deal tree table : List ℕ) (house place : ℕ) wher
   slot = slot_of (length deal) place
 
   -- the code, the deal, the tree and the table afterwards
-  abbrev pub Outcome : ℕ → List ℕ → List ℕ → List ℕ → Type 0
-  Outcome code new_deal new_tree new_table =
-      (code ≡ cancel_code lent table house place)
-      × ((new_deal ≡ cancelled_deal lent table house place)
-      × ((new_tree ≡ choose has_tree (cancelled_tree deal tree table house place) tree)
-      × (new_table ≡ cancelled_table lent table house place)))
+  pub record Outcome (code : ℕ) (new_deal new_tree new_table : List ℕ) : Type 0 where
+    pub value : code ≡ cancel_code lent table house place
+    pub deal_after : new_deal ≡ cancelled_deal lent table house place
+    pub tree_after : new_tree ≡ choose has_tree (cancelled_tree deal tree table house place) tree
+    pub table_after : new_table ≡ cancelled_table lent table house place
 
   -- with any code but 0 all three stay
   nothing_written : (code : ℕ) → code ≡ cancel_code lent table house place → code ≢ 0 → Outcome code deal tree table
   nothing_written code e h =
-      let refused : cancel_code lent table house place ≢ 0 = λ z. h (e ∙ z) in (
-        e,
-        (
-          sym (refused_same lent table house place refused),
-          (by_tree has_tree e, sym (refused_table lent table house place refused)),
-        ),
-      )
+      let refused : cancel_code lent table house place ≢ 0 = λ z. h (e ∙ z) in
+      record {
+        value = e;
+        deal_after = sym (refused_same lent table house place refused);
+        tree_after = by_tree has_tree e;
+        table_after = sym (refused_table lent table house place refused);
+      }
     where
       by_tree : (b : Bool) → code ≡ cancel_code (lent_with b deal tree) table house place
           → tree ≡ choose b (cancelled_tree deal tree table house place) tree
@@ -146,13 +145,13 @@ module _ (has_tree : Bool) (deal tree table : List ℕ) (house place : ℕ) wher
                 place_allowed_lem = p;
                 stands_there = s;
                 owned_there = o;
-              }) in (
-                sym z,
-                (
-                  w ∙ sym (cancelled_at lent table house place z),
-                  (t ∙ by_tree has_tree z, u ∙ sym (table_is lent table house place z)),
-                ),
-              )
+              }) in
+              record {
+                value = sym z;
+                deal_after = w ∙ sym (cancelled_at lent table house place z);
+                tree_after = t ∙ by_tree has_tree z;
+                table_after = u ∙ sym (table_is lent table house place z);
+              }
             where
               by_tree : (b : Bool) → cancel_code (lent_with b deal tree) table house place ≡ 0
                   → choose b (renewed (deal_level (length new)) new tree place 64) tree

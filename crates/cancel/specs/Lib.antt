@@ -1,4 +1,2 @@
 pub mod Cancel
-pub mod CancelLaws
-pub mod OwnerCancelLaws
-pub mod TreeCancelLaws
+pub mod Cancels

@@ -21,7 +21,8 @@ use Rattle.packing.specs.NoOverlapLaws.{none_overlaps_lem, none_overlaps_same}
 use Rattle.packing.specs.PackingLaws.{new_slot_same, new_offset_same}
 use Rattle.collect.specs.Collect.{slot_to, offset_to, area_to}
 use Rattle.collect.specs.Ready.{Ready}
-use Rattle.collect.specs.MovesLaws.{Collectable, area_ends}
+use Rattle.collect.specs.Collectable.{Collectable}
+use Rattle.collect.proofs.MovesLaws.{area_ends}
 
 module _ (deal : List ℕ) (ranges : Ranges) (slots : ℕ) (lent : lent_size_allowed (length deal) ≡ true)
     (gathered : SameBelow (entry_count (length deal)) (ranges_in ranges) (ranges_of deal))
@@ -104,7 +105,8 @@ module _ {deal : List ℕ} {ranges : Ranges} {slots : ℕ} (r : Ready deal range
 
     pub taken_is : taken ≡ area_to deal j
     taken_is =
-        part_range deal (get_or ranges.offsets j 0) (get_or ranges.areas j 0) ∙ ap₂ (part deal) offset_at_lem area_at_lem
+        part_range deal (get_or ranges.offsets j 0) (get_or ranges.areas j 0)
+        ∙ ap₂ (part deal) offset_at_lem area_at_lem
 
     pub taken_length : length taken ≡ get_or ranges.areas j 0
     taken_length =

@@ -6,9 +6,14 @@ use mathlib.Core.List.{List}
 use Prim.Native.Nat.{ℕ}
 use lib.ListN.{length}
 use Rattle.rules.specs.Choice.{choose}
-use Rattle.sizes.specs.Sizes.{deal_level}
+use Rattle.sizes.specs.Sizes.{entry_count, deal_level}
 use Rattle.tree.specs.Filled.{filled}
 use Rattle.lent.specs.LentDeal.{LentDeal, lent_with}
+use Rattle.room.specs.Room.{SameBelow, ranges_in}
+use Rattle.room.specs.declared.Ranges.{Ranges}
+use Rattle.ranges.specs.Ranges.{ranges_of}
+use Rattle.houses.specs.HousesLaws.{sized_length}
+use Rattle.packing.specs.NoOverlapLaws.{none_overlaps_lem}
 use Rattle.collect.specs.Collect.{
   collect_code,
   collected_deal,
@@ -17,6 +22,8 @@ use Rattle.collect.specs.Collect.{
   second_owners,
   second_tree,
 }
+use Rattle.collect.specs.Collectable.{Collects}
+use Rattle.collect.specs.Ready.{Ready}
 use Rattle.collect.specs.AnswerLaws.{
   deal_collected,
   deal_left,
@@ -25,6 +32,18 @@ use Rattle.collect.specs.AnswerLaws.{
   tree_collected,
   tree_left,
 }
+
+-- where nothing refuses, the gathered ranges are ready to be written by
+pub ready : {deal table : List ℕ} {second : LentDeal} {second_table : List ℕ}
+    → Collects deal table second second_table → (ranges : Ranges)
+    → SameBelow (entry_count (length deal)) (ranges_in ranges) (ranges_of deal) → Ready deal ranges (length table)
+ready {deal} {table} c ranges gathered =
+    record {
+      lent = c.collectable.lent;
+      none_overlaps_lem = (none_overlaps_lem (ranges_of deal) (entry_count (length deal))).1 c.collectable.apart;
+      gathered = gathered;
+      slots_are = sized_length (length deal) table c.table_sized_lem;
+    }
 
 module _ (has_tree : Bool) (deal table second tree second_table : List ℕ) where
   abbrev lent : LentDeal

@@ -14,8 +14,8 @@ use Rattle.room.specs.declared.Ranges.{Ranges}
 use Rattle.ranges.specs.RangesLaws.{empty_free}
 use Rattle.collect.specs.Collect.{slot_to, owner_to}
 use Rattle.collect.specs.Ready.{Ready}
-use Rattle.collect.specs.MovesLaws.{sized, full_stands}
-use Rattle.collect.specs.OwnersLaws.{none_brought}
+use Rattle.collect.proofs.MovesLaws.{sized, full_stands}
+use Rattle.collect.proofs.OwnersLaws.{none_brought}
 use Rattle.collect.proofs.Gathered.{collectable, area_at_lem}
 
 -- a string with one byte written

@@ -11,7 +11,8 @@ module _ (at : ℕ → ℕ) (strings : ℕ → List ℕ) (base : List ℕ) where
   unfolding write_all
   write_none = refl
 
-  pub write_next : (new next : List ℕ) (j : ℕ) → new ≡ write_all at strings j base → next ≡ splice new (at j) (strings j)
+  pub write_next : (new next : List ℕ) (j : ℕ) → new ≡ write_all at strings j base
+      → next ≡ splice new (at j) (strings j)
       → next ≡ write_all at strings (j + 1) base
   unfolding write_all
   write_next new next j e f =

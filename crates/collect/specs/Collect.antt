@@ -84,7 +84,8 @@ second_deal deal table second second_table =
 -- the second table afterwards
 unfoldable pub second_owners : List ℕ → List ℕ → LentDeal → List ℕ → List ℕ
 second_owners deal table second second_table =
-    unless_refused (collect_code deal table second second_table) (λ (code : ℕ). second_table) (collected_table deal table)
+    unless_refused (collect_code deal table second second_table) (λ (code : ℕ). second_table)
+    (collected_table deal table)
 
 -- the tree beside the second deal afterwards: every inner node of the new deal's tree
 unfoldable pub second_tree : List ℕ → List ℕ → List ℕ → List ℕ → List ℕ → List ℕ

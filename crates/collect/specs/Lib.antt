@@ -3,12 +3,5 @@ pub mod Collect
 pub mod Ready
 pub mod WritesLaws
 pub mod ZerosLaws
-pub mod MovesLaws
-pub mod CollectLaws
-pub mod CollectRows
-pub mod CollectPacked
-pub mod CollectClear
-pub mod CodeLaws
 pub mod AnswerLaws
-pub mod TreeCollectLaws
-pub mod OwnersLaws
+pub mod Collectable

@@ -31,7 +31,8 @@ module _ (at : ℕ → ℕ) (strings : ℕ → List ℕ) (base : List ℕ) where
       let l = written_length n (λ k h. w k (omega arith)) in
       length_splice (write_all at strings n base) (at n) (strings n) (omega (arith, w n (omega arith))) ∙ l
 
-  pub written_bytes_lem : (n : ℕ) → ((k : ℕ) → k < n → Bytes (strings k)) → Bytes base → Bytes (write_all at strings n base)
+  pub written_bytes_lem : (n : ℕ) → ((k : ℕ) → k < n → Bytes (strings k)) → Bytes base
+      → Bytes (write_all at strings n base)
   unfolding write_all
   written_bytes_lem zero f b = b
   written_bytes_lem (suc n) f b =
@@ -71,7 +72,8 @@ module _ (at : ℕ → ℕ) (strings : ℕ → List ℕ) (base : List ℕ) where
             ∙ sym (ap strings e)
         | no ne ↦
             passes n (at k) (length (strings k)) w (w k h) (apart k n h (omega arith) ne)
-            ∙ written_at_lem n k (λ i l. w i (omega arith)) (λ i j a b. apart i j (omega arith) (omega arith)) (omega arith)
+            ∙ written_at_lem n k (λ i l. w i (omega arith)) (λ i j a b. apart i j (omega arith) (omega arith))
+            (omega arith)
       ]
     where
       last : part (write_all at strings (suc n) base) (at n) (length (strings n)) ≡ strings n

@@ -36,6 +36,10 @@ pub digest_length : (message : List ℕ) (answer : Hashed) → length message �
     → length answer.digest ≡ 32
 digest_length message answer l e = ap length (digest_is message answer l e) ∙ sha256_length message
 
+pub digest_front : (message : List ℕ) (answer : Hashed) → length message ≡ 64 → answer ≡ hashed message
+    → length (take 16 answer.digest) ≡ 16
+digest_front message answer l e = length-take-le 16 answer.digest (omega (arith, digest_length message answer l e))
+
 pub front_length : (entry : List ℕ) → length entry ≡ 64 → length (take 48 entry) ≡ 48
 front_length entry l = length-take-le 48 entry (omega arith)
 
@@ -80,7 +84,8 @@ entry_written commitment offset size one two three sum entry l a b c d e n =
     ap (take 32) a ∙ written (replicate 64 0) [] commitment 0 32 refl refl (omega arith) in
     let q : take 40 two ≡ commitment ++ bytes_of 8 offset =
     ap (take 40) b ∙ written one commitment (bytes_of 8 offset) 32 40 l p (omega arith) in
-    let f : length (commitment ++ bytes_of 8 offset) ≡ 40 = length-append commitment (bytes_of 8 offset) ∙ omega arith in
+    let f : length (commitment ++ bytes_of 8 offset) ≡ 40 =
+    length-append commitment (bytes_of 8 offset) ∙ omega arith in
     let r : take 48 three ≡ entry_body commitment offset size =
     ap (take 48) c
     ∙ written two (commitment ++ bytes_of 8 offset) (bytes_of 8 size) 40 48 f q (omega arith)

@@ -1,7 +1,8 @@
 -- The checksum of an index entry (document 01, "Entries and the index area"). Shut: above this file only its length and
 -- the laws below are known.
 use Rattle.std.specs.Prelude.{◌≡◌, refl, ℕ, ◌%◌, ◌<◌, List, ◌++◌, length, get_or, set, take, replicate}
-use Rattle.std.proofs.Common.{ap, ◌∙◌, arith, length-set, get_or-set_same, get_or-set_other, get_or-take, length-take-le}
+use Rattle.std.proofs.Common.{ap, ◌∙◌, arith, length-set, get_or-set_same, get_or-set_other, get_or-take}
+use Rattle.std.proofs.Common.{length-take-le}
 use Rattle.sha256.specs.Fips.{sha256}
 use Rattle.sha256.specs.DigestLaws.{sha256_length}
 

@@ -55,7 +55,8 @@ module _ (deal : List ℕ) (offset : ℕ) (bytes : List ℕ) (t : DealSize (leng
       apart
 
   -- slots and rows
-  pub with_area_slot : (j : ℕ) → j < entry_count (length deal) → slot_at (with_area deal offset bytes) j ≡ slot_at deal j
+  pub with_area_slot : (j : ℕ) → j < entry_count (length deal)
+      → slot_at (with_area deal offset bytes) j ≡ slot_at deal j
   unfolding with_area slot_place
   with_area_slot j g =
       let within = slot_within (length deal) j t g in

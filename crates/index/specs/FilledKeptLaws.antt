@@ -31,6 +31,7 @@ module _ (bytes tree : List ℕ) (f : FilledFor bytes tree) (lent : lent_size_al
       → kept (tree_nodes bytes tree) (length bytes) entry ≡ kept (node_at bytes) (length bytes) entry
   unfolding kept
   filled_kept entry =
-      and_same (standing (length bytes) entry) (same_bytes (node_over (tree_nodes bytes tree) entry) (commitment_in entry))
+      and_same (standing (length bytes) entry)
+      (same_bytes (node_over (tree_nodes bytes tree) entry) (commitment_in entry))
       (same_bytes (node_over (node_at bytes) entry) (commitment_in entry))
       (λ t. ap (λ (node : List ℕ). same_bytes node (commitment_in entry)) (same_node entry t))

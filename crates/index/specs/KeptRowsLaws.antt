@@ -26,18 +26,21 @@ module _ (d : ℕ) (entry : List ℕ) (t : DealSize d) where
     standing_size = segment_size d (size_in entry) t (stands d entry e).size_allowed
 
     pub standing_place : SegmentPlace d (offset_in entry) (size_in entry)
-    standing_place = segment_place d (offset_in entry) (size_in entry) t standing_size (stands d entry e).offset_allowed_lem
+    standing_place =
+        segment_place d (offset_in entry) (size_in entry) t standing_size (stands d entry e).offset_allowed_lem
 
   -- a row ends by the index start
   pub row_ends : row_offset (row_of d entry) + row_area (row_of d entry) ≤ index_start d
   row_ends = by_test (standing d entry) refl
     where
-      by_test : (b : Bool) → standing d entry ≡ b → row_offset (row_of d entry) + row_area (row_of d entry) ≤ index_start d
+      by_test : (b : Bool) → standing d entry ≡ b
+          → row_offset (row_of d entry) + row_area (row_of d entry) ≤ index_start d
       by_test true e = rw (row_stands d entry e) (standing_place e).ends
       by_test false e = rw (row_free d entry e) (omega arith)
 
   -- an entry is kept exactly if its row is, by the bytes of its area
-  pub kept_row_lem : (deal : List ℕ) → kept (node_at deal) d entry ≡ row_kept (row_of d entry) (area_of deal (row_of d entry))
+  pub kept_row_lem : (deal : List ℕ)
+      → kept (node_at deal) d entry ≡ row_kept (row_of d entry) (area_of deal (row_of d entry))
   unfolding kept row_kept
   kept_row_lem deal = by_test (standing d entry) refl
     where

@@ -106,7 +106,8 @@ module _ (deal : List ℕ) (i : ℕ) (entry : List ℕ) (t : DealSize (length de
   with_slot_row_other j g ne = ap₂ row_of with_slot_length (with_slot_other j g ne)
 
   -- kept: of the deal's bytes only the entry's own area is read, and none of the index
-  same_kept : (e : List ℕ) → kept (node_at (with_slot deal i entry)) (length deal) e ≡ kept (node_at deal) (length deal) e
+  same_kept : (e : List ℕ)
+      → kept (node_at (with_slot deal i entry)) (length deal) e ≡ kept (node_at deal) (length deal) e
   same_kept e =
       kept_same (length deal) e t deal (with_slot deal i entry) (with_slot_below _ _ (row_ends (length deal) e t))
 
@@ -116,10 +117,12 @@ module _ (deal : List ℕ) (i : ℕ) (entry : List ℕ) (t : DealSize (length de
   pub with_slot_kept_other : (j : ℕ) → j < entry_count (length deal) → j ≢ i
       → kept_at (lent_deal (with_slot deal i entry)) j ≡ kept_at (lent_deal deal) j
   with_slot_kept_other j g ne =
-      ap₂ (kept (node_at (with_slot deal i entry))) with_slot_length (with_slot_other j g ne) ∙ same_kept (slot_at deal j)
+      ap₂ (kept (node_at (with_slot deal i entry))) with_slot_length (with_slot_other j g ne)
+      ∙ same_kept (slot_at deal j)
 
   -- stray bits: none come in but by the new bytes
-  pub with_slot_clear : no_stray_bits deal ≡ true → no_stray_bits entry ≡ true → no_stray_bits (with_slot deal i entry) ≡ true
+  pub with_slot_clear : no_stray_bits deal ≡ true → no_stray_bits entry ≡ true
+      → no_stray_bits (with_slot deal i entry) ≡ true
   unfolding with_slot slot_place
   with_slot_clear e f =
       let start : index_start (length deal) % 64 ≡ 0 = (index_area (length deal) t).start_aligned in

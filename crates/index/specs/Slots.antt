@@ -49,7 +49,8 @@ row_of d entry = choose (standing d entry) (holds (commitment_in entry) (offset_
 
 -- the same for a kept entry alone
 unfoldable pub kept_row : NodeSource → ℕ → List ℕ → Row
-kept_row nodes d entry = choose (kept nodes d entry) (holds (commitment_in entry) (offset_in entry) (size_in entry)) free
+kept_row nodes d entry =
+    choose (kept nodes d entry) (holds (commitment_in entry) (offset_in entry) (size_in entry)) free
 
 -- the rows of a deal, slot by slot
 abbrev pub row_at : List ℕ → ℕ → Row

@@ -56,7 +56,10 @@ module _ (deal : LentDeal) where
 
   -- the nodes of a deal that is not refused may be looked up
   pub usable : deal_refusal deal ≡ 0 → Usable deal
-  usable e = let p = refusal_none e in record { size_allowed = p.0; tree_sized_lem = p.2 }
+  unfolding deal_refusal
+  usable e =
+      let p = none_refused (deal_rules deal) (omega arith, (omega arith, (omega arith, tt))) e in
+      record { size_allowed = p.0; tree_sized_lem = p.1.1.0 }
 
   -- later rules are reached where none of these refuses
   module _ (later : List Rule) where

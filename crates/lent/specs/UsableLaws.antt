@@ -47,7 +47,8 @@ tree_sized_lem bytes tree u =
 
 -- only the two lengths are asked
 pub usable_same : (has_tree : Bool) (bytes tree new_bytes new_tree : List ℕ) → length new_bytes ≡ length bytes
-    → length new_tree ≡ length tree → Usable (lent_with has_tree bytes tree) → Usable (lent_with has_tree new_bytes new_tree)
+    → length new_tree ≡ length tree → Usable (lent_with has_tree bytes tree)
+    → Usable (lent_with has_tree new_bytes new_tree)
 usable_same has_tree bytes tree new_bytes new_tree e f u =
     record {
       size_allowed = ap lent_size_allowed e ∙ u.size_allowed;

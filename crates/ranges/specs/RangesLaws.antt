@@ -15,7 +15,8 @@ use Rattle.ranges.specs.Ranges.{row_range, ranges_of}
 
 module _ (d : ℕ) (entry : List ℕ) where
   -- the range of a standing entry
-  pub range_stands : standing d entry ≡ true → row_range (row_of d entry) ≡ range (offset_in entry) (area (size_in entry))
+  pub range_stands : standing d entry ≡ true
+      → row_range (row_of d entry) ≡ range (offset_in entry) (area (size_in entry))
   range_stands e = ap row_range (row_stands d entry e)
 
   pub range_empty : DealSize d → is_empty (row_range (row_of d entry)) ≡ not (standing d entry)

@@ -1,0 +1,69 @@
+use Rattle.std.proofs.Common.{◌≡◌, sym, ap, ◌∙◌, Bool, true, false, ◌&&◌, ◌≢◌, ℕ, length, get_or, eqb, arith}
+use Rattle.std.proofs.Common.{true≢false, eq-eqb, ne_eqb}
+use Rattle.rules.specs.RefusalLaws.{and_right, and_both, not_passed}
+use Rattle.rules.specs.Search.{lowest}
+use Rattle.rules.specs.SearchLaws.{lowest_start, found_here, found_later, found_nowhere}
+use Rattle.lent.specs.LentDeal.{lent_with}
+use Rattle.houses.specs.HousesLaws.{sized_length}
+use Rattle.booking.specs.Booking.{keeps_own}
+use Rattle.booking.proofs.keeping.lowest_keeping.Goals as goal
+use Rattle.booking.proofs.keeping.lowest_keeping.Goals.{
+  else-table-i-via-then-table-i+else-slot_keeps,
+  else-table-i-via-else-table-i,
+}
+
+-- a slot is the house's and keeps the segment, or is another's, or keeps it not
+own : (owner house : ℕ) (keeping kept : Bool) → owner ≡ house → keeping ≡ kept → keeping ≡ true
+    → (eqb owner house && kept) ≡ true
+own owner house keeping kept e k t = and_both (eqb owner house) kept (eq-eqb owner house e) (sym k ∙ t)
+
+not_own : (owner house : ℕ) (kept : Bool) → owner ≢ house → (eqb owner house && kept) ≡ false
+not_own owner house kept ne = rw (ne_eqb owner house ne)
+
+not_kept : (owned keeping kept : Bool) → keeping ≡ kept → keeping ≡ false → (owned && kept) ≡ false
+not_kept owned keeping kept k f =
+    not_passed (owned && kept) (λ t. true≢false (sym (and_right owned kept t) ∙ sym k ∙ f))
+
+pub loop-i-init : goal.loop-i-init
+loop-i-init c =
+    let a = c.args in (
+      omega arith,
+      lowest_start (keeps_own (lent_with a.has_tree a.deal.now a.tree.now) a.table.now a.house a.segment.now)
+          c.entry_count-slots.result,
+    )
+
+pub bounds-table-i : goal.bounds-table-i
+bounds-table-i c =
+    let l = sized_length (length c.args.deal.now) c.args.table.now c.requires.table_value in
+    omega (arith, c.entry_count-slots.ensures)
+
+pub returns-then-slot_keeps : goal.returns-then-slot_keeps
+returns-then-slot_keeps c =
+    let a = c.args in
+    let keeps = keeps_own (lent_with a.has_tree a.deal.now a.tree.now) a.table.now a.house a.segment.now in
+    found_here keeps c.entry_count-slots.result c.loop-i.i c.loop-i.invariant.1 c.loop-i-test.true
+    (own (get_or a.table.now c.loop-i.i 0) a.house c.slot_keeps.result _ c.if-table-i.true c.slot_keeps.ensures
+    c.if-slot_keeps.true)
+    ∙ ap (lowest keeps 0) c.entry_count-slots.ensures
+
+pub loop-i-preserved : goal.loop-i-preserved
+loop-i-preserved c =
+    let a = c.args in
+    let i = c.loop-i.i in
+    let owner = get_or a.table.now i 0 in
+    let keeps = keeps_own (lent_with a.has_tree a.deal.now a.tree.now) a.table.now a.house a.segment.now in
+    let passed_by : keeps i ≡ false = elim c.else-table-i.branch [
+      | else-table-i-via-then-table-i+else-slot_keeps w ↦ not_kept (eqb owner a.house) w.slot_keeps.result _
+          w.slot_keeps.ensures w.if-slot_keeps.false
+      | else-table-i-via-else-table-i w ↦ not_own owner a.house _ w.if-table-i.false
+    ] in (
+      omega arith,
+      found_later keeps c.entry_count-slots.result i c.loop-i.invariant.1 c.loop-i-test.true passed_by,
+    )
+
+pub returns : goal.returns
+returns c =
+    let a = c.args in
+    let keeps = keeps_own (lent_with a.has_tree a.deal.now a.tree.now) a.table.now a.house a.segment.now in
+    found_nowhere keeps c.entry_count-slots.result c.loop-i.i c.loop-i.invariant.1 (omega arith)
+    ∙ ap (lowest keeps 0) c.entry_count-slots.ensures

@@ -1,0 +1,56 @@
+use Rattle.std.proofs.Common.{ap₂, ◌∙◌, arith}
+use Rattle.octets.specs.Splice.{splice}
+use Rattle.collect.proofs.Gathered.{
+  few_slots,
+  deal_high,
+  ends,
+  offset_is,
+  range_in,
+  area_in,
+  taken_is,
+  taken_length,
+}
+use Rattle.collect.proofs.moving.write_area.Goals as goal
+
+pub move_of-to-requires : goal.move_of-to-requires
+move_of-to-requires c = (few_slots c.requires.0, c.requires.1, ends c.requires.0)
+
+pub offset_bounds-ranges-j : goal.offset_bounds-ranges-j
+offset_bounds-ranges-j c = omega (arith, few_slots c.requires.0, c.requires.1)
+
+pub bounds-ranges-j : goal.bounds-ranges-j
+bounds-ranges-j c = omega (arith, few_slots c.requires.0, c.requires.1)
+
+pub offset_bounds-ranges-j-2 : goal.offset_bounds-ranges-j-2
+offset_bounds-ranges-j-2 c = omega (arith, few_slots c.requires.0, c.requires.1)
+
+pub bounds-ranges-j-2 : goal.bounds-ranges-j-2
+bounds-ranges-j-2 c = omega (arith, few_slots c.requires.0, c.requires.1)
+
+pub overflow_add-end : goal.overflow_add-end
+overflow_add-end c =
+    omega (arith, range_in c.requires.0 c.args.j c.requires.1, deal_high c.requires.0)
+
+pub slice_bounds-put-end : goal.slice_bounds-put-end
+slice_bounds-put-end c = omega (arith, range_in c.requires.0 c.args.j c.requires.1)
+
+pub put-requires : goal.put-requires
+put-requires c =
+    let r = c.requires.0 in
+    let j = c.args.j in
+    let h = c.requires.1 in
+    omega (
+      arith,
+      c.move_of-to.ensures.offset_value,
+      offset_is r j h,
+      area_in r j h,
+      taken_length r j h,
+      c.requires.2,
+    )
+
+pub returns : goal.returns
+returns c =
+    let r = c.requires.0 in
+    c.put.ensures
+    ∙ ap₂ (splice c.args.new.now) (c.move_of-to.ensures.offset_value ∙ offset_is r c.args.j c.requires.1)
+    (taken_is r c.args.j c.requires.1)

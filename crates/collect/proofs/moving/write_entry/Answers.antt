@@ -1,0 +1,72 @@
+use Rattle.std.proofs.Common.{ap, ap₂, ◌∙◌, ℕ, length, arith}
+use Rattle.std.proofs.lemmas.Bool.{not-true, not-false}
+use Rattle.octets.specs.Splice.{splice}
+use Rattle.sizes.specs.Sizes.{slot_place}
+use Rattle.entries.specs.Entry.{entry_of}
+use Rattle.index.specs.KeptRowsLaws.{slot_within}
+use Rattle.collect.specs.Collect.{slot_to, offset_to, entry_place_to}
+use Rattle.collect.proofs.MovesLaws.{sized, slot_in}
+use Rattle.collect.proofs.Gathered.{deal_allowed, few_slots, ends, collectable, inside, offset_is, slot_is}
+use Rattle.collect.proofs.Entries.{nothing_written, slot_stands, entry_is}
+use Rattle.collect.proofs.moving.write_entry.Goals as goal
+
+pub slot_place-place-requires : goal.slot_place-place-requires
+slot_place-place-requires c = (deal_allowed c.requires.0, inside c.requires.0 c.args.j c.requires.1)
+
+pub standing_at-row-requires : goal.standing_at-row-requires
+standing_at-row-requires c =
+    let r = c.requires.0 in
+    let j = c.args.j in
+    let within = slot_within (length c.args.deal.now) j (sized (collectable r)) (inside r j c.requires.1) in
+    (r.lent, omega (arith, c.slot_place-place.ensures))
+
+-- a free slot
+pub returns-then-not-row : goal.returns-then-not-row
+returns-then-not-row c =
+    let deal = c.args.deal.now in
+    nothing_written deal c.args.j c.slot_place-place.result c.standing_at-row.result c.slot_place-place.ensures
+    c.standing_at-row.ensures (not-true _ c.if-not-row.true) c.args.new.now (entry_place_to deal c.args.j)
+    (offset_to deal c.args.j)
+
+-- a standing entry, and where it goes
+pub move_of-to-requires : goal.move_of-to-requires
+move_of-to-requires c = (few_slots c.requires.0, c.requires.1, ends c.requires.0)
+
+pub slot_place-at-requires : goal.slot_place-at-requires
+slot_place-at-requires c =
+    let r = c.requires.0 in
+    let j = c.args.j in
+    let stands = slot_stands c.args.deal.now j c.slot_place-place.result c.standing_at-row.result
+    c.slot_place-place.ensures c.standing_at-row.ensures (not-false _ c.if-not-row.false) in
+    let new_slot = slot_in (collectable r) j (inside r j c.requires.1) stands in
+    (deal_allowed r, omega (arith, c.move_of-to.ensures.slot_value, slot_is r j c.requires.1))
+
+-- the place of the new entry
+pub put_pair-requires : goal.put_pair-requires
+put_pair-requires c =
+    let r = c.requires.0 in
+    let j = c.args.j in
+    let deal = c.args.deal.now in
+    let stands = slot_stands deal j c.slot_place-place.result c.standing_at-row.result c.slot_place-place.ensures
+    c.standing_at-row.ensures (not-false _ c.if-not-row.false) in
+    let new_slot = slot_in (collectable r) j (inside r j c.requires.1) stands in
+    let within = slot_within (length deal) (slot_to deal j) (sized (collectable r)) new_slot in
+    let place_is = c.slot_place-at.ensures
+    ∙ ap (slot_place (length deal)) (c.move_of-to.ensures.slot_value ∙ slot_is r j c.requires.1) in
+    omega (arith, c.requires.2)
+
+pub returns : goal.returns
+returns c =
+    let r = c.requires.0 in
+    let j = c.args.j in
+    let deal = c.args.deal.now in
+    let row = c.standing_at-row.result in
+    let place_is = c.slot_place-at.ensures
+    ∙ ap (slot_place (length deal)) (c.move_of-to.ensures.slot_value ∙ slot_is r j c.requires.1) in
+    let o = c.move_of-to.ensures.offset_value ∙ offset_is r j c.requires.1 in
+    c.put_pair.ensures.0
+    ∙ ap₂ (splice c.args.new.now) place_is
+    (c.entry_of-entry.ensures
+    ∙ ap (λ (x : ℕ). entry_of row.commitment x row.size) o
+    ∙ entry_is deal j c.slot_place-place.result row c.slot_place-place.ensures c.standing_at-row.ensures
+    (not-false _ c.if-not-row.false) (offset_to deal j))
