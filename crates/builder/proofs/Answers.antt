@@ -68,19 +68,19 @@ kept_here q entry each p e t =
     let a = answer_kept q.deal.nodes (deal_size q.deal) (entry_bytes q) entry e t in
     let s = a.as_standing in
     let w = in_deal (deal_size q.deal) q.place entry.offset entry.size f.0 p.allowed
-    s.size_allowed s.offset_allowed in
+    s.size_allowed s.offset_allowed_lem in
     let c : length entry.commitment ≡ 32 = ap length s.commitment_is
-    ∙ commitment_in_length q.deal.bytes q.place w.place-is.in_deal in
+    ∙ commitment_in_length q.deal.bytes q.place w.place_is.in_deal in
     let r = record_of_entry q.deal q.number (entry_bytes q) q.place in
     record {
       within = w;
       node_is =
           s.commitment_is
-          ∙ sym (keeps q.deal.nodes (deal_size q.deal) (entry_bytes q) a.is_kept).node_is
-          ∙ (λ j. q.deal.nodes (segment_level (sym s.size-is j))
-          (segment_position (sym s.offset_is j) (sym s.size-is j)));
+          ∙ sym (keeps q.deal.nodes (deal_size q.deal) (entry_bytes q) a.is_kept_lem).node_is
+          ∙ (λ j. q.deal.nodes (segment_level (sym s.size_is j))
+          (segment_position (sym s.offset_is j) (sym s.size_is j)));
       builds = means_build q.deal q.number q.place (record_as q entry) f.0 f.1 f.2 p.allowed
-          a.is_kept (rw (s.commitment_is, s.offset_is, s.size-is) r);
+          a.is_kept_lem (rw (s.commitment_is, s.offset_is, s.size_is) r);
       sized =
           record_length_lem q.deal each q.number entry.commitment entry.offset entry.size q.place c w;
     }

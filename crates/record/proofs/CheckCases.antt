@@ -1,5 +1,5 @@
 -- The ways through the check, one law for each answer of the code.
-use mathlib.Core.Path.{◌≡◌, sym, ap, ◌∙◌}
+use mathlib.Core.Path.{◌≡◌, sym, ap, subst, ◌∙◌}
 use mathlib.Core.Bool.{true, false}
 use Prim.Native.Nat.{ℕ, ◌+◌, ◌-◌}
 use mathlib.Core.List.{List}
@@ -10,9 +10,13 @@ use Rattle.octets.specs.SpliceLaws.{part_range}
 use Rattle.sizes.specs.Sizes.{deal_size_allowed}
 use Rattle.record.specs.Form.{fields, parsed, parse}
 use Rattle.record.specs.ParsedRecord.{parsed_record}
-use Rattle.record.specs.ParsedRecordLaws.{fields_at, record_read, not_read}
+use Rattle.record.specs.ParsedRecordLaws.{fields_at, Within, record_read, not_read, paths_within}
 use Rattle.record.specs.Check.{deal_terms, judgement, check_of}
 use Rattle.record.specs.declared.ParsedRecord.{ParsedRecord}
+
+-- the paths of the fields that were read lie within the record
+pub within_read : (r : List ℕ) {x : ParsedRecord} → x ≡ parsed_record r → Within r x
+within_read r e = subst (Within r) (sym e) (paths_within r)
 
 module _ (commitment : List ℕ) (d number : ℕ) (r : List ℕ) where
   pub wrong_commitment : (length commitment ≡ 32 → ⊥) → 1 ≡ check_of (deal_terms commitment d number) r

@@ -1,4 +1,5 @@
 -- What the proofs of several functions use.
 pub mod Tests
 pub mod CheckCases
+pub mod JudgeCases
 pub mod ParseLoop

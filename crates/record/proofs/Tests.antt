@@ -1,12 +1,12 @@
 -- The tests of the check, from what the code finds.
 use mathlib.Core.Path.{◌≡◌, sym, ◌∙◌}
-use mathlib.Core.Bool.{Bool, true, false, not, ◌&&◌}
+use mathlib.Core.Bool.{Bool, true, false, ◌&&◌}
 use Prim.Native.Nat.{ℕ, ◌*◌, ◌/◌, ◌≤◌, ◌<◌}
 use native.Mathlib.Omega.{arith}
 use mathlib.Core.List.{List}
 use lib.Dec.{eqb}
 use lib.ListN.{length, get_or}
-use borrow.Author.Tests.{not-true, not-false, eqb-true, lt-ltb, le-ltb}
+use borrow.Author.Tests.{eqb-true, lt-ltb, le-ltb}
 use Rattle.rules.specs.RefusalLaws.{and_left, and_right}
 use Rattle.octets.specs.Equality.{same_bytes}
 use Rattle.stray.specs.StrayBits.{clear_node}
@@ -14,11 +14,11 @@ use Rattle.paths.specs.Path.{path_root}
 use Rattle.sizes.specs.Sizes.{segment_path_levels, entry_path_levels}
 
 -- after `if !test(..)`: a test that was passed, and one that was not
-pub passed : {answer test : Bool} → answer ≡ test → not answer ≡ false → test ≡ true
-passed {answer} e h = sym e ∙ not-false answer h
+pub passed : {answer test : Bool} → answer ≡ test → answer ≡ true → test ≡ true
+passed e h = sym e ∙ h
 
-pub failed : {answer test : Bool} → answer ≡ test → not answer ≡ true → test ≡ false
-failed {answer} e h = sym e ∙ not-true answer h
+pub failed : {answer test : Bool} → answer ≡ test → answer ≡ false → test ≡ false
+failed e h = sym e ∙ h
 
 -- stray bits by byte 31
 pub clear : (node : List ℕ) → get_or node 31 0 < 64 → clear_node node ≡ true

@@ -1,5 +1,5 @@
 -- What an accepted record is.
-use Rattle.std.specs.Prelude.{◌≡◌, refl, true, ℕ, ◌*◌, List, ◌∷◌, length, eqb}
+use Rattle.std.specs.Prelude.{◌≡◌, refl, true, ◌&&◌, ℕ, ◌*◌, List, ◌∷◌, length, eqb}
 use Rattle.std.proofs.Common.{arith, eqb-true, eq-eqb}
 use Rattle.rules.specs.Refusals.{rule, first_refusal}
 use Rattle.rules.specs.RefusalLaws.{Codes, first_passed, none_refused, all_passed, and_left, and_right, and_both}
@@ -33,32 +33,34 @@ codes terms x = (
   ),
 )
 
+-- each fact is looked for among those of the rules that were passed, wherever its rule stands
 judged : (terms : DealTerms) (x : Fields) → first_refusal (judgement terms (parsed x)) ≡ 0 → Accepted terms x
 judged terms x e =
     let a = none_refused (judgement terms (parsed x)) (codes terms x) e in
-    let b = a.1 in
     let u = eqb (length x.segment_path) (32 * segment_path_levels terms.size x.size) in
     let v = eqb (length x.entry_path) (32 * entry_path_levels terms.size) in
+    let sized : (u && v) ≡ true = cc in
+    let clear : (no_stray_bits x.segment_path && no_stray_bits x.entry_path) ≡ true = cc in
     record {
-      number_same = eqb-true x.number terms.number a.0;
-      size_allowed = b.0;
-      offset_allowed_lem = b.1.0;
-      place_allowed_lem = b.1.1.0;
+      number_same = eqb-true x.number terms.number (cc);
+      size_allowed = cc;
+      offset_allowed_lem = cc;
+      place_allowed_lem = cc;
       segment_path_length = eqb-true (length x.segment_path) (32 * segment_path_levels terms.size x.size)
-          (and_left u v b.1.1.1.0);
-      entry_path_length = eqb-true (length x.entry_path) (32 * entry_path_levels terms.size)
-          (and_right u v b.1.1.1.0);
-      commitment_clear = b.1.1.1.1.0;
-      segment_path_clear = and_left (no_stray_bits x.segment_path) (no_stray_bits x.entry_path) b.1.1.1.1.1.0;
-      entry_path_clear = and_right (no_stray_bits x.segment_path) (no_stray_bits x.entry_path) b.1.1.1.1.1.0;
-      segment_path_leads = same_true (segment_path_root terms.size x) terms.commitment b.1.1.1.1.1.1.0;
-      entry_path_leads = same_true (entry_path_root terms.size x) terms.commitment b.1.1.1.1.1.1.1.0;
+          (and_left u v sized);
+      entry_path_length = eqb-true (length x.entry_path) (32 * entry_path_levels terms.size) (and_right u v sized);
+      commitment_clear = cc;
+      segment_path_clear = and_left (no_stray_bits x.segment_path) (no_stray_bits x.entry_path) clear;
+      entry_path_clear = and_right (no_stray_bits x.segment_path) (no_stray_bits x.entry_path) clear;
+      segment_path_leads = same_true (segment_path_root terms.size x) terms.commitment (cc);
+      entry_path_leads = same_true (entry_path_root terms.size x) terms.commitment (cc);
     }
 
 judges : (terms : DealTerms) (x : Fields) → Accepted terms x → first_refusal (judgement terms (parsed x)) ≡ 0
 judges terms x a =
     let u = eqb (length x.segment_path) (32 * segment_path_levels terms.size x.size) in
     let v = eqb (length x.entry_path) (32 * entry_path_levels terms.size) in
+    let number = eq-eqb x.number terms.number a.number_same in
     let sized = and_both u v
     (eq-eqb (length x.segment_path) (32 * segment_path_levels terms.size x.size) a.segment_path_length)
     (eq-eqb (length x.entry_path) (32 * entry_path_levels terms.size) a.entry_path_length) in
@@ -66,16 +68,7 @@ judges terms x a =
     a.entry_path_clear in
     let segment_leads = same_of (segment_path_root terms.size x) terms.commitment a.segment_path_leads in
     let entry_leads = same_of (entry_path_root terms.size x) terms.commitment a.entry_path_leads in
-    all_passed (judgement terms (parsed x)) (
-      eq-eqb x.number terms.number a.number_same,
-      (
-        a.size_allowed,
-        (
-          a.offset_allowed_lem,
-          (a.place_allowed_lem, (sized, (a.commitment_clear, (clear, (segment_leads, (entry_leads, tt)))))),
-        ),
-      ),
-    )
+    all_passed (judgement terms (parsed x)) (cc, (cc, (cc, (cc, (cc, (cc, (cc, (cc, (cc, tt)))))))))
 
 -- the first two tests are passed, and the rest too
 passes : (terms : DealTerms) (r : List ℕ) → check_of terms r ≡ 0

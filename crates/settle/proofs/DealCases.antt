@@ -11,7 +11,7 @@ use Rattle.paths.specs.PathLaws.{strings_length}
 use Rattle.paths.specs.Difference.{first_difference}
 use Rattle.paths.specs.Compare.{compared}
 use Rattle.paths.specs.CompareOwn.{compared_with_own}
-use Rattle.paths.specs.CompareOwnLaws.{own_up}
+use Rattle.paths.proofs.CompareOwnLaws.{own_up}
 use Rattle.paths.specs.DealStarts.{segment_start, entry_start}
 use Rattle.paths.specs.declared.Compared.{Compared}
 use Rattle.sizes.specs.Sizes.{lent_size_allowed, entry_path_levels, segment_path_levels}

@@ -1,0 +1,13 @@
+use mathlib.Core.Path.{sym, ap, ◌∙◌}
+use mathlib.Core.List.{[]}
+use Rattle.paths.specs.Compare.{compared_above}
+use Rattle.paths.proofs.CompareLaws.{compared_more}
+use Rattle.paths.specs.declared.Compared.{Compared}
+use Rattle.settle.proofs.strings.compare_strings.Goals as goal
+
+pub returns : goal.returns
+returns c =
+    let a = c.args in
+    c.compare_above.ensures
+    ∙ ap (λ (seen : Compared). compared_above seen a.left a.right) c.no_difference.ensures
+    ∙ sym (compared_more a.left a.right [] [])
