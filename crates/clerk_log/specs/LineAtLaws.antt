@@ -113,7 +113,8 @@ same_first d log f g same = go (first_line log) refl
   where
     go : (x : FirstLine) → first_line log ≡ x → on_first d x f ≡ on_first d x g
     go (first line rest) e =
-        ap (λ (x : Lines). choose (line_allowed d line) (add_line line x) malformed) (same rest (shorter log line rest e))
+        ap (λ (x : Lines). choose (line_allowed d line) (add_line line x) malformed)
+        (same rest (shorter log line rest e))
     go no_line e = refl
 
 -- at most as many lines as a log has bytes: a larger number changes nothing
@@ -193,7 +194,8 @@ module _ (d : ℕ) (log : List ℕ) (at : ℕ) (h : at < length log) (form : is_
   in_form_line tag start n next e =
       go (line_allowed d (line_of log tag start)) (sym (ap is_log (line_there d log at tag start n next h e)) ∙ form)
     where
-      go : (b : Bool) → is_log (choose b (add_line (line_of log tag start) (log_lines d (drop next log))) malformed) ≡ true
+      go : (b : Bool)
+          → is_log (choose b (add_line (line_of log tag start) (log_lines d (drop next log))) malformed) ≡ true
           → (b ≡ true) × (is_log (log_lines d (drop next log)) ≡ true)
       go true q = (refl, sym (is_log_add (line_of log tag start) (log_lines d (drop next log))) ∙ q)
       go false q = let one : ◌≡◌ {A = ℕ} 0 1 = cc in absurd (omega arith)

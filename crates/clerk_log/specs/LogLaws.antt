@@ -1,6 +1,7 @@
 -- A log that was written is read as its lines.
 use Rattle.std.specs.Prelude.{◌≡◌, refl, ℕ, ◌+◌, ◌^◌, ◌<◌, List, [], ◌∷◌, ◌++◌, length, take, drop, get_or}
-use Rattle.std.proofs.Common.{sym, ◌∙◌, arith, append_assoc, append-nil, length-append, drop_at, drop-drop, get_or-drop, eq-eqb}
+use Rattle.std.proofs.Common.{sym, ◌∙◌, arith, append_assoc, append-nil, length-append, drop_at, drop-drop}
+use Rattle.std.proofs.Common.{get_or-drop, eq-eqb}
 use Rattle.std.proofs.Math.Path.{ap}
 use Rattle.std.proofs.Math.Seq.{take_at}
 use Rattle.octets.specs.LittleEndian.{number_of, bytes_of}

@@ -6,6 +6,8 @@ use native.Mathlib.Omega.{arith}
 use mathlib.Core.List.{List}
 use lib.ListN.{length, get_or, set}
 use lib.Seq.{get_or-set_same, get_or-set_other}
+use Rattle.playback.specs.declared.LedgerRow.{LedgerRow}
+use Rattle.playback.specs.Ledger.{ledger_ranges}
 
 -- the first i numbers are those of f
 abbrev pub Filled : (ℕ → ℕ) → ℕ → List ℕ → Type 0
@@ -20,3 +22,10 @@ filled_next f i xs v h filled e k l =
           ap (λ (j : ℕ). get_or (set xs i v) j 0) same ∙ get_or-set_same xs i v 0 h ∙ e ∙ ap f (sym same)
       | no ne ↦ get_or-set_other xs i k v 0 ne ∙ filled k (omega (arith, ne))
     ]
+
+-- where the segment of a row starts, and how many bytes it takes up
+abbrev pub offset_at : List LedgerRow → ℕ → ℕ
+offset_at ledger i = (ledger_ranges ledger i).offset
+
+abbrev pub area_at : List LedgerRow → ℕ → ℕ
+area_at ledger i = (ledger_ranges ledger i).area

@@ -18,7 +18,8 @@ use Rattle.vizhuthamen.specs.StreamCalls.{new_state, taken_state, taken_states, 
 taken : (bytes : List ℕ) (s : Stream) → After bytes s → (piece : List ℕ)
     → taken_state (packed s) piece ≡ packed (take_piece s piece)
 taken bytes s a piece =
-    rw (eq-eqb (length (packed s)) packed_length (length_packed s (packable bytes s a))) (packed_take_lem bytes s a piece)
+    rw (eq-eqb (length (packed s)) packed_length (length_packed s (packable bytes s a)))
+    (packed_take_lem bytes s a piece)
 
 handed_on : (bytes : List ℕ) (s : Stream) → After bytes s → (pieces : List (List ℕ))
     → taken_states (packed s) pieces ≡ packed (take_pieces s pieces)

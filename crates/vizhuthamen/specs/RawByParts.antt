@@ -111,7 +111,8 @@ module _ (raw : List ℕ) (bytes : Bytes raw) (j m : ℕ) (part_fits : j ≤ 16)
   row_allowed : power_between 32 largest (length row) ≡ true
   row_allowed =
       let z = pow_pos m in
-      in_bounds_lem 32 largest (length row) (omega (arith, row_length)) row_small ∙ ap is_power row_power ∙ is_power_lem (5 + m)
+      in_bounds_lem 32 largest (length row) (omega (arith, row_length)) row_small ∙ ap is_power row_power
+      ∙ is_power_lem (5 + m)
 
   row_height : height (length row) - 5 ≡ m
   row_height =
