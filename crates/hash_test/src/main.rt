@@ -1,46 +1,43 @@
 // Prints digests, node hashes and commitments, to be compared with what tests/hash_vectors.py works out by itself.
+#![tactic(auto)]
+
 ghost use Rattle.std.specs.Prelude.{◌≡◌, ◌≤◌, length};
+
+use std::io;
 
 fn wide(x: u8) -> u64 {
     x as u64
 }
 
 // A code in decimal, and 32 bytes in hex.
-fn show(code: u8, bytes: [u8; 32]) {
-    io::print_decimal(1, wide(code));
-    io::write_all(1, b" ");
-    let mut i = 0;
-    while i < 32 {
-        io::print_hex(1, wide(bytes[i]), 2);
-        i += 1;
+fn show(rt: &impl Print, code: u8, bytes: [u8; 32]) -> io::Result<()> {
+    print!(rt; "{} ", wide(code))?;
+    for byte in &bytes {
+        print!(rt; "{:02x}", wide(*byte))?;
     }
-    io::write_all(1, b"\n");
+    println!(rt)
 }
 
-fn show_digest(message: &[u8]) {
+fn show_digest(rt: &impl Print, message: &[u8]) -> io::Result<()> {
     let answer = sha256::sha256(message);
     let digest = answer.digest;
-    io::write_all(1, b"sha256 ");
-    io::print_decimal(1, message.len() as u64);
-    io::write_all(1, b" ");
-    show(answer.code, digest);
+    print!(rt; "sha256 {} ", message.len())?;
+    show(rt, answer.code, digest)
 }
 
-fn show_node_hash(pair: [u8; 64]) {
-    io::write_all(1, b"node hash ");
-    show(0, node::node_hash(pair));
+fn show_node_hash(rt: &impl Print, pair: [u8; 64]) -> io::Result<()> {
+    print!(rt; "node hash ")?;
+    show(rt, 0, node::node_hash(pair))
 }
 
 // The commitment of the first `size` bytes of a run.
-fn show_commitment(run: &[u8], size: usize)
+fn show_commitment(rt: &impl Print, run: &[u8], size: usize) -> io::Result<()>
     requires { size ≤ length run.now }
 {
     let answer = merkle::commitment(&run[..size]);
     let commitment = answer.node;
-    io::write_all(1, b"commitment ");
-    io::print_decimal(1, size as u64);
-    io::write_all(1, b" ");
-    show(answer.code, commitment);
+    print!(rt; "commitment {size} ")?;
+    show(rt, answer.code, commitment)
 }
 
 // Bytes below 61, so that no node has stray bits.
@@ -48,10 +45,8 @@ fn sound_run() -> [u8; 4096]
     ensures { length result ≡ 4096 }
 {
     let mut run = [0u8; 4096];
-    let mut i = 0;
-    while i < 4096 {
+    for i in 0..4096 {
         run[i] = ((7 * i + i / 64) % 61) as u8;
-        i += 1;
     }
     run
 }
@@ -65,10 +60,13 @@ fn stray_run(last: u8) -> [u8; 4096]
     run
 }
 
-fn digests() {
+fn digests(rt: &impl Print) -> io::Result<()> {
     let a = [97u8; 300];
-    show_digest(b"abc");
-    show_digest(b"abcdbcdecdefdefgefghfghighijhijkijkljklmklmnlmnomnopnopq");
+    show_digest(rt, b"abc")?;
+    show_digest(
+        rt,
+        b"abcdbcdecdefdefgefghfghighijhijkijkljklmklmnlmnomnopnopq",
+    )?;
     let mut two_blocks = [0u8; 112];
     octets::put(
         &mut two_blocks,
@@ -80,54 +78,54 @@ fn digests() {
         56,
         b"hijklmnoijklmnopjklmnopqklmnopqrlmnopqrsmnopqrstnopqrstu",
     );
-    show_digest(&two_blocks);
-    show_digest(&a[..0]);
-    show_digest(&a[..1]);
-    show_digest(&a[..55]);
-    show_digest(&a[..56]);
-    show_digest(&a[..63]);
-    show_digest(&a[..64]);
-    show_digest(&a[..65]);
-    show_digest(&a[..119]);
-    show_digest(&a[..120]);
-    show_digest(&a[..128]);
-    show_digest(&a[..300]);
+    show_digest(rt, &two_blocks)?;
+    show_digest(rt, &a[..0])?;
+    show_digest(rt, &a[..1])?;
+    show_digest(rt, &a[..55])?;
+    show_digest(rt, &a[..56])?;
+    show_digest(rt, &a[..63])?;
+    show_digest(rt, &a[..64])?;
+    show_digest(rt, &a[..65])?;
+    show_digest(rt, &a[..119])?;
+    show_digest(rt, &a[..120])?;
+    show_digest(rt, &a[..128])?;
+    show_digest(rt, &a[..300])
 }
 
-fn commitments() {
+fn commitments(rt: &impl Print) -> io::Result<()> {
     let run = sound_run();
-    show_commitment(&run, 32);
-    show_commitment(&run, 64);
-    show_commitment(&run, 128);
-    show_commitment(&run, 256);
-    show_commitment(&run, 512);
-    show_commitment(&run, 4096);
-    show_commitment(&run, 0);
-    show_commitment(&run, 31);
-    show_commitment(&run, 33);
-    show_commitment(&run, 96);
+    show_commitment(rt, &run, 32)?;
+    show_commitment(rt, &run, 64)?;
+    show_commitment(rt, &run, 128)?;
+    show_commitment(rt, &run, 256)?;
+    show_commitment(rt, &run, 512)?;
+    show_commitment(rt, &run, 4096)?;
+    show_commitment(rt, &run, 0)?;
+    show_commitment(rt, &run, 31)?;
+    show_commitment(rt, &run, 33)?;
+    show_commitment(rt, &run, 96)?;
     let bit_6 = stray_run(64);
-    show_commitment(&bit_6, 512);
+    show_commitment(rt, &bit_6, 512)?;
     let bit_7 = stray_run(128);
-    show_commitment(&bit_7, 512);
-    show_commitment(&bit_7, 256);
+    show_commitment(rt, &bit_7, 512)?;
+    show_commitment(rt, &bit_7, 256)
 }
 
-fn nodes() {
+fn nodes(rt: &impl Print) -> io::Result<()> {
     let run = sound_run();
-    io::write_all(1, b"node at 0 5 ");
-    show(0, merkle::node_at(&run, 0, 5));
-    io::write_all(1, b"node at 3 11 ");
-    show(0, merkle::node_at(&run, 3, 11));
-    io::write_all(1, b"node at 6 1 ");
-    show(0, merkle::node_at(&run, 6, 1));
+    print!(rt; "node at 0 5 ")?;
+    show(rt, 0, merkle::node_at(&run, 0, 5))?;
+    print!(rt; "node at 3 11 ")?;
+    show(rt, 0, merkle::node_at(&run, 3, 11))?;
+    print!(rt; "node at 6 1 ")?;
+    show(rt, 0, merkle::node_at(&run, 6, 1))
 }
 
-fn main() {
-    digests();
-    show_node_hash([0u8; 64]);
-    show_node_hash([255u8; 64]);
-    show_node_hash(octets::join([1u8; 32], [2u8; 32]));
-    commitments();
-    nodes();
+fn main(rt: HostRuntime) -> io::Result<()> {
+    digests(&rt)?;
+    show_node_hash(&rt, [0u8; 64])?;
+    show_node_hash(&rt, [255u8; 64])?;
+    show_node_hash(&rt, octets::join([1u8; 32], [2u8; 32]))?;
+    commitments(&rt)?;
+    nodes(&rt)
 }

@@ -1,36 +1,35 @@
 // Reads records from standard input, each after its length (8 bytes, little-endian), and prints the fields that the
 // reader hands out: a line for each with its tag, its length and its content in hex, and a line that says where they
 // end.
+#![tactic(auto)]
+
+ghost use Rattle.std.specs.Prelude.{◌≡◌, length};
+
 use fields::Field;
+use std::io;
 
 fn wide(x: u8) -> u64 {
     x as u64
 }
 
-fn show_hex(bytes: &[u8]) {
-    let mut i = 0;
-    while i < bytes.len() {
-        io::print_hex(1, wide(bytes[i]), 2);
-        i += 1;
+fn show_hex(rt: &impl Print, bytes: &[u8]) -> io::Result<()> {
+    for byte in bytes {
+        print!(rt; "{:02x}", wide(*byte))?;
     }
+    Ok(())
 }
 
 // A field's tag, its length and its content in hex.
-fn show_field(tag: u8, content: &[u8]) {
-    io::write_all(1, b"field ");
-    io::print_decimal(1, wide(tag));
-    io::write_all(1, b" length ");
-    io::print_decimal(1, content.len() as u64);
-    io::write_all(1, b" content ");
-    show_hex(content);
-    io::write_all(1, b"\n");
+fn show_field(rt: &impl Print, tag: u8, content: &[u8]) -> io::Result<()> {
+    print!(rt; "field {} length {} content ", wide(tag), content.len())?;
+    show_hex(rt, content)?;
+    println!(rt)
 }
 
 // The fields of a record in turn; the answer is the place where they end. A record of n bytes has less than n fields.
-fn show_fields(record: &[u8]) -> usize {
+fn show_fields(rt: &impl Print, record: &[u8]) -> io::Result<usize> {
     let mut place = 0;
-    let mut number = 0;
-    while number < record.len() {
+    for number in 0..record.len() {
         let Field::Content {
             tag,
             start,
@@ -38,52 +37,54 @@ fn show_fields(record: &[u8]) -> usize {
             ..
         } = reader::field(record, number)
         else {
-            return place;
+            return Ok(place);
         };
-        show_field(tag, &record[start..next]);
+        show_field(rt, tag, &record[start..next])?;
         place = next;
-        number += 1;
     }
-    place
+    Ok(place)
 }
 
 // A record's length, its fields, and where they end. A record of more than 4,096 bytes is refused.
-fn show_record(record: &[u8]) {
-    io::write_all(1, b"record of ");
-    io::print_decimal(1, record.len() as u64);
-    io::write_all(1, b" bytes\n");
+fn show_record(rt: &impl Print, record: &[u8]) -> io::Result<()> {
+    println!(rt; "record of {} bytes", record.len())?;
     if record.len() > 4096 {
-        io::write_all(1, b"refused: more than 4096 bytes\n");
-        return;
+        return println!(rt; "refused: more than 4096 bytes");
     }
-    let place = show_fields(record);
+    let place = show_fields(rt, record)?;
     if place == record.len() {
-        io::write_all(1, b"end at ");
+        print!(rt; "end at ")?;
     } else {
-        io::write_all(1, b"no field at ");
+        print!(rt; "no field at ")?;
     }
-    io::print_decimal(1, place as u64);
-    io::write_all(1, b"\n");
+    println!(rt; "{place}")
 }
 
 // The records of an input, each after its length.
-fn show_records(input: &[u8]) {
+fn show_records(rt: &impl Print, input: &[u8]) -> io::Result<()> {
     let mut at = 0;
     while input.len() - at >= 8 {
         let length = octets::read_u64(input, at);
         let start = at + 8;
         if length > (input.len() - start) as u64 {
-            io::write_all(1, b"refused: the input ends within a record\n");
-            return;
+            return println!(rt; "refused: the input ends within a record");
         }
         let end = start + length as usize;
-        show_record(&input[start..end]);
+        show_record(rt, &input[start..end])?;
         at = end;
     }
+    Ok(())
 }
 
-fn main() {
-    let mut input = io::large_buffer();
-    let length = io::read_full(0, &mut input);
-    show_records(&input[..length]);
+// 65,536 zeros: as much of an input is read.
+fn buffer() -> [u8; 65536]
+    ensures { 65536 ≡ length result }
+{
+    [0; 65536]
+}
+
+fn main(rt: HostRuntime) -> io::Result<()> {
+    let mut input = buffer();
+    let length = intake::read_full(&mut rt.reader(), &mut input)?;
+    show_records(&rt, &input[..length])
 }

@@ -8,20 +8,21 @@ use paths::Compared;
 use playback::Verdict;
 use room::Booked;
 use settle::Settled;
+use std::io;
 use stream::Stream;
 
-fn hash(message: &[u8]) {
+fn hash(rt: &impl Print, message: &[u8]) -> io::Result<()> {
     let hashed = sha256::sha256(message);
     let digest = hashed.digest;
-    show::code(hashed.code);
-    show::bytes(&digest);
+    show::code(rt, hashed.code)?;
+    show::bytes(rt, &digest)
 }
 
-fn commit(run: &[u8]) {
+fn commit(rt: &impl Print, run: &[u8]) -> io::Result<()> {
     let committed = merkle::commitment(run);
     let node = committed.node;
-    show::code(committed.code);
-    show::bytes(&node);
+    show::code(rt, committed.code)?;
+    show::bytes(rt, &node)
 }
 
 // Where a piece ends that starts at `at` and has a length, as far as the bytes go.
@@ -37,121 +38,119 @@ fn piece_end(at: usize, length: u8, total: usize) -> usize
 
 // A stream after pieces of these lengths, and the rest of the bytes in one piece. The code that sticks after each may
 // be shown.
-fn take_pieces(bytes: &[u8], lengths: &[u8], shown: bool) -> Stream {
+fn take_pieces(rt: &impl Print, bytes: &[u8], lengths: &[u8], shown: bool) -> io::Result<Stream> {
     let mut state = Stream::new();
     let mut at: usize = 0;
-    let mut i: usize = 0;
-    while i < lengths.len() {
-        let end = piece_end(at, lengths[i], bytes.len());
-        let next = state.take(&bytes[at..end]);
-        state = next;
+    for length in lengths {
+        let end = piece_end(at, *length, bytes.len());
+        state = state.take(&bytes[at..end]);
         if shown {
-            show::number(state.code as u64);
+            show::number(rt, state.code as u64)?;
         }
         at = end;
-        i += 1;
     }
     let last = state.take(&bytes[at..]);
     if shown {
-        show::number(last.code as u64);
+        show::number(rt, last.code as u64)?;
     }
-    last
+    Ok(last)
 }
 
 // Bytes that arrive in pieces; then the code that sticks after each piece.
-fn stream(bytes: &[u8], lengths: &[u8]) {
-    let answer = take_pieces(bytes, lengths, false).end();
+fn stream(rt: &impl Print, bytes: &[u8], lengths: &[u8]) -> io::Result<()> {
+    let answer = take_pieces(rt, bytes, lengths, false)?.end();
     let node = answer.node;
-    show::code(answer.code);
-    show::bytes(&node);
-    show::number(answer.count);
-    take_pieces(bytes, lengths, true);
+    show::code(rt, answer.code)?;
+    show::bytes(rt, &node)?;
+    show::number(rt, answer.count)?;
+    let _ = take_pieces(rt, bytes, lengths, true)?;
+    Ok(())
 }
 
-fn index_numbers(size: u64) {
+fn index_numbers(rt: &impl Print, size: u64) -> io::Result<()> {
     let numbers = sizes::index_numbers(size);
-    show::code(numbers.code);
-    show::number(numbers.entries);
-    show::number(numbers.start);
+    show::code(rt, numbers.code)?;
+    show::number(rt, numbers.entries)?;
+    show::number(rt, numbers.start)
 }
 
-fn make_entry(commitment: &[u8], offset: u64, size: u64) {
+fn make_entry(rt: &impl Print, commitment: &[u8], offset: u64, size: u64) -> io::Result<()> {
     let made = entries::make_entry(commitment, offset, size);
     let entry = made.entry;
-    show::code(made.code);
-    show::bytes(&entry);
+    show::code(rt, made.code)?;
+    show::bytes(rt, &entry)
 }
 
-fn read_entry(bytes: &[u8]) {
+fn read_entry(rt: &impl Print, bytes: &[u8]) -> io::Result<()> {
     let entry = entries::read_entry(bytes);
     let commitment = entry.commitment;
     let kind = entry.kind;
-    show::code(entry.code);
+    show::code(rt, entry.code)?;
     match kind {
-        EntryKind::Blank => show::number(0),
-        EntryKind::Damaged => show::number(1),
-        EntryKind::Valid => show::number(2),
+        EntryKind::Blank => show::number(rt, 0)?,
+        EntryKind::Damaged => show::number(rt, 1)?,
+        EntryKind::Valid => show::number(rt, 2)?,
     }
-    show::bytes(&commitment);
-    show::number(entry.offset);
-    show::number(entry.size);
+    show::bytes(rt, &commitment)?;
+    show::number(rt, entry.offset)?;
+    show::number(rt, entry.size)
 }
 
-fn tally(deal: &[u8]) {
+fn tally(rt: &impl Print, deal: &[u8]) -> io::Result<()> {
     let tallied = index::tally(deal);
-    show::code(tallied.code);
-    show::number(tallied.blank);
-    show::number(tallied.damaged);
-    show::number(tallied.valid);
+    show::code(rt, tallied.code)?;
+    show::number(rt, tallied.blank)?;
+    show::number(rt, tallied.damaged)?;
+    show::number(rt, tallied.valid)
 }
 
-fn audit(deal: &[u8], states: &mut [u8]) {
-    show::code(audit::audit(deal, states));
-    show::digest(states);
+fn audit(rt: &impl Print, deal: &[u8], states: &mut [u8]) -> io::Result<()> {
+    show::code(rt, audit::audit(deal, states))?;
+    show::digest(rt, states)
 }
 
 // The kind of the answer, 0 or 1, and the code or the number of the line; what the rules give for that line; the rows.
-fn playback(log: &[u8], size: u64) {
+fn playback(rt: &impl Print, log: &[u8], size: u64) -> io::Result<()> {
     let played = playback::play_back(size, log);
     let verdict = played.verdict;
     match verdict {
         Verdict::Code(code) => {
-            show::code(0);
-            show::number(code as u64);
+            show::code(rt, 0)?;
+            show::number(rt, code as u64)?;
         }
         Verdict::Line(number) => {
-            show::code(1);
-            show::number(number);
+            show::code(rt, 1)?;
+            show::number(rt, number)?;
         }
     }
     let ruling = played.ruling;
-    show::number(ruling.code as u64);
-    show::number(ruling.offset);
-    show::number(ruling.place);
-    show::number(played.count as u64);
+    show::number(rt, ruling.code as u64)?;
+    show::number(rt, ruling.offset)?;
+    show::number(rt, ruling.place)?;
+    show::number(rt, played.count as u64)?;
     let mut bytes = [0u8; 7296];
     let rows = played.rows;
     playback::put_rows(rows, &mut bytes);
-    show::digest(&bytes);
+    show::digest(rt, &bytes)
 }
 
-fn find(deal: &[u8], commitment: &[u8]) {
+fn find(rt: &impl Print, deal: &[u8], commitment: &[u8]) -> io::Result<()> {
     let found = index::find_numbers(deal, commitment);
     let view = index::find(deal, commitment);
-    show::code(found.code);
-    show::number(found.offset);
-    show::number(found.size);
-    show::number(found.place);
-    show::number(view.len() as u64);
-    show::digest(view);
+    show::code(rt, found.code)?;
+    show::number(rt, found.offset)?;
+    show::number(rt, found.size)?;
+    show::number(rt, found.place)?;
+    show::number(rt, view.len() as u64)?;
+    show::digest(rt, view)
 }
 
 // The answer of a booking, and the deal afterwards.
-fn booked(answer: Booked, deal: &[u8]) {
-    show::code(answer.code);
-    show::number(answer.offset);
-    show::number(answer.place);
-    show::digest(deal);
+fn booked(rt: &impl Print, answer: Booked, deal: &[u8]) -> io::Result<()> {
+    show::code(rt, answer.code)?;
+    show::number(rt, answer.offset)?;
+    show::number(rt, answer.place)?;
+    show::digest(rt, deal)
 }
 
 // The house that a number names; 0 is none.
@@ -162,104 +161,150 @@ fn house_of(number: u64) -> u8 {
     number as u8
 }
 
-fn book(deal: &mut [u8], table: &mut [u8], house: u64, segment: &[u8]) {
+fn book(
+    rt: &impl Print,
+    deal: &mut [u8],
+    table: &mut [u8],
+    house: u64,
+    segment: &[u8],
+) -> io::Result<()> {
     let answer = booking::book(deal, table, house_of(house), segment);
-    booked(answer, deal);
-    show::digest(table);
+    booked(rt, answer, deal)?;
+    show::digest(rt, table)
 }
 
-fn book_with_tree(deal: &mut [u8], tree: &mut [u8], table: &mut [u8], house: u64, segment: &[u8]) {
+fn book_with_tree(
+    rt: &impl Print,
+    deal: &mut [u8],
+    tree: &mut [u8],
+    table: &mut [u8],
+    house: u64,
+    segment: &[u8],
+) -> io::Result<()> {
     let answer = booking::book_with_tree(deal, tree, table, house_of(house), segment);
-    booked(answer, deal);
-    show::digest(tree);
-    show::digest(table);
+    booked(rt, answer, deal)?;
+    show::digest(rt, tree)?;
+    show::digest(rt, table)
 }
 
-fn cancel(deal: &mut [u8], table: &mut [u8], house: u64, place: u64) {
-    show::code(cancel::cancel(deal, table, house_of(house), place));
-    show::digest(deal);
-    show::digest(table);
+fn cancel(
+    rt: &impl Print,
+    deal: &mut [u8],
+    table: &mut [u8],
+    house: u64,
+    place: u64,
+) -> io::Result<()> {
+    show::code(rt, cancel::cancel(deal, table, house_of(house), place))?;
+    show::digest(rt, deal)?;
+    show::digest(rt, table)
 }
 
-fn cancel_with_tree(deal: &mut [u8], tree: &mut [u8], table: &mut [u8], house: u64, place: u64) {
-    show::code(cancel::cancel_with_tree(deal, tree, table, house_of(house), place));
-    show::digest(deal);
-    show::digest(tree);
-    show::digest(table);
+fn cancel_with_tree(
+    rt: &impl Print,
+    deal: &mut [u8],
+    tree: &mut [u8],
+    table: &mut [u8],
+    house: u64,
+    place: u64,
+) -> io::Result<()> {
+    show::code(
+        rt,
+        cancel::cancel_with_tree(deal, tree, table, house_of(house), place),
+    )?;
+    show::digest(rt, deal)?;
+    show::digest(rt, tree)?;
+    show::digest(rt, table)
 }
 
-fn collect(deal: &[u8], table: &[u8], second: &mut [u8], second_table: &mut [u8]) {
-    show::code(collect::collect(deal, table, second, second_table));
-    show::digest(second);
-    show::digest(second_table);
+fn collect(
+    rt: &impl Print,
+    deal: &[u8],
+    table: &[u8],
+    second: &mut [u8],
+    second_table: &mut [u8],
+) -> io::Result<()> {
+    show::code(rt, collect::collect(deal, table, second, second_table))?;
+    show::digest(rt, second)?;
+    show::digest(rt, second_table)
 }
 
 fn collect_with_tree(
+    rt: &impl Print,
     deal: &[u8],
     table: &[u8],
     second: &mut [u8],
     tree: &mut [u8],
     second_table: &mut [u8],
-) {
-    show::code(collect::collect_with_tree(deal, table, second, tree, second_table));
-    show::digest(second);
-    show::digest(tree);
-    show::digest(second_table);
+) -> io::Result<()> {
+    show::code(
+        rt,
+        collect::collect_with_tree(deal, table, second, tree, second_table),
+    )?;
+    show::digest(rt, second)?;
+    show::digest(rt, tree)?;
+    show::digest(rt, second_table)
 }
 
-fn fill_tree(deal: &[u8], tree: &mut [u8]) {
-    show::code(lent::fill_tree(deal, tree));
-    show::digest(tree);
+fn fill_tree(rt: &impl Print, deal: &[u8], tree: &mut [u8]) -> io::Result<()> {
+    show::code(rt, lent::fill_tree(deal, tree))?;
+    show::digest(rt, tree)
 }
 
-fn fill_row(below: &[u8], above: &mut [u8]) {
-    show::code(tree::fill_row(below, above));
-    show::digest(above);
+fn fill_row(rt: &impl Print, below: &[u8], above: &mut [u8]) -> io::Result<()> {
+    show::code(rt, tree::fill_row(below, above))?;
+    show::digest(rt, above)
 }
 
 // The answer of a call that writes to an output, and the output afterwards.
-fn written(code: u8, length: usize, out: &[u8]) {
-    show::code(code);
-    show::number(length as u64);
-    show::digest(out);
+fn written(rt: &impl Print, code: u8, length: usize, out: &[u8]) -> io::Result<()> {
+    show::code(rt, code)?;
+    show::number(rt, length as u64)?;
+    show::digest(rt, out)
 }
 
-fn build(deal: &[u8], number: u64, place: u64, out: &mut [u8]) {
+fn build(rt: &impl Print, deal: &[u8], number: u64, place: u64, out: &mut [u8]) -> io::Result<()> {
     let answer = builder::build(deal, number, place, out);
-    written(answer.code, answer.length, out);
+    written(rt, answer.code, answer.length, out)
 }
 
-fn build_with_tree(deal: &[u8], tree: &[u8], number: u64, place: u64, out: &mut [u8]) {
+fn build_with_tree(
+    rt: &impl Print,
+    deal: &[u8],
+    tree: &[u8],
+    number: u64,
+    place: u64,
+    out: &mut [u8],
+) -> io::Result<()> {
     let answer = builder::build_with_tree(deal, tree, number, place, out);
-    written(answer.code, answer.length, out);
+    written(rt, answer.code, answer.length, out)
 }
 
-fn pad(raw: &[u8], out: &mut [u8]) {
+fn pad(rt: &impl Print, raw: &[u8], out: &mut [u8]) -> io::Result<()> {
     let answer = fr32::pad(raw, out);
-    written(answer.code, answer.length, out);
+    written(rt, answer.code, answer.length, out)
 }
 
-fn unpad(raw_length: u64, segment: &[u8], out: &mut [u8]) {
+fn unpad(rt: &impl Print, raw_length: u64, segment: &[u8], out: &mut [u8]) -> io::Result<()> {
     let answer = fr32::unpad(raw_length, segment, out);
-    written(answer.code, answer.length, out);
+    written(rt, answer.code, answer.length, out)
 }
 
-fn settled(answer: Settled) {
+fn settled(rt: &impl Print, answer: Settled) -> io::Result<()> {
     let left = answer.left;
     let right = answer.right;
-    show::code(answer.code);
-    show::bytes(&left);
-    show::bytes(&right);
+    show::code(rt, answer.code)?;
+    show::bytes(rt, &left)?;
+    show::bytes(rt, &right)
 }
 
 // The strings of two paths from one position compared, each path after the node that it starts from: 17 and the two
 // strings at the first difference from the top, or 0 and zeros. The two need not lead to one node.
-fn compare(position: u64, a: &[u8], b: &[u8]) {
+fn compare(rt: &impl Print, position: u64, a: &[u8], b: &[u8]) -> io::Result<()> {
     if a.len() != b.len() {
-        return;
+        return Ok(());
     }
     if a.len() < 32 {
-        return;
+        return Ok(());
     }
     let x = octets::node_at(a, 0);
     let y = octets::node_at(b, 0);
@@ -272,20 +317,19 @@ fn compare(position: u64, a: &[u8], b: &[u8]) {
     let left = found.left;
     let right = found.right;
     if found.differs {
-        show::code(17);
+        show::code(rt, 17)?;
     } else {
-        show::code(0);
+        show::code(rt, 0)?;
     }
-    show::bytes(&left);
-    show::bytes(&right);
+    show::bytes(rt, &left)?;
+    show::bytes(rt, &right)
 }
 
 // The fields in turn from place 0, and the first place that is no field.
-fn fields(record: &[u8]) {
-    show::code(0);
+fn fields(rt: &impl Print, record: &[u8]) -> io::Result<()> {
+    show::code(rt, 0)?;
     let mut place: usize = 0;
-    let mut turns: usize = 8192;
-    while turns > 0 {
+    for _ in 0..8192 {
         let Field::Content {
             tag,
             start,
@@ -295,82 +339,98 @@ fn fields(record: &[u8]) {
         else {
             break;
         };
-        show::number(tag as u64);
-        show::number(start as u64);
-        show::number(length as u64);
-        show::number(next as u64);
+        show::number(rt, tag as u64)?;
+        show::number(rt, start as u64)?;
+        show::number(rt, length as u64)?;
+        show::number(rt, next as u64)?;
         place = next;
-        turns -= 1;
     }
-    show::number(place as u64);
+    show::number(rt, place as u64)
 }
 
 // The calls that only read.
-fn answer_reading(operation: u64, a: &[u8], b: &[u8], c: &[u8], x: u64, y: u64) {
+fn answer_reading(
+    rt: &impl Print,
+    operation: u64,
+    a: &[u8],
+    b: &[u8],
+    c: &[u8],
+    x: u64,
+    y: u64,
+) -> io::Result<()> {
     match operation {
-        1 => hash(a),
-        2 => commit(a),
-        3 => index_numbers(x),
-        4 => make_entry(a, x, y),
-        5 => read_entry(a),
-        6 => find(a, b),
-        9 => show::code(record::check(b, x, y, a)),
-        10 => settled(settle::settle_records(c, x, y, a, b)),
-        11 => settled(settle::settle_with_deal(a, y, b)),
-        12 => fields(a),
-        13 => show::code(check_input::check_input(a)),
-        15 => compare(x, a, b),
-        16 => stream(a, b),
-        19 => tally(a),
-        23 => settled(settle::settle_with_tree(a, c, y, b)),
-        _ => {}
+        1 => hash(rt, a),
+        2 => commit(rt, a),
+        3 => index_numbers(rt, x),
+        4 => make_entry(rt, a, x, y),
+        5 => read_entry(rt, a),
+        6 => find(rt, a, b),
+        9 => show::code(rt, record::check(b, x, y, a)),
+        10 => settled(rt, settle::settle_records(c, x, y, a, b)),
+        11 => settled(rt, settle::settle_with_deal(a, y, b)),
+        12 => fields(rt, a),
+        13 => show::code(rt, check_input::check_input(a)),
+        15 => compare(rt, x, a, b),
+        16 => stream(rt, a, b),
+        19 => tally(rt, a),
+        23 => settled(rt, settle::settle_with_tree(a, c, y, b)),
+        _ => Ok(()),
     }
 }
 
 // The calls that write with a tree in hand; every other only reads.
-fn answer_with_tree(operation: u64, a: &mut [u8], b: &mut [u8], c: &mut [u8], x: u64, y: u64) {
+fn answer_with_tree(
+    rt: &impl Print,
+    operation: u64,
+    a: &mut [u8],
+    b: &mut [u8],
+    c: &mut [u8],
+    x: u64,
+    y: u64,
+) -> io::Result<()> {
     if operation == 20 {
-        fill_tree(a, c);
-        return;
+        return fill_tree(rt, a, c);
     }
     if operation == 22 {
-        build_with_tree(a, c, y, x, b);
-        return;
+        return build_with_tree(rt, a, c, y, x, b);
     }
-    answer_reading(operation, a, b, c, x, y);
+    answer_reading(rt, operation, a, b, c, x, y)
 }
 
 // All calls without a table of owners: those that write without a tree too.
-fn answer_any(operation: u64, a: &mut [u8], b: &mut [u8], c: &mut [u8], x: u64, y: u64) {
+fn answer_any(
+    rt: &impl Print,
+    operation: u64,
+    a: &mut [u8],
+    b: &mut [u8],
+    c: &mut [u8],
+    x: u64,
+    y: u64,
+) -> io::Result<()> {
     if operation == 8 {
-        build(a, y, x, b);
-        return;
+        return build(rt, a, y, x, b);
     }
     if operation == 14 {
-        audit(a, b);
-        return;
+        return audit(rt, a, b);
     }
     if operation == 17 {
-        pad(a, b);
-        return;
+        return pad(rt, a, b);
     }
     if operation == 18 {
-        unpad(x, a, b);
-        return;
+        return unpad(rt, x, a, b);
     }
     if operation == 28 {
-        fill_row(a, b);
-        return;
+        return fill_row(rt, a, b);
     }
     if operation == 29 {
-        playback(a, x);
-        return;
+        return playback(rt, a, x);
     }
-    answer_with_tree(operation, a, b, c, x, y);
+    answer_with_tree(rt, operation, a, b, c, x, y)
 }
 
 // All calls: those with a table of owners, in d, too. A house is in y, a second table in e.
 fn answer_housed(
+    rt: &impl Print,
     operation: u64,
     a: &mut [u8],
     b: &mut [u8],
@@ -379,35 +439,30 @@ fn answer_housed(
     e: &mut [u8],
     x: u64,
     y: u64,
-) {
+) -> io::Result<()> {
     if operation == 7 {
-        book(a, d, y, b);
-        return;
+        return book(rt, a, d, y, b);
     }
     if operation == 21 {
-        book_with_tree(a, c, d, y, b);
-        return;
+        return book_with_tree(rt, a, c, d, y, b);
     }
     if operation == 24 {
-        cancel(a, d, y, x);
-        return;
+        return cancel(rt, a, d, y, x);
     }
     if operation == 25 {
-        cancel_with_tree(a, c, d, y, x);
-        return;
+        return cancel_with_tree(rt, a, c, d, y, x);
     }
     if operation == 26 {
-        collect(a, d, b, e);
-        return;
+        return collect(rt, a, d, b, e);
     }
     if operation == 27 {
-        collect_with_tree(a, d, b, c, e);
-        return;
+        return collect_with_tree(rt, a, d, b, c, e);
     }
-    answer_any(operation, a, b, c, x, y);
+    answer_any(rt, operation, a, b, c, x, y)
 }
 
 pub(crate) fn answer(
+    rt: &impl Print,
     operation: u64,
     a: &mut [u8],
     b: &mut [u8],
@@ -416,7 +471,7 @@ pub(crate) fn answer(
     e: &mut [u8],
     x: u64,
     y: u64,
-) {
-    answer_housed(operation, a, b, c, d, e, x, y);
-    show::end();
+) -> io::Result<()> {
+    answer_housed(rt, operation, a, b, c, d, e, x, y)?;
+    show::end(rt)
 }

@@ -1,9 +1,15 @@
 // Replays calls of the library's routines that stand in its standard input, and prints their answers, a line each. The
 // calls and the answers come from an independent program, tests/vectors.py.
+#![tactic(auto)]
+
 mod answers; // answers.rt: the calls, one function for each routine
 mod show; // show.rt: numbers and bytes on standard output
 
 ghost use Rattle.std.specs.Prelude.{◌≡◌, length};
+
+use intake::read_full;
+use std::io;
+use std::io::Read;
 
 fn buffer() -> [u8; 8192]
     ensures { 8192 ≡ length result }
@@ -13,6 +19,8 @@ fn buffer() -> [u8; 8192]
 
 // Reads the bytes a, b, c, d and e of a call, and answers it.
 fn replay(
+    rt: &impl Print,
+    reader: &mut impl Read,
     operation: u64,
     a: &mut [u8],
     b: &mut [u8],
@@ -21,21 +29,21 @@ fn replay(
     e: &mut [u8],
     x: u64,
     y: u64,
-) {
-    io::read_full(0, a);
-    io::read_full(0, b);
-    io::read_full(0, c);
-    io::read_full(0, d);
-    io::read_full(0, e);
-    answers::answer(operation, a, b, c, d, e, x, y);
+) -> io::Result<()> {
+    read_full(reader, a)?;
+    read_full(reader, b)?;
+    read_full(reader, c)?;
+    read_full(reader, d)?;
+    read_full(reader, e)?;
+    answers::answer(rt, operation, a, b, c, d, e, x, y)
 }
 
 // Reads a call: eight little-endian numbers (operation, lengths of a, b, c, d and e, x, y), then the bytes a, b, c, d
 // and e. Says whether there was one.
-fn replay_next() -> bool {
+fn replay_next(rt: &impl Print, reader: &mut impl Read) -> io::Result<bool> {
     let mut header = [0u8; 64];
-    if io::read_full(0, &mut header) != 64 {
-        return false;
+    if read_full(reader, &mut header)? != 64 {
+        return Ok(false);
     }
     let operation = octets::read_u64(&header, 0);
     let length_a = octets::read_u64(&header, 8);
@@ -45,47 +53,35 @@ fn replay_next() -> bool {
     let length_e = octets::read_u64(&header, 40);
     let x = octets::read_u64(&header, 48);
     let y = octets::read_u64(&header, 56);
-    if 8192 < length_a {
-        return false;
-    }
-    if 8192 < length_b {
-        return false;
-    }
-    if 8192 < length_c {
-        return false;
-    }
-    if 8192 < length_d {
-        return false;
-    }
-    if 8192 < length_e {
-        return false;
+    if 8192 < length_a || 8192 < length_b || 8192 < length_c || 8192 < length_d || 8192 < length_e {
+        return Ok(false);
     }
     let mut a = buffer();
     let mut b = buffer();
     let mut c = buffer();
     let mut d = buffer();
     let mut e = buffer();
-    let end_a = length_a as usize;
-    let end_b = length_b as usize;
-    let end_c = length_c as usize;
-    let end_d = length_d as usize;
-    let end_e = length_e as usize;
     replay(
+        rt,
+        reader,
         operation,
-        &mut a[..end_a],
-        &mut b[..end_b],
-        &mut c[..end_c],
-        &mut d[..end_d],
-        &mut e[..end_e],
+        &mut a[..length_a as usize],
+        &mut b[..length_b as usize],
+        &mut c[..length_c as usize],
+        &mut d[..length_d as usize],
+        &mut e[..length_e as usize],
         x,
         y,
-    );
-    true
+    )?;
+    Ok(true)
 }
 
-fn main() {
-    let mut turns: u64 = 1000000;
-    while turns > 0 && replay_next() {
-        turns -= 1;
+fn main(rt: HostRuntime) -> io::Result<()> {
+    let mut reader = rt.reader();
+    for _ in 0..1000000 {
+        if !replay_next(&rt, &mut reader)? {
+            break;
+        }
     }
+    Ok(())
 }

@@ -1,33 +1,33 @@
 // Numbers and bytes on standard output, each with a space before it; a line starts with its code.
+use std::io;
+
 fn wide(x: u8) -> u64 {
     x as u64
 }
 
-pub(crate) fn code(x: u8) {
-    io::print_decimal(1, wide(x));
+pub(crate) fn code(rt: &impl Print, x: u8) -> io::Result<()> {
+    print!(rt; "{}", wide(x))
 }
 
-pub(crate) fn number(n: u64) {
-    io::write_all(1, b" ");
-    io::print_decimal(1, n);
+pub(crate) fn number(rt: &impl Print, n: u64) -> io::Result<()> {
+    print!(rt; " {n}")
 }
 
-pub(crate) fn bytes(s: &[u8]) {
-    io::write_all(1, b" ");
-    let mut i = 0;
-    while i < s.len() {
-        io::print_hex(1, wide(s[i]), 2);
-        i += 1;
+pub(crate) fn bytes(rt: &impl Print, s: &[u8]) -> io::Result<()> {
+    print!(rt; " ")?;
+    for byte in s {
+        print!(rt; "{:02x}", wide(*byte))?;
     }
+    Ok(())
 }
 
 // The SHA-256 of bytes that are too many to print.
-pub(crate) fn digest(s: &[u8]) {
+pub(crate) fn digest(rt: &impl Print, s: &[u8]) -> io::Result<()> {
     let hashed = sha256::sha256(s);
     let digest = hashed.digest;
-    bytes(&digest);
+    bytes(rt, &digest)
 }
 
-pub(crate) fn end() {
-    io::write_all(1, b"\n");
+pub(crate) fn end(rt: &impl Print) -> io::Result<()> {
+    println!(rt)
 }

@@ -21,7 +21,7 @@ pub(crate) const SECOND_TABLE: u64 = 4;
 
 // A call: its kind, whether a tree is in hand, whose it is; which segment is booked, and its T; which entry place is
 // cancelled; which buffer is lent too short, none for most numbers.
-#[derive(Drop)]
+#[derive(Clone, Copy)]
 pub(crate) struct Call {
     pub(crate) kind: usize,
     pub(crate) with_tree: bool,

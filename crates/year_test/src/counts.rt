@@ -1,8 +1,6 @@
 // Counts of calls and of tests.
 ghost use Rattle.std.specs.Prelude.{◌≤◌};
 
-use std::num::wrapping_add_u64;
-
 // How many codes are told apart.
 pub(crate) const CODES: usize = 32;
 
@@ -11,7 +9,7 @@ pub(crate) fn count(counts: &mut [u64], at: usize) {
     if counts.len() <= at {
         return;
     }
-    counts[at] = wrapping_add_u64(counts[at], 1);
+    counts[at] = counts[at].wrapping_add(1);
 }
 
 // One more call of a kind that was answered with a code.

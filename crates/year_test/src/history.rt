@@ -2,14 +2,13 @@
 // table.
 use crate::calls::{BOOKING, CANCELLING, Call};
 use room::Booked;
-use std::num::wrapping_add_u64;
 
 // How many booked segments a history has room for: more than the slots of a deal, so that a booking too many would be
 // seen.
 pub(crate) const ROWS: usize = 8;
 
 // A booked segment: whose it is, which it is, its T, and the offset and the entry place where it is now.
-#[derive(Drop)]
+#[derive(Clone, Copy)]
 pub(crate) struct BookedSegment {
     pub(crate) booked: bool,
     pub(crate) house: u8,
@@ -23,7 +22,7 @@ pub(crate) type Bookings = [BookedSegment; ROWS];
 
 // What is booked, the areas that were booked with 0 and those cancelled with 0, and how many segments were booked at
 // once at most.
-#[derive(Drop)]
+#[derive(Clone, Copy)]
 pub(crate) struct History {
     pub(crate) bookings: Bookings,
     pub(crate) areas_booked: u64,
@@ -74,11 +73,8 @@ fn counted(counts: bool, n: u64) -> u64 {
 // How many segments are booked.
 fn how_many(bookings: Bookings) -> u64 {
     let mut many: u64 = 0;
-    let mut i: usize = 0;
-    while i < ROWS {
-        let b = bookings[i];
-        many = wrapping_add_u64(many, counted(b.booked, 1));
-        i += 1;
+    for b in &bookings {
+        many = many.wrapping_add(counted(b.booked, 1));
     }
     many
 }
@@ -86,14 +82,11 @@ fn how_many(bookings: Bookings) -> u64 {
 // One more segment is booked.
 fn added(bookings: Bookings, new: BookedSegment) -> Bookings {
     let mut after = bookings;
-    let mut i: usize = 0;
-    while i < ROWS {
-        let b = after[i];
-        if !b.booked {
+    for i in 0..ROWS {
+        if !after[i].booked {
             after[i] = new;
             return after;
         }
-        i += 1;
     }
     after
 }
@@ -106,11 +99,8 @@ fn is_at(b: BookedSegment, house: u8, place: u64) -> bool {
 // The sum of the areas that a house has at an entry place.
 fn areas_at(bookings: Bookings, house: u8, place: u64) -> u64 {
     let mut sum: u64 = 0;
-    let mut i: usize = 0;
-    while i < ROWS {
-        let b = bookings[i];
-        sum = wrapping_add_u64(sum, counted(is_at(b, house, place), area_of(b)));
-        i += 1;
+    for b in &bookings {
+        sum = sum.wrapping_add(counted(is_at(*b, house, place), area_of(*b)));
     }
     sum
 }
@@ -126,12 +116,8 @@ fn unless_at(b: BookedSegment, house: u8, place: u64) -> BookedSegment {
 // What is booked, but for what a house has at an entry place.
 fn elsewhere(bookings: Bookings, house: u8, place: u64) -> Bookings {
     let mut after = bookings;
-    let mut i: usize = 0;
-    while i < ROWS {
-        let b = bookings[i];
-        let left = unless_at(b, house, place);
-        after[i] = left;
-        i += 1;
+    for i in 0..ROWS {
+        after[i] = unless_at(bookings[i], house, place);
     }
     after
 }
@@ -146,13 +132,10 @@ fn comes_first(a: BookedSegment, b: BookedSegment) -> bool {
 fn moved_one(size: u64, bookings: Bookings, b: BookedSegment) -> BookedSegment {
     let mut offset: u64 = 0;
     let mut place = sizes::index_numbers(size).start;
-    let mut i: usize = 0;
-    while i < ROWS {
-        let other = bookings[i];
-        let first = other.booked && comes_first(other, b);
-        offset = wrapping_add_u64(offset, counted(first, area_of(other)));
-        place = wrapping_add_u64(place, counted(first, 64));
-        i += 1;
+    for other in &bookings {
+        let first = other.booked && comes_first(*other, b);
+        offset = offset.wrapping_add(counted(first, area_of(*other)));
+        place = place.wrapping_add(counted(first, 64));
     }
     BookedSegment {
         booked: b.booked,
@@ -167,12 +150,8 @@ fn moved_one(size: u64, bookings: Bookings, b: BookedSegment) -> BookedSegment {
 // And so with all of them.
 fn moved(size: u64, bookings: Bookings) -> Bookings {
     let mut after = bookings;
-    let mut i: usize = 0;
-    while i < ROWS {
-        let b = bookings[i];
-        let there = moved_one(size, bookings, b);
-        after[i] = there;
-        i += 1;
+    for i in 0..ROWS {
+        after[i] = moved_one(size, bookings, bookings[i]);
     }
     after
 }
@@ -196,7 +175,7 @@ fn after_booking(history: History, call: Call, answer: Booked) -> History {
     }
     History {
         bookings,
-        areas_booked: wrapping_add_u64(history.areas_booked, area_of(b)),
+        areas_booked: history.areas_booked.wrapping_add(area_of(b)),
         areas_cancelled: history.areas_cancelled,
         most,
     }
@@ -210,7 +189,7 @@ fn after_cancelling(history: History, house: u8, place: u64) -> History {
     History {
         bookings,
         areas_booked: history.areas_booked,
-        areas_cancelled: wrapping_add_u64(history.areas_cancelled, taken),
+        areas_cancelled: history.areas_cancelled.wrapping_add(taken),
         most: history.most,
     }
 }

@@ -1,6 +1,8 @@
 // Plays made-up years of bookings, cancellations and collections by two houses, and makes the five tests of a year's
 // assurance after every call. Prints what the years came to, to be compared with what tests/year_vectors.py works out
 // by itself.
+#![tactic(auto)]
+
 mod calls; // calls.rt: made-up calls
 mod counts; // counts.rt: counts of calls and of tests
 mod history; // history.rt: what the calls and their answers say is booked
@@ -13,9 +15,10 @@ mod tests; // tests.rt: the five tests
 ghost use Rattle.std.specs.Prelude.{◌≡◌, ◌≤◌, length};
 
 use history::History;
+use std::io;
 
 // A year: the size of its deal, how many calls, whether each has the tree in hand, and the number before the first.
-#[derive(Drop)]
+#[derive(Clone, Copy)]
 struct Plan {
     size: u64,
     calls: u64,
@@ -25,7 +28,7 @@ struct Plan {
 
 // What goes on from call to call beside the deal: the history, the number that the latest call was made of, and whether
 // the tree is the deal's own.
-#[derive(Drop)]
+#[derive(Clone, Copy)]
 struct Going {
     history: History,
     number: u64,
@@ -91,9 +94,8 @@ fn play(
         number: plan.seed,
         own_tree: false,
     };
-    let mut left = plan.calls;
-    while left > 0 {
-        let next = go_on(
+    for _ in 0..plan.calls {
+        going = go_on(
             deal,
             tree,
             table,
@@ -105,14 +107,13 @@ fn play(
             plan,
             going,
         );
-        going = next;
-        left -= 1;
     }
     going.history
 }
 
 // Plays a year, and shows what it came to.
 fn play_and_show(
+    rt: &impl Print,
     deal: &mut [u8],
     tree: &mut [u8],
     table: &mut [u8],
@@ -120,7 +121,7 @@ fn play_and_show(
     second_tree: &mut [u8],
     second_table: &mut [u8],
     plan: Plan,
-)
+) -> io::Result<()>
     requires { (512 ≤ plan.size) × (plan.size ≤ 4096) }
 {
     let mut codes = [0u64; 96];
@@ -136,8 +137,8 @@ fn play_and_show(
         &mut tests,
         plan,
     );
-    show::year(plan.size, plan.calls, &codes, &tests, history);
-    show::state(deal, table);
+    show::year(rt, plan.size, plan.calls, &codes, &tests, history)?;
+    show::state(rt, deal, table)
 }
 
 // A buffer full of one byte.
@@ -148,7 +149,7 @@ fn buffer(byte: u8) -> [u8; 4096]
 }
 
 // A year from a deal of zeros on. What its table and the other buffers hold before it does not matter.
-fn year(plan: Plan)
+fn year(rt: &impl Print, plan: Plan) -> io::Result<()>
     requires { (512 ≤ plan.size) × (plan.size ≤ 4096) }
 {
     let mut deal = buffer(0);
@@ -160,6 +161,7 @@ fn year(plan: Plan)
     let size = plan.size as usize;
     let nodes = size - 32;
     play_and_show(
+        rt,
         &mut deal[..size],
         &mut tree[..nodes],
         &mut table,
@@ -167,21 +169,27 @@ fn year(plan: Plan)
         &mut second_tree[..nodes],
         &mut second_table,
         plan,
-    );
+    )
 }
 
 // A year in which some calls have the tree in hand, and one in which all have, so that it is filled once alone.
-fn main() {
-    year(Plan {
-        size: 2048,
-        calls: 6000,
-        tree_in_hand: false,
-        seed: 88172645463325252,
-    });
-    year(Plan {
-        size: 4096,
-        calls: 3000,
-        tree_in_hand: true,
-        seed: 58,
-    });
+fn main(rt: HostRuntime) -> io::Result<()> {
+    year(
+        &rt,
+        Plan {
+            size: 2048,
+            calls: 6000,
+            tree_in_hand: false,
+            seed: 88172645463325252,
+        },
+    )?;
+    year(
+        &rt,
+        Plan {
+            size: 4096,
+            calls: 3000,
+            tree_in_hand: true,
+            seed: 58,
+        },
+    )
 }

@@ -19,11 +19,9 @@ fn code_alone(code: u8) -> Booked {
 fn segment_bytes(segment: u8) -> [u8; 4096]
     ensures { 4096 ≡ length result }
 {
-    let mut bytes = io::buffer();
-    let mut i: usize = 0;
-    while i < 4096 {
+    let mut bytes = [0u8; 4096];
+    for i in 0..4096 {
         bytes[i] = calls::segment_byte(segment, i);
-        i += 1;
     }
     bytes
 }

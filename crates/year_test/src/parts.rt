@@ -1,5 +1,5 @@
 // Parts of buffers.
-ghost use Rattle.io.specs.Counts.{IsPrefixLen};
+ghost use Rattle.std.specs.Prelude.{◌≡◌, ◌≤◌, length, take};
 
 // So many bytes from an offset on; none where they would go beyond the last.
 pub(crate) fn part(bytes: &[u8], offset: u64, size: u64) -> &[u8] {
@@ -17,7 +17,8 @@ pub(crate) fn part(bytes: &[u8], offset: u64, size: u64) -> &[u8] {
 
 // How much of a buffer a call is lent: all of it, or all but its last byte.
 pub(crate) fn lent_length(bytes: &[u8], short: bool) -> usize
-    ensures { IsPrefixLen result bytes.now }
+    ensures within { result ≤ length bytes.now }
+    ensures prefix { result ≡ length (take result bytes.now) }
 {
     if short && 0 < bytes.len() {
         return bytes.len() - 1;

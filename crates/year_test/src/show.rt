@@ -5,37 +5,36 @@ use crate::calls::{BOOKING, CANCELLING, COLLECTING};
 use crate::counts::CODES;
 use crate::history::History;
 use crate::tests::{AREAS, EACH_KEPT, EACH_RECORD, NONE_ALIKE, NONE_OVERLAPS, TESTS};
+use std::io;
 
 fn wide(x: u8) -> u64 {
     x as u64
 }
 
 // A number, after some words.
-fn number(words: &[u8], n: u64) {
-    io::write_all(1, words);
-    io::print_decimal(1, n);
+fn number(rt: &impl Print, words: &[u8], n: u64) -> io::Result<()> {
+    rt.write_all(words)?;
+    print!(rt; "{n}")
 }
 
-fn end() {
-    io::write_all(1, b"\n");
+fn end(rt: &impl Print) -> io::Result<()> {
+    println!(rt)
 }
 
 // The SHA-256 of bytes, after some words.
-fn digest(words: &[u8], s: &[u8]) {
+fn digest(rt: &impl Print, words: &[u8], s: &[u8]) -> io::Result<()> {
     let hashed = sha256::sha256(s);
     let digest = hashed.digest;
-    node(words, digest);
+    node(rt, words, digest)
 }
 
 // 32 bytes in hex, after some words.
-fn node(words: &[u8], bytes: [u8; 32]) {
-    io::write_all(1, words);
-    let mut i: usize = 0;
-    while i < 32 {
-        io::print_hex(1, wide(bytes[i]), 2);
-        i += 1;
+fn node(rt: &impl Print, words: &[u8], bytes: [u8; 32]) -> io::Result<()> {
+    rt.write_all(words)?;
+    for byte in &bytes {
+        print!(rt; "{:02x}", wide(*byte))?;
     }
-    end();
+    end(rt)
 }
 
 // A count, 0 beyond the last.
@@ -47,62 +46,67 @@ fn count_at(counts: &[u64], at: usize) -> u64 {
 }
 
 // A code and how often it was answered, if it was.
-fn code(code: usize, times: u64) {
+fn code(rt: &impl Print, code: usize, times: u64) -> io::Result<()> {
     if times == 0 {
-        return;
+        return Ok(());
     }
-    number(b" ", code as u64);
-    number(b":", times);
+    number(rt, b" ", code as u64)?;
+    number(rt, b":", times)
 }
 
 // The codes that the calls of a kind were answered with, each with how often.
-fn kind(words: &[u8], codes: &[u64], kind: usize)
+fn kind(rt: &impl Print, words: &[u8], codes: &[u64], kind: usize) -> io::Result<()>
     requires { kind ≤ 2 }
 {
-    io::write_all(1, words);
-    let mut i: usize = 0;
-    while i < CODES {
-        code(i, count_at(codes, CODES * kind + i));
-        i += 1;
+    rt.write_all(words)?;
+    for i in 0..CODES {
+        code(rt, i, count_at(codes, CODES * kind + i))?;
     }
-    end();
+    end(rt)
 }
 
 // How often a test was made, and how often it failed.
-fn test(words: &[u8], tests: &[u64], test: usize)
+fn test(rt: &impl Print, words: &[u8], tests: &[u64], test: usize) -> io::Result<()>
     requires { test < 5 }
 {
-    io::write_all(1, words);
-    number(b"", count_at(tests, test));
-    number(b" made, ", count_at(tests, TESTS + test));
-    io::write_all(1, b" failed\n");
+    rt.write_all(words)?;
+    number(rt, b"", count_at(tests, test))?;
+    number(rt, b" made, ", count_at(tests, TESTS + test))?;
+    println!(rt; " failed")
 }
 
 // The calls of a year by their codes, its tests, and what its history says.
-pub(crate) fn year(size: u64, calls: u64, codes: &[u64], tests: &[u64], history: History) {
-    number(b"a year of ", calls);
-    number(b" calls on a deal of ", size);
-    io::write_all(1, b" bytes\n");
-    kind(b"bookings by code", codes, BOOKING);
-    kind(b"cancellations by code", codes, CANCELLING);
-    kind(b"collections by code", codes, COLLECTING);
-    test(b"no two alike: ", tests, NONE_ALIKE);
-    test(b"none overlap: ", tests, NONE_OVERLAPS);
-    test(b"each kept: ", tests, EACH_KEPT);
-    test(b"each record accepted: ", tests, EACH_RECORD);
-    test(b"areas booked less cancelled: ", tests, AREAS);
-    number(b"segments booked at once: ", history.most);
-    end();
-    number(b"areas booked: ", history.areas_booked);
-    number(b", cancelled: ", history.areas_cancelled);
-    end();
+pub(crate) fn year(
+    rt: &impl Print,
+    size: u64,
+    calls: u64,
+    codes: &[u64],
+    tests: &[u64],
+    history: History,
+) -> io::Result<()> {
+    number(rt, b"a year of ", calls)?;
+    number(rt, b" calls on a deal of ", size)?;
+    println!(rt; " bytes")?;
+    kind(rt, b"bookings by code", codes, BOOKING)?;
+    kind(rt, b"cancellations by code", codes, CANCELLING)?;
+    kind(rt, b"collections by code", codes, COLLECTING)?;
+    test(rt, b"no two alike: ", tests, NONE_ALIKE)?;
+    test(rt, b"none overlap: ", tests, NONE_OVERLAPS)?;
+    test(rt, b"each kept: ", tests, EACH_KEPT)?;
+    test(rt, b"each record accepted: ", tests, EACH_RECORD)?;
+    test(rt, b"areas booked less cancelled: ", tests, AREAS)?;
+    number(rt, b"segments booked at once: ", history.most)?;
+    end(rt)?;
+    number(rt, b"areas booked: ", history.areas_booked)?;
+    number(rt, b", cancelled: ", history.areas_cancelled)?;
+    end(rt)
 }
 
 // The deal's commitment, and a hash of the deal and of its table.
-pub(crate) fn state(deal: &[u8], table: &[u8]) {
+pub(crate) fn state(rt: &impl Print, deal: &[u8], table: &[u8]) -> io::Result<()> {
     let committed = merkle::commitment(deal);
     let commitment = committed.node;
-    node(b"commitment ", commitment);
-    digest(b"deal ", deal);
-    digest(b"table ", table);
+    node(rt, b"commitment ", commitment)?;
+    digest(rt, b"deal ", deal)?;
+    digest(rt, b"table ", table)
 }

@@ -2,7 +2,6 @@
 ghost use Rattle.std.specs.Prelude.{◌<◌};
 
 use crate::parts::part;
-use std::num::wrapping_add_u64;
 
 // How many slots the deals here have.
 pub(crate) const SLOTS: usize = 4;
@@ -15,7 +14,7 @@ const KEPT: u8 = 5;
 
 // What stands in a slot: the slot's entry place, whether an entry stands there and whether it is kept, whose it is, its
 // offset and its T.
-#[derive(Drop)]
+#[derive(Clone, Copy)]
 pub(crate) struct Slot {
     pub(crate) place: u64,
     pub(crate) stands: bool,
@@ -44,7 +43,7 @@ fn slot_of(deal: &[u8], i: usize, state: u8, owner: u8) -> Slot
     requires { i < 4 }
 {
     let start = sizes::index_numbers(deal.len() as u64).start;
-    let place = wrapping_add_u64(start, 64 * (i as u64));
+    let place = start.wrapping_add(64 * (i as u64));
     let entry = entries::read_entry(part(deal, place, 64));
     Slot {
         place,
@@ -62,24 +61,20 @@ pub(crate) fn slots_of(deal: &[u8], table: &[u8]) -> Slots {
     audit::audit(deal, &mut states);
     let none = vacant();
     let mut slots = [none; SLOTS];
-    let mut i: usize = 0;
-    while i < SLOTS && i < table.len() {
-        let slot = slot_of(deal, i, states[i], table[i]);
-        slots[i] = slot;
-        i += 1;
+    for i in 0..SLOTS {
+        if i < table.len() {
+            slots[i] = slot_of(deal, i, states[i], table[i]);
+        }
     }
     slots
 }
 
 // The slot at an entry place.
 pub(crate) fn slot_at(slots: Slots, place: u64) -> Slot {
-    let mut i: usize = 0;
-    while i < SLOTS {
-        let slot = slots[i];
+    for slot in &slots {
         if slot.place == place {
-            return slot;
+            return *slot;
         }
-        i += 1;
     }
     vacant()
 }
@@ -95,11 +90,8 @@ pub(crate) fn area_of(slot: Slot) -> u64 {
 // The sum of the standing areas.
 pub(crate) fn standing_sum(slots: Slots) -> u64 {
     let mut sum: u64 = 0;
-    let mut i: usize = 0;
-    while i < SLOTS {
-        let slot = slots[i];
-        sum = wrapping_add_u64(sum, area_of(slot));
-        i += 1;
+    for slot in &slots {
+        sum = sum.wrapping_add(area_of(*slot));
     }
     sum
 }

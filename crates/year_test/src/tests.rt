@@ -8,7 +8,6 @@ use crate::history::{BookedSegment, Bookings, History, ROWS};
 use crate::parts::part;
 use crate::slots::{SLOTS, Slot, Slots, area_of, slot_at, slots_of, standing_sum};
 use builder::BuildAnswer;
-use std::num::wrapping_add_u64;
 
 // The tests, counted from 0; as many places on, those that failed are counted.
 pub(crate) const NONE_ALIKE: usize = 0;
@@ -66,22 +65,16 @@ fn test_two(deal: &[u8], a: Slot, b: Slot, tests: &mut [u64]) {
 fn test_lower(deal: &[u8], slots: Slots, j: usize, tests: &mut [u64])
     requires { j < 4 }
 {
-    let mut i: usize = 0;
-    while i < j {
-        let a = slots[i];
-        let b = slots[j];
-        test_two(deal, a, b, tests);
-        i += 1;
+    for i in 0..j {
+        test_two(deal, slots[i], slots[j], tests);
     }
 }
 
 // 1, no house has two standing entries with equal T and equal bytes, and 2, standing areas never overlap: of every two
 // slots.
 fn test_slots(deal: &[u8], slots: Slots, tests: &mut [u64]) {
-    let mut j: usize = 0;
-    while j < SLOTS {
+    for j in 0..SLOTS {
         test_lower(deal, slots, j, tests);
-        j += 1;
     }
 }
 
@@ -95,12 +88,10 @@ fn area_byte(segment: u8, size: u64, i: usize) -> u8 {
 
 // Whether an area holds a booked segment, and zeros after it.
 fn holds_segment(area: &[u8], segment: u8, size: u64) -> bool {
-    let mut i: usize = 0;
-    while i < area.len() {
-        if area[i] != area_byte(segment, size, i) {
+    for (i, byte) in area.iter().enumerate() {
+        if *byte != area_byte(segment, size, i) {
             return false;
         }
-        i += 1;
     }
     true
 }
@@ -129,14 +120,14 @@ fn accepted(deal: &[u8], number: u64, built: BuildAnswer, out: &[u8]) -> bool {
 
 // Whether building at an entry place gives a record that the check accepts.
 fn has_record(deal: &[u8], number: u64, place: u64) -> bool {
-    let mut out = io::buffer();
+    let mut out = [0u8; 4096];
     let built = builder::build(deal, number, place, &mut out);
     accepted(deal, number, built, &out)
 }
 
 // The same with the deal's tree in hand.
 fn has_record_with_tree(deal: &[u8], tree: &[u8], number: u64, place: u64) -> bool {
-    let mut out = io::buffer();
+    let mut out = [0u8; 4096];
     let built = builder::build_with_tree(deal, tree, number, place, &mut out);
     accepted(deal, number, built, &out)
 }
@@ -178,11 +169,8 @@ fn test_bookings(
     number: u64,
     tests: &mut [u64],
 ) {
-    let mut i: usize = 0;
-    while i < ROWS {
-        let b = bookings[i];
-        test_row(deal, tree, own_tree, slots, b, number, tests);
-        i += 1;
+    for b in &bookings {
+        test_row(deal, tree, own_tree, slots, *b, number, tests);
     }
 }
 
@@ -201,6 +189,6 @@ pub(crate) fn test_all(
     let bookings = history.bookings;
     test_slots(deal, slots, tests);
     test_bookings(deal, tree, own_tree, slots, bookings, number, tests);
-    let booked = wrapping_add_u64(standing_sum(slots), history.areas_cancelled);
+    let booked = standing_sum(slots).wrapping_add(history.areas_cancelled);
     note(tests, AREAS, booked == history.areas_booked);
 }
