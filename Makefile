@@ -52,7 +52,7 @@ all: $(out)/libvizhuthamen.a $(out)/$(shared) $(if $(CARGO),$(program) $(texts))
     $(if $(WASM_OPT),$(wasm:%=$(out)/%)) $(page)
 	@$(if $(WASM_OPT),,echo "make: no WebAssembly modules: wasm-opt is not there (Debian's package binaryen)")
 
-$(proved): $(shell find crates -name '*.rt')
+$(proved): $(shell find crates -name out -prune -o -name '*.rt' -print)
 	tools/levels
 
 $(out)/about.o: c/about.c $(header)
@@ -69,11 +69,12 @@ $(out)/exported: $(header)
 	mkdir -p $(out)
 	{ echo '{ global:'; sed -n 's/^[a-z].*[ *]\(vz_[a-z0-9_]*\)(.*/\1;/p' $<; echo 'local: *; };'; } > $@
 
+# Its other names are hard links: `rt ci` takes a checkout with symbolic links for none that it can judge.
 $(out)/$(shared): $(out)/libvizhuthamen.a $(out)/exported
 	gcc -shared -Wl,--whole-archive $< -Wl,--no-whole-archive -Wl,-soname,$(soname) -Wl,--version-script,$(out)/exported \
 	    -Wl,-z,defs,-z,now,-z,relro,-z,noexecstack -o $@
-	ln -sf $(shared) $(out)/$(soname)
-	ln -sf $(soname) $(out)/$(plain)
+	ln -f $@ $(out)/$(soname)
+	ln -f $@ $(out)/$(plain)
 
 $(wasm:%=target/targets/%) &: $(proved) tools/targets tools/kit.bash
 	tools/targets

@@ -120,7 +120,7 @@ uint32_t vz_stream_end(const uint8_t *state, size_t state_len, uint8_t *node, si
  * The commitment of a longer archive, of up to 2^36 bytes after padding, by parts: pad every 127 x 2^11 raw bytes, and
  * those that are left at the end, into 2^18 zeros, and give the stream above vz_commitment of each, then that of 2^18
  * zeros until their number is a power of two. The stream ends with the commitment of the whole segment, filled with
- * zeros: raw-by-parts, crates/vizhuthamen/specs/RawByParts.antt. */
+ * zeros: raw_by_parts, crates/vizhuthamen/specs/RawByParts.antt. */
 uint32_t vz_fr32_pad(const uint8_t *raw, size_t raw_len, uint8_t *segment, size_t segment_len, uint64_t *length);
 
 /* The way back: writes the raw_length raw bytes of a segment into the first bytes of raw, and answers their number;
@@ -295,7 +295,7 @@ uint32_t vz_read_field(const uint8_t *record, size_t record_len, uint64_t place,
                        uint64_t *length, uint64_t *next);
 
 /* The two below are no part of the proved module, but C beside it (c/about.c): they are in the libraries that make
- * writes and installs, and not in the one of rt staticlib alone. Their texts stay as long as the program runs. */
+ * writes and installs, and not in the one of tools/library alone. Their texts stay as long as the program runs. */
 
 /* What a code means, in words; "unknown code" for a number that is none. */
 const char *vz_meaning(uint32_t code);

@@ -646,7 +646,7 @@ const ZEROS = 2 ** 13; // the nodes of a piece that the stream is given where no
 
 // The commitment of a raw archive as its bytes arrive: each part is padded into zeros, and a stream takes the
 // commitments of these. That its answer is the commitment of the whole segment, filled with zeros, is proved:
-// raw-by-parts, in crates/vizhuthamen/specs/RawByParts.antt.
+// raw_by_parts, in crates/vizhuthamen/specs/RawByParts.antt.
 class RawStreaming {
   #vz;
   #nodes;

@@ -12,7 +12,7 @@ fn main() {
     let archive = folder.join("libvizhuthamen.a");
     println!("cargo:rerun-if-changed={}", archive.display());
     if !archive.is_file() {
-        eprintln!("{} is not there; in the repository's root run: rt staticlib vizhuthamen", archive.display());
+        eprintln!("{} is not there; in the repository's root run: tools/library", archive.display());
         eprintln!("(or set VIZHUTHAMEN_LIB to the folder that holds libvizhuthamen.a)");
         process::exit(1);
     }

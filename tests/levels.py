@@ -2,7 +2,7 @@
 
 Run from anywhere, after tools/levels: python3 tests/levels.py
 
-The levels are v1 (plain x86-64, the object of `rt staticlib`), v3, v4, and the archive that chooses by the processor. A
+The levels are v1 (plain x86-64, the object of tools/library), v3, v4, and the archive that chooses by the processor. A
 level that this processor lacks is skipped, which is said. tests/replay_levels runs all the replay programs.
 """
 import json

@@ -1,7 +1,9 @@
-# What tools/levels and tools/targets have in common; sourced, not run. Both compile the module that `rt staticlib`
-# wrote with the kit's own clang and the words that it was given there.
+# What tools/library, tools/levels and tools/targets have in common; sourced, not run. The kit lowers the proved library
+# to one LLVM module, which its own clang compiles; the tools compile the same module with the words that this clang was
+# given.
 # shellcheck shell=bash disable=SC2034
 library=vizhuthamen
+made=target/staticlib
 
 say() { echo "$(basename "$0"): $*"; }
 die() {
@@ -17,9 +19,8 @@ need() { # need TOOL...
 }
 
 need rt
-kit=$(cd "$(dirname "$(rt doc)")/.." && pwd -P)
-own=on/$(uname -m)
-clang=$kit/$own/toolchain/bin/clang
+kit=$(cd "$(dirname "$(rt doc)")" && pwd -P)
+clang=$kit/toolchain/bin/clang
 [ -x "$clang" ] || die "no clang at $clang: the kit has another form than this tool knows"
 
 # clang_with FILE CHANGE [WORD...]: clang with the words of a file, one a line, changed by a sed script, and with more

@@ -21,9 +21,9 @@ const ZEROS: u64 = 1 << 13;
 /// The commitment of a raw archive as its bytes arrive, padded (Fr32) and filled with zeros on the way.
 ///
 /// Each part is padded into zeros and its commitment asked, on all processors, and a stream takes these commitments.
-/// That its answer is the commitment of the whole segment, filled with zeros, is proved: `raw-by-parts` in
+/// That its answer is the commitment of the whole segment, filled with zeros, is proved: `raw_by_parts` in
 /// crates/vizhuthamen/specs/RawByParts.antt, at 2^m parts of 2^j blocks with j <= 11 and m + j <= 29; and by
-/// `same-as-booked` it is the one that [`crate::book`] writes for the segment.
+/// `same_as_booked` it is the one that [`crate::book`] writes for the segment.
 #[derive(Clone, Debug, PartialEq, Eq)]
 pub struct RawStreaming {
     nodes: Streaming,

@@ -27,7 +27,7 @@ pub fn commitment_with_threads(run: &[u8], threads: usize) -> Result<Node, Refus
 }
 
 /// The commitment of the parts' commitments, or the refusal of a part. That this is the answer for the run is proved:
-/// `parts-accepted` and `part-refused` in crates/merkle/specs/PartsLaws.antt, at 2^m parts of 2^10 nodes with
+/// `parts_accepted` and `part_refused` in crates/merkle/specs/PartsLaws.antt, at 2^m parts of 2^10 nodes with
 /// m + 10 <= 19.
 fn by_parts(run: &[u8], threads: usize) -> Result<Node, Refusal> {
     let answers = parts::each(threads, run.chunks_exact(parts::PART), by_one_call);

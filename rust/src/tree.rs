@@ -48,7 +48,7 @@ const LANES: usize = 16;
 const PARTS: (usize, usize) = (4, 128);
 
 /// Fills the tree by parts of the deal. That it is then the one that `vz_tree_fill` writes is proved, however the rows
-/// are cut: `filled-by-ranges` in crates/tree/specs/RowAboveLaws.antt.
+/// are cut: `filled_by_ranges` in crates/tree/specs/RowAboveLaws.antt.
 fn fill_by_parts(deal: &[u8], tree: &mut [u8], threads: usize) -> Result<(), Refusal> {
     fill_rows_by_parts(deal, rows(deal.len(), tree), threads)
 }

@@ -4,7 +4,7 @@
  * deal's tree in hand; then the first one cancelled, and the deal collected; then the log of these calls, played back.
  * Prints each code, and fails where an answer is another one.
  *
- *   rt staticlib vizhuthamen
+ *   tools/library
  *   gcc -Iinclude tests/c/smoke.c target/staticlib/libvizhuthamen.a -o target/smoke
  *   target/smoke
  */
