@@ -9,7 +9,6 @@ ghost use Rattle.audit.specs.Gathered.{Gathered};
 
 use entries::EntryKind;
 use room::Ranges;
-use rules::Found;
 
 // The state of an entry that stands in slot i, whose bytes are those of its range: 3 where they overlap those of a
 // lower slot, 4 where its commitment is not theirs, else 5. Only where they overlap none are they hashed, so that no
@@ -19,7 +18,7 @@ fn standing_state(deal: &[u8], place: usize, ranges: Ranges, i: usize) -> u8
     requires place_value { (place ≡ slot_place (length deal.now) i) × (stands_at deal.now i ≡ true) }
     ensures { result ≡ slot_state deal.now i }
 {
-    let Found::Missing = room::lowest_overlap(ranges, i, ranges.offsets[i], ranges.areas[i]) else {
+    let None = room::lowest_overlap(ranges, i, ranges.offsets[i], ranges.areas[i]) else {
         return 3;
     };
     let row = index::kept_at(deal, deal, false, place);

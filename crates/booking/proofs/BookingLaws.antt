@@ -4,8 +4,8 @@ use Rattle.std.specs.Prelude.{◌≡◌, true, false, ◌↔◌, ◌≢◌, ℕ,
 use Rattle.std.proofs.Math.Path.{refl, ap}
 use Rattle.std.proofs.Common.{sym, ◌∙◌, arith}
 use Rattle.rules.specs.Refusals.{first_refusal, unless_refused}
-use Rattle.rules.specs.declared.Found.{Found}
-use Rattle.rules.specs.declared.Found.TheVariants.{At, Missing}
+use Rattle.std.proofs.Common.{Option}
+use Rattle.std.proofs.Common.{Some, None}
 use Rattle.rules.specs.SearchLaws.{lowest_found, lowest_missing, lowest_is, lowest_none}
 use Rattle.sizes.specs.Sizes.{area, entry_count}
 use Rattle.lent.specs.LentDeal.{LentDeal, deal_size}
@@ -62,7 +62,7 @@ module _ (deal : LentDeal) (table : List ℕ) (house : ℕ) (segment : List ℕ)
   abbrev n : ℕ
   n = area (length segment)
 
-  abbrev keeping : Found
+  abbrev keeping : Option ℕ
   keeping = lowest_keeping deal table house segment
 
   abbrev room_decision : Decision
@@ -94,7 +94,7 @@ module _ (deal : LentDeal) (table : List ℕ) (house : ℕ) (segment : List ℕ)
       by_decision (λ y. y ≡ x → BookableFor deal table house segment × (room_decision ≡ x))
       (λ c r e. absurd (other c r e)) (λ b e. (b, e))
 
-  not_kept : (b : BookableFor deal table house segment) → keeping ≡ Missing → Unkept deal table house segment
+  not_kept : (b : BookableFor deal table house segment) → keeping ≡ None → Unkept deal table house segment
   not_kept b k =
       record {
         bookable = b;
@@ -103,7 +103,7 @@ module _ (deal : LentDeal) (table : List ℕ) (house : ℕ) (segment : List ℕ)
             (omega arith);
       }
 
-  none_kept : Unkept deal table house segment → keeping ≡ Missing
+  none_kept : Unkept deal table house segment → keeping ≡ None
   none_kept u =
       lowest_none (keeps_own deal table house segment) 0 (entry_count (deal_size deal))
       (λ j a b. u.none_keeps j (omega arith))
@@ -124,7 +124,7 @@ module _ (deal : LentDeal) (table : List ℕ) (house : ℕ) (segment : List ℕ)
         decision_is a.bookable ∙ found.1 k,
   )
     where
-      found : (room_decision ≡ Already i) ↔ (keeping ≡ At i)
+      found : (room_decision ≡ Already i) ↔ (keeping ≡ Some i)
       found = decides_already (deal_size deal) ranges held n keeping i
 
   pub half_held : (decision deal table house segment ≡ Refuse 22)
@@ -137,7 +137,7 @@ module _ (deal : LentDeal) (table : List ℕ) (house : ℕ) (segment : List ℕ)
     λ b. decision_is b.0.bookable ∙ refusing.1 (none_kept b.0, b.1),
   )
     where
-      refusing : (room_decision ≡ Refuse 22) ↔ ((keeping ≡ Missing) × (quota_reached deal table house ≡ true))
+      refusing : (room_decision ≡ Refuse 22) ↔ ((keeping ≡ None) × (quota_reached deal table house ≡ true))
       refusing = decides_22 (deal_size deal) ranges held n keeping
 
   pub books : (i o : ℕ)
@@ -155,7 +155,7 @@ module _ (deal : LentDeal) (table : List ℕ) (house : ℕ) (segment : List ℕ)
     where
       placing : (b : BookableFor deal table house segment)
           → (room_decision ≡ Place i o)
-          ↔ ((keeping ≡ Missing)
+          ↔ ((keeping ≡ None)
           × (quota_reached deal table house ≡ false)
           × Places (deal_size deal) ranges n i o)
       placing b = decides_place (deal_size deal) ranges held n keeping (area_some b.bookable) i o
@@ -173,7 +173,7 @@ module _ (deal : LentDeal) (table : List ℕ) (house : ℕ) (segment : List ℕ)
   )
     where
       refusing : (room_decision ≡ Refuse 13)
-          ↔ ((keeping ≡ Missing) × (quota_reached deal table house ≡ false) × NoSlot (deal_size deal) ranges)
+          ↔ ((keeping ≡ None) × (quota_reached deal table house ≡ false) × NoSlot (deal_size deal) ranges)
       refusing = decides_13 (deal_size deal) ranges held n keeping
 
   pub no_place : (decision deal table house segment ≡ Refuse 14)
@@ -190,7 +190,7 @@ module _ (deal : LentDeal) (table : List ℕ) (house : ℕ) (segment : List ℕ)
     where
       refusing : (b : BookableFor deal table house segment)
           → (room_decision ≡ Refuse 14)
-          ↔ ((keeping ≡ Missing) × (quota_reached deal table house ≡ false) × NoPlace (deal_size deal) ranges n)
+          ↔ ((keeping ≡ None) × (quota_reached deal table house ≡ false) × NoPlace (deal_size deal) ranges n)
       refusing b = decides_14 (deal_size deal) ranges held n keeping (area_some b.bookable)
 
   -- answer, deal and table are those of the decision

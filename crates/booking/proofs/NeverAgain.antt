@@ -4,8 +4,8 @@
 -- crates/demands/specs/Demand2.antt.
 use Rattle.std.specs.Prelude.{◌≡◌, refl, true, ℕ, ◌<◌, List, length}
 use Rattle.std.proofs.Common.{sym, ap, ap₂, ◌∙◌, true≢false, arith}
-use Rattle.rules.specs.declared.Found.{Found}
-use Rattle.rules.specs.declared.Found.TheVariants.{At, Missing}
+use Rattle.std.proofs.Common.{Option}
+use Rattle.std.proofs.Common.{Some, None}
 use Rattle.rules.specs.SearchLaws.{IsLowest, lowest_found, lowest_missing}
 use Rattle.sizes.specs.Sizes.{entry_count, slot_place}
 use Rattle.lent.specs.LentDeal.{lent_deal}
@@ -34,14 +34,14 @@ pub kept_is_15 : (deal table : List ℕ) (house : ℕ) (segment : List ℕ) (i :
     × (book_answer (lent_deal deal) table house segment ≡ answer15 deal j)
 kept_is_15 deal table house segment i b h k = by_search (lowest_keeping (lent_deal deal) table house segment) refl
   where
-    by_search : (f : Found) → lowest_keeping (lent_deal deal) table house segment ≡ f
+    by_search : (f : Option ℕ) → lowest_keeping (lent_deal deal) table house segment ≡ f
         → (j : ℕ)
         × IsLowest (keeps_own (lent_deal deal) table house segment) 0 (entry_count (length deal)) j
         × (book_answer (lent_deal deal) table house segment ≡ answer15 deal j)
-    by_search (At j) e =
+    by_search (Some j) e =
         let l = lowest_found (keeps_own (lent_deal deal) table house segment) 0 (entry_count (length deal)) j e in
         (j, l, kept_answer (lent_deal deal) table house segment j (record { bookable = b; lowest_keeping_lem = l }))
-    by_search Missing e =
+    by_search None e =
         let slots = entry_count (length deal) in
         absurd
         (true≢false

@@ -3,7 +3,7 @@
 -- else and right after 2, 22 after 15 and before 13).
 use Rattle.std.specs.Prelude.{Bool, ◌&&◌, ℕ, List, [], ◌∷◌, ◌++◌, length, eqb}
 use Rattle.rules.specs.Refusals.{Rule, rule, first_refusal, unless_refused}
-use Rattle.rules.specs.declared.Found.{Found}
+use Rattle.std.specs.Prelude.{Option}
 use Rattle.rules.specs.Search.{lowest}
 use Rattle.octets.specs.Equality.{same_bytes}
 use Rattle.octets.specs.Splice.{part}
@@ -45,7 +45,7 @@ abbrev pub keeps_own : LentDeal → List ℕ → ℕ → List ℕ → ℕ → Bo
 keeps_own deal table house segment i = owned table house i && keeps_segment deal segment i
 
 -- the lowest slot of the house that keeps the segment
-abbrev pub lowest_keeping : LentDeal → List ℕ → ℕ → List ℕ → Found
+abbrev pub lowest_keeping : LentDeal → List ℕ → ℕ → List ℕ → Option ℕ
 lowest_keeping deal table house segment = lowest (keeps_own deal table house segment) 0 (entry_count (deal_size deal))
 
 -- how many slots the house holds, by standing entries, kept or not

@@ -68,7 +68,7 @@ fn write_segment(deal: &mut [u8], segment: &[u8], commitment: [u8; 32], offset: 
     let entry = entries::entry_of(commitment, offset, size);
     let area = sizes::area(size) as usize;
     octets::put_filled(deal, offset as usize, segment, area);
-    octets::put_pair(deal, place as usize, entry);
+    octets::put_array(deal, place as usize, entry);
 }
 
 // Brings the tree beside a deal up to date, where there is one: the nodes above the area of a segment of this size and

@@ -12,7 +12,6 @@ ghost use Rattle.booking.specs.Write.{segment_commitment};
 ghost use Rattle.booking.specs.Booking.{keeps_segment, lowest_keeping};
 
 use room::Ranges;
-use rules::Found;
 
 // The node that an entry of the segment's size has to name to be kept with the segment's bytes: with a tree beside the
 // deal the node over the area as it stands there; without one the segment's commitment, which is that node wherever the
@@ -69,7 +68,7 @@ fn slot_keeps(
     }
     let offset = ranges.offsets[i];
     let node = area_node(deal, tree, has_tree, offset, size, commitment);
-    if !octets::same_node(octets::node_at(deal, place), node) {
+    if octets::array_at(deal, place) != node {
         return false;
     }
     octets::same_filled(deal, offset as usize, segment, area as usize)
@@ -85,7 +84,7 @@ pub(crate) fn lowest_keeping(
     segment: &[u8],
     commitment: [u8; 32],
     ranges: Ranges,
-) -> Found
+) -> Option<usize>
     requires usable { Usable (lent_with has_tree deal.now tree.now) }
     requires segment_value { segment_size_allowed (length deal.now) (length segment.now) ≡ true }
     requires commitment_value { commitment ≡ segment_commitment segment.now }
@@ -99,9 +98,9 @@ pub(crate) fn lowest_keeping(
     let mut i: usize = 0;
     while i < slots {
         if table[i] == house && slot_keeps(deal, tree, has_tree, segment, commitment, ranges, i) {
-            return Found::At(i);
+            return Some(i);
         }
         i += 1;
     }
-    Found::Missing
+    None
 }

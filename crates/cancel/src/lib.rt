@@ -43,7 +43,7 @@ fn cancel_in(
     if !entry.stands || !houses::owns(deal_size, table, house, place) {
         return 16;
     }
-    octets::put_pair(deal, place as usize, [0u8; 64]);
+    octets::put_array(deal, place as usize, [0u8; 64]);
     lent::renew_tree(deal, tree, has_tree, place as usize, 64);
     houses::put_owner(deal_size, table, place, 0);
     0

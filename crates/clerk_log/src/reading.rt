@@ -32,7 +32,7 @@ pub fn booking_at(log: &[u8], start: usize) -> BookingLine
     requires { start + 58 ≤ length log.now }
     ensures { result ≡ booking_in (part log.now start 58) }
 {
-    let commitment = octets::node_at(log, start + 1);
+    let commitment = octets::array_at(log, start + 1);
     let size = octets::read_u64(log, start + 33);
     let offset = octets::read_u64(log, start + 42);
     let place = octets::read_u64(log, start + 50);

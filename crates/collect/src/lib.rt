@@ -20,7 +20,7 @@ fn write_new_deal(deal: &[u8], new: &mut [u8], ranges: Ranges, slots: usize)
     requires { Ready deal.now ranges slots × (length new.old ≡ length deal.now) }
     ensures { new.new ≡ collected_deal deal.now }
 {
-    octets::fill_zero(new);
+    new.fill(0);
     write_areas(deal, new, ranges, slots);
     write_entries(deal, new, ranges, slots);
 }
@@ -31,7 +31,7 @@ fn write_new_table(deal: &[u8], table: &[u8], new: &mut [u8], ranges: Ranges, sl
     requires new_sized { table_sized (length deal.now) new.old ≡ true }
     ensures { new.new ≡ collected_table deal.now table.now }
 {
-    octets::fill_zero(new);
+    new.fill(0);
     write_owners(deal, table, new, ranges, slots);
 }
 

@@ -36,7 +36,7 @@ fn write_entry(deal: &[u8], new: &mut [u8], ranges: Ranges, slots: usize, j: usi
     let commitment = row.commitment;
     let entry = entries::entry_of(commitment, to.offset, row.size);
     let at = sizes::slot_place(deal_size, to.slot);
-    octets::put_pair(new, at as usize, entry);
+    octets::put_array(new, at as usize, entry);
 }
 
 // Writes slot j's byte of the table for its new slot; nothing for a free slot.

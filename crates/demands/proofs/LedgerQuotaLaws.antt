@@ -14,7 +14,7 @@ use Rattle.rules.specs.Refusals.{Rule, first_refusal, unless_refused}
 use Rattle.rules.specs.RefusalLaws.{none_refused, and_left, and_right}
 use Rattle.rules.specs.Search.{one, count, lowest}
 use Rattle.rules.specs.SearchLaws.{count_cong}
-use Rattle.rules.specs.declared.Found.{Found}
+use Rattle.std.proofs.Common.{Option}
 use Rattle.sizes.specs.Sizes.{lent_size_allowed, segment_size_allowed, area, entry_count}
 use Rattle.sizes.specs.SizesLaws.{DealSize, lent_size, segment_size}
 use Rattle.index.specs.Written.{slot_of}
@@ -135,7 +135,7 @@ module _ (d : ℕ) (l : lent_size_allowed d ≡ true) where
         omega (arith, (segment_size d line.size sized size).area_low)
 
     -- what the rules decide for it
-    abbrev keeping : Found
+    abbrev keeping : Option ℕ
     keeping =
         lowest
         (λ i. owned (ledger_owners ledger) line.house i && same_segment line (ledger_row ledger i)) 0 (entry_count d)

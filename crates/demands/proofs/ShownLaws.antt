@@ -2,8 +2,8 @@
 use Rattle.std.specs.Prelude.{◌≡◌, refl, Bool, true, false, not, ◌↔◌, ℕ, ◌≤◌, ◌<◌, List, length, replicate, eqb}
 use Rattle.std.proofs.Common.{sym, ap, ◌∙◌, true≢false, inl, inr, ⊎_elim, arith}
 use Rattle.rules.specs.Choice.{choose}
-use Rattle.rules.specs.declared.Found.{Found}
-use Rattle.rules.specs.declared.Found.TheVariants.{At, Missing}
+use Rattle.std.proofs.Common.{Option}
+use Rattle.std.proofs.Common.{Some, None}
 use Rattle.rules.specs.RefusalLaws.{not_passed}
 use Rattle.rules.specs.Search.{lowest}
 use Rattle.rules.specs.SearchLaws.{lowest_missing, lowest_none}
@@ -39,10 +39,10 @@ none_lower ranges slots = (
   λ none. ap is_missing (lowest_none (overlaps_lower ranges) 0 slots (λ i a b. none i (omega arith))),
 )
   where
-    found : (f : Found) → lowest (overlaps_lower ranges) 0 slots ≡ f → is_missing f ≡ true
+    found : (f : Option ℕ) → lowest (overlaps_lower ranges) 0 slots ≡ f → is_missing f ≡ true
         → (i : ℕ) → i < slots → overlaps_lower ranges i ≡ false
-    found (At j) e t i h = absurd (true≢false (sym t))
-    found Missing e t i h = lowest_missing (overlaps_lower ranges) 0 slots e i (omega arith) (omega arith)
+    found (Some j) e t i h = absurd (true≢false (sym t))
+    found None e t i h = lowest_missing (overlaps_lower ranges) 0 slots e i (omega arith) (omega arith)
 
 -- an entry of the kind blank is 64 zero bytes
 blank_zeros : (entry : List ℕ) → length entry ≡ 64

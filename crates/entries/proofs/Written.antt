@@ -14,7 +14,7 @@ use Rattle.sha256.specs.Fips.{sha256}
 use Rattle.sha256.specs.Answers.{hashed}
 use Rattle.sha256.specs.AnswersLaws.{hashed_short}
 use Rattle.sha256.specs.DigestLaws.{sha256_length}
-use Rattle.sha256.specs.declared.Hashed.{Hashed}
+use Rattle.sha256.specs.Answers.{Hashed}
 use Rattle.entries.specs.Checksum.{entry_digest, checksum_of, checksum_is, checksum_length}
 use Rattle.entries.specs.Entry.{entry_body, entry_of, checksum_right}
 use Rattle.entries.specs.EntryLaws.{body_length}

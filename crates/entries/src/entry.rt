@@ -15,8 +15,7 @@ fn checksum(entry: &[u8]) -> [u8; 16]
 {
     let mut cleared = [0u8; 64];
     octets::put(&mut cleared, 0, &entry[..48]);
-    let answer = sha256::sha256(&cleared);
-    let digest = answer.digest;
+    let digest = sha256::sha256(&cleared).unwrap();
     let mut sum = [0u8; 16];
     octets::put(&mut sum, 0, &digest[..16]);
     sum[15] = digest[15] % 64;
@@ -42,7 +41,7 @@ fn checksum_right(entry: &[u8]) -> bool
     ensures { result ≡ checksum_right entry.now }
 {
     let sum = checksum(entry);
-    octets::same(&sum, &entry[48..])
+    sum.as_slice() == &entry[48..]
 }
 
 // The kind of an entry: blank where all its bytes are zero, else valid where its checksum is right, else damaged. A
@@ -81,7 +80,7 @@ pub fn make_entry(commitment: &[u8], offset: u64, size: u64) -> MadeEntry
     if !stray::no_stray_bits(commitment) {
         return refused(8);
     }
-    let node = octets::node_at(commitment, 0);
+    let node = octets::array_at(commitment, 0);
     MadeEntry {
         code: 0,
         entry: entry_of(node, offset, size),
@@ -115,7 +114,7 @@ pub fn read_entry(entry: &[u8]) -> ReadEntry
     ReadEntry {
         code: 0,
         kind,
-        commitment: octets::node_at(entry, 0),
+        commitment: octets::array_at(entry, 0),
         offset: octets::read_u64(entry, 32),
         size: octets::read_u64(entry, 40),
     }

@@ -23,7 +23,7 @@ pub fn put_node(out: &mut [u8], at: usize, row: FieldRule, node: [u8; 32]) -> us
         × (result ≡ at + 35) × (length node ≡ 32) }
 {
     let content = put_head(out, at, row.tag, 32);
-    octets::put_node(out, content, node);
+    octets::put_array(out, content, node);
     content + 32
 }
 

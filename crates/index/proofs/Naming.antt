@@ -10,7 +10,7 @@ use lib.ListN.{length, get_or, set}
 use lib.Seq.{get_or-set_same, get_or-set_other}
 use lib.Pow.{pow_pos}
 use Rattle.rules.specs.Choice.{choose}
-use Rattle.rules.specs.declared.Found.TheVariants.{At}
+use Rattle.std.proofs.Common.{Some}
 use Rattle.octets.specs.Equality.{same_bytes}
 use Rattle.octets.specs.EqualityLaws.{same_true}
 use Rattle.merkle.specs.NodeSource.{NodeSource}
@@ -101,7 +101,7 @@ module _ (deal : LentDeal) (commitment : List ℕ) (i : ℕ) {place : ℕ} {row 
       && same_bytes (commitment_in (entry_at deal.bytes at)) commitment) p
 
   pub row_found : row.stands ≡ true
-      → record { code = 0; offset = row.offset; size = row.size; place = place } ≡ found_in deal.bytes (At i)
+      → record { code = 0; offset = row.offset; size = row.size; place = place } ≡ found_in deal.bytes (Some i)
   row_found h =
       let s = (names deal.bytes commitment place row h e).stands_as in
       ap₂ (λ (o z : ℕ). record { code = 0; offset = o; size = z; place = place }) s.offset_is s.size_is

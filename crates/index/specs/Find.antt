@@ -2,8 +2,8 @@
 use Rattle.std.specs.Prelude.{Bool, ◌&&◌, ℕ, List, ◌∷◌, length, eqb}
 use Rattle.rules.specs.Refusals.{rule, first_refusal, unless_refused}
 use Rattle.rules.specs.Search.{lowest}
-use Rattle.rules.specs.declared.Found.{Found}
-use Rattle.rules.specs.declared.Found.TheVariants.{At, Missing}
+use Rattle.std.specs.Prelude.{Option}
+use Rattle.std.specs.Prelude.{Some, None}
 use Rattle.octets.specs.Equality.{same_bytes}
 use Rattle.octets.specs.Splice.{part}
 use Rattle.sizes.specs.Sizes.{entry_count, slot_place}
@@ -17,7 +17,7 @@ unfoldable pub keeps_commitment : LentDeal → List ℕ → ℕ → Bool
 keeps_commitment deal commitment i = kept_at deal i && same_bytes (commitment_in (slot_at deal.bytes i)) commitment
 
 -- the lowest slot that keeps a commitment
-abbrev pub lowest_with_commitment : LentDeal → List ℕ → Found
+abbrev pub lowest_with_commitment : LentDeal → List ℕ → Option ℕ
 lowest_with_commitment deal commitment = lowest (keeps_commitment deal commitment) 0 (entry_count (deal_size deal))
 
 -- zeros beside a refusal's code
@@ -25,15 +25,15 @@ abbrev pub refused : ℕ → FoundSegment
 refused code = record { code = code; offset = 0; size = 0; place = 0 }
 
 -- the numbers of what was found: offset, size and entry place
-abbrev pub found_in : List ℕ → Found → FoundSegment
-found_in deal (At i) =
+abbrev pub found_in : List ℕ → Option ℕ → FoundSegment
+found_in deal (Some i) =
     record {
       code = 0;
       offset = offset_in (slot_at deal i);
       size = size_in (slot_at deal i);
       place = slot_place (length deal) i;
     }
-found_in deal Missing = refused 16
+found_in deal None = refused 16
 
 -- 1, 2, 11, 12, then the lowest slot that keeps the commitment, or 16
 unfoldable pub find_numbers : LentDeal → List ℕ → FoundSegment

@@ -7,8 +7,8 @@ use mathlib.Core.List.{List, [], ◌∷◌}
 use borrow.Author.Tests.{eq-eqb, ne_eqb, eqb-true}
 use Rattle.rules.specs.Refusals.{Rule, rule, first_refusal, unless_refused}
 use Rattle.rules.specs.RefusalLaws.{and_left, and_right, none_refused}
-use Rattle.rules.specs.declared.Found.{Found}
-use Rattle.rules.specs.declared.Found.TheVariants.{At, Missing}
+use Rattle.std.specs.Prelude.{Option}
+use Rattle.std.specs.Prelude.{Some, None}
 use Rattle.rules.specs.SearchLaws.{IsLowest, lowest_found, lowest_missing}
 use Rattle.octets.specs.Equality.{same_bytes}
 use Rattle.octets.specs.EqualityLaws.{same_true}
@@ -53,7 +53,7 @@ pub record FoundIn (deal : LentDeal) (commitment : List ℕ) (i : ℕ) : Type 0 
   pub searched : Searched deal commitment
   pub is_lowest : IsLowest (keeps_commitment deal commitment) 0 (entry_count (deal_size deal)) i
   pub keeps_it : SlotKeeps deal commitment i
-  pub numbers : find_numbers deal commitment ≡ found_in deal.bytes (At i)
+  pub numbers : find_numbers deal commitment ≡ found_in deal.bytes (Some i)
 
 module _ (deal : LentDeal) (commitment : List ℕ) where
   rules : List Rule
@@ -95,19 +95,19 @@ module _ (deal : LentDeal) (commitment : List ℕ) where
 
   -- every answer is a refusal before the slots are looked at, that of a segment in a slot, or 16
   by_answer : (P : FoundSegment → Type 0) → ((code : ℕ) → P (refused (suc code)))
-      → ((i : ℕ) → FoundIn deal commitment i → P (found_in deal.bytes (At i)))
+      → ((i : ℕ) → FoundIn deal commitment i → P (found_in deal.bytes (Some i)))
       → P (find_numbers deal commitment)
   by_answer P refusal segment = start (first_refusal rules) refl
     where
-      searched_by : Searched deal commitment → (f : Found) → lowest_with_commitment deal commitment ≡ f
+      searched_by : Searched deal commitment → (f : Option ℕ) → lowest_with_commitment deal commitment ≡ f
           → P (find_numbers deal commitment)
-      searched_by s (At i) e =
-          let n : find_numbers deal commitment ≡ found_in deal.bytes (At i) =
+      searched_by s (Some i) e =
+          let n : find_numbers deal commitment ≡ found_in deal.bytes (Some i) =
           searched_is s ∙ ap (found_in deal.bytes) e in
           let l = lowest_found (keeps_commitment deal commitment) 0 (entry_count (deal_size deal)) i e in
           let k = slot_keeps deal commitment i l.passes in
           subst P (sym n) (segment i (record { searched = s; is_lowest = l; keeps_it = k; numbers = n }))
-      searched_by s Missing e = subst P (sym (searched_is s ∙ ap (found_in deal.bytes) e)) (refusal 15)
+      searched_by s None e = subst P (sym (searched_is s ∙ ap (found_in deal.bytes) e)) (refusal 15)
 
       start : (code : ℕ) → first_refusal rules ≡ code → P (find_numbers deal commitment)
       start zero e = searched_by (passed e) (lowest_with_commitment deal commitment) refl
@@ -125,9 +125,9 @@ module _ (deal : LentDeal) (commitment : List ℕ) where
       → keeps_commitment deal commitment i ≡ true → (find_numbers deal commitment).code ≡ 0
   find_some s i h k = go (lowest_with_commitment deal commitment) refl
     where
-      go : (f : Found) → lowest_with_commitment deal commitment ≡ f → (find_numbers deal commitment).code ≡ 0
-      go (At j) e = ap (λ (n : FoundSegment). n.code) (searched_is s ∙ ap (found_in deal.bytes) e)
-      go Missing e =
+      go : (f : Option ℕ) → lowest_with_commitment deal commitment ≡ f → (find_numbers deal commitment).code ≡ 0
+      go (Some j) e = ap (λ (n : FoundSegment). n.code) (searched_is s ∙ ap (found_in deal.bytes) e)
+      go None e =
           let none = lowest_missing (keeps_commitment deal commitment) 0 (entry_count (deal_size deal)) e in
           absurd (true≢false (sym k ∙ none i (omega arith) (omega arith)))
 
@@ -137,11 +137,11 @@ module _ (deal : LentDeal) (commitment : List ℕ) where
       → find_numbers deal commitment ≡ refused 16
   find_none s none = go (lowest_with_commitment deal commitment) refl
     where
-      go : (f : Found) → lowest_with_commitment deal commitment ≡ f → find_numbers deal commitment ≡ refused 16
-      go (At j) e =
+      go : (f : Option ℕ) → lowest_with_commitment deal commitment ≡ f → find_numbers deal commitment ≡ refused 16
+      go (Some j) e =
           let l = lowest_found (keeps_commitment deal commitment) 0 (entry_count (deal_size deal)) j e in
           absurd (true≢false (sym l.passes ∙ none j (omega (arith, l.below))))
-      go Missing e = searched_is s ∙ ap (found_in deal.bytes) e
+      go None e = searched_is s ∙ ap (found_in deal.bytes) e
 
   -- a commitment with stray bits is kept nowhere
   pub find_stray : IsTree deal.nodes deal.bytes (deal_level (deal_size deal)) → Searched deal commitment

@@ -18,7 +18,7 @@ fn naming_at(deal: &[u8], place: usize, commitment: &[u8]) -> Row
 {
     let row = standing_at(deal, place);
     let named = row.commitment;
-    if !octets::same(&named, commitment) {
+    if named.as_slice() != commitment {
         return free_row();
     }
     row

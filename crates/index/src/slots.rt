@@ -43,7 +43,7 @@ pub fn standing_at(deal: &[u8], place: usize) -> Row
     }
     Row {
         stands: true,
-        commitment: octets::node_at(entry, 0),
+        commitment: octets::array_at(entry, 0),
         offset,
         size,
     }
@@ -93,7 +93,7 @@ pub(crate) fn segment_has(
         commitment }
 {
     let node = segment_node(deal, tree, has_tree, offset, size);
-    octets::same_node(node, commitment)
+    node == commitment
 }
 
 // The row of the entry at a place of a lent deal, where it is kept.

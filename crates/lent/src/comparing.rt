@@ -41,8 +41,8 @@ pub fn compare_with_own(
     let mut last = seen;
     let mut i: usize = 0;
     while i < levels {
-        let string = paths::pair(p as u64, a, octets::node_at(path, i * 32));
-        let own_string = paths::pair(p as u64, b, octets::node_at(own, i * 32));
+        let string = paths::pair(p as u64, a, octets::array_at(path, i * 32));
+        let own_string = paths::pair(p as u64, b, octets::array_at(own, i * 32));
         let above = paths::compare_above(last, string, own_string);
         let parent = node::node_hash(string);
         p = p / 2;

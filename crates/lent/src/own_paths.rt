@@ -124,7 +124,7 @@ fn write_below(
             level + i,
             paths::sibling_of(x.position),
         );
-        octets::put_node(out, at + 32 * i, sibling);
+        octets::put_array(out, at + 32 * i, sibling);
         let next = above(deal, tree, has_tree, left - 1, level + i, x, sibling);
         x = next;
         i += 1;
@@ -169,8 +169,8 @@ fn write_both(
         let here = level + i;
         let sibling = sibling_beside(deal, tree, has_tree, left, here, x.position, y);
         let other = second_sibling(deal, tree, has_tree, left, here, y.position, x, sibling);
-        octets::put_node(out, at + 32 * i, sibling);
-        octets::put_node(out, second_at + 32 * i, other);
+        octets::put_array(out, at + 32 * i, sibling);
+        octets::put_array(out, second_at + 32 * i, other);
         let next = above(deal, tree, has_tree, left - 1, here, x, sibling);
         let second_next = above(deal, tree, has_tree, left - 1, here, y, other);
         x = next;

@@ -9,7 +9,7 @@ ghost use Rattle.merkle.specs.LastPath.{last_path, path_over};
 
 use crate::tree::{lane_roots, level_above};
 use lanes::node_of_lane;
-use octets::put_node;
+use octets::put_array;
 
 // What `lane_roots` gives, and the path of the last part's last node.
 fn lane_roots_with_path(
@@ -33,7 +33,7 @@ fn lane_roots_with_path(
     let half = size / 2;
     let left = lane_roots(run, step, at, half, height - 1);
     let right = lane_roots_with_path(run, step, at + half, half, height - 1, path);
-    put_node(path, 32 * (height - 1), node_of_lane(left, 15));
+    put_array(path, 32 * (height - 1), node_of_lane(left, 15));
     lanes::hash_nodes(left, right, 16)
 }
 
@@ -54,7 +54,7 @@ fn over_lanes(
     if levels == 0 {
         return node_of_lane(nodes, 0);
     }
-    put_node(path, 32 * height, node_of_lane(nodes, count - 2));
+    put_array(path, 32 * height, node_of_lane(nodes, count - 2));
     over_lanes(
         level_above(nodes, count / 2),
         count / 2,

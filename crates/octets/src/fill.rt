@@ -4,7 +4,7 @@ ghost use Rattle.octets.specs.Equality.{same_bytes};
 ghost use Rattle.octets.specs.Splice.{part, splice};
 ghost use Rattle.octets.specs.Fill.{zero_filled};
 
-use crate::{all_zero, fill_zero, put, same_at};
+use crate::{all_zero, put};
 
 // Writes the bytes of s into d from a place on, and zeros after them, n bytes in all.
 pub fn put_filled(d: &mut [u8], at: usize, s: &[u8], n: usize)
@@ -14,7 +14,7 @@ pub fn put_filled(d: &mut [u8], at: usize, s: &[u8], n: usize)
     let start = at + s.len();
     let end = at + n;
     put(d, at, s);
-    fill_zero(&mut d[start..end]);
+    d[start..end].fill(0);
 }
 
 // Whether the bytes of s stand in d at a place, and zeros after them, n bytes in all.
@@ -22,12 +22,9 @@ pub fn same_filled(d: &[u8], at: usize, s: &[u8], n: usize) -> bool
     requires { (length s.now ≤ n) × (at + n ≤ length d.now) }
     ensures { result ≡ same_bytes (part d.now at n) (zero_filled n s.now) }
 {
-    if !same_at(d, at, s) {
-        return false;
-    }
     let start = at + s.len();
     let end = at + n;
-    all_zero(&d[start..end])
+    &d[at..start] == s && all_zero(&d[start..end])
 }
 
 // The node that starts at a place, the last of the string: its bytes, and zeros after them.

@@ -5,8 +5,8 @@ use Rattle.std.proofs.Common.{sym, ap, ◌∙◌, true≢false, inl, inr, ⊎_el
 use Rattle.std.proofs.Math.Decide.{dec_lt}
 use Rattle.std.proofs.lemmas.Bool.{not-true, not-false}
 use Rattle.rules.specs.RefusalLaws.{not_passed}
-use Rattle.rules.specs.declared.Found.{Found}
-use Rattle.rules.specs.declared.Found.TheVariants.{At, Missing}
+use Rattle.std.specs.Prelude.{Option}
+use Rattle.std.specs.Prelude.{Some, None}
 use Rattle.rules.specs.Search.{lowest}
 use Rattle.rules.specs.SearchLaws.{lowest_found, lowest_missing}
 use Rattle.room.specs.Room.{Range, SameBelow, is_empty, is_missing, fits}
@@ -21,8 +21,8 @@ module _ (ranges : ℕ → Range) (slots : ℕ) where
   abbrev Ends : Bool → Type 0
   Ends passed = ((passed ≡ true) × RangesApart ranges slots) ⊎ ((passed ≡ false) × TwoOverlap ranges slots)
 
-  ends : (f : Found) → lowest (overlaps_lower ranges) 0 slots ≡ f → Ends (is_missing f)
-  ends Missing e =
+  ends : (f : Option ℕ) → lowest (overlaps_lower ranges) 0 slots ≡ f → Ends (is_missing f)
+  ends None e =
       inl (
         refl,
         λ i j hi hj ne.
@@ -41,7 +41,7 @@ module _ (ranges : ℕ → Range) (slots : ℕ) where
           not-false (fits ranges i n o)
           (lowest_missing (overlaps_lower ranges) 0 slots e i (omega arith) (omega arith)) in
           (overlap_false o n (ranges j).offset (ranges j).area).0 ((fits_true ranges i n o).0 beside j l)
-  ends (At i) e =
+  ends (Some i) e =
       let l = lowest_found (overlaps_lower ranges) 0 slots i e in
       let n = (ranges i).area in
       let o = (ranges i).offset in

@@ -8,8 +8,8 @@ use Rattle.std.proofs.Math.Dec.{leb, ltb}
 use borrow.Author.Tests.{leb-true, le-leb, ltb-true, lt-ltb}
 use Rattle.rules.specs.Choice.{choose}
 use Rattle.rules.specs.RefusalLaws.{and_left, and_right, and_both}
-use Rattle.rules.specs.declared.Found.{Found}
-use Rattle.rules.specs.declared.Found.TheVariants.{At, Missing}
+use Rattle.std.specs.Prelude.{Option}
+use Rattle.std.specs.Prelude.{Some, None}
 use Rattle.rules.specs.Search.{lowest}
 use Rattle.rules.specs.SearchLaws.{lowest_found, lowest_missing}
 use Rattle.room.specs.Room.{Range, SameBelow, is_empty}
@@ -80,9 +80,9 @@ module _ (measure : Range → ℕ) (ranges : ℕ → Range) (slots : ℕ) where
     unfolding holds
     sum_taken x h = by_search (lowest (holds x) 0 slots) refl
       where
-        by_search : (f : Found) → lowest (holds x) 0 slots ≡ f
+        by_search : (f : Option ℕ) → lowest (holds x) 0 slots ≡ f
             → (j : ℕ) × (j < slots) × (sum j ≤ x) × (x < sum j + share j)
-        by_search (At j) e =
+        by_search (Some j) e =
             let l = lowest_found (holds x) 0 slots j e in
             let from : Bool = leb (sum j) x in
             let below : Bool = ltb x (sum j + share j) in (
@@ -91,7 +91,7 @@ module _ (measure : Range → ℕ) (ranges : ℕ → Range) (slots : ℕ) where
               leb-true (sum j) x (and_left from below l.passes),
               ltb-true x (sum j + share j) (and_right from below l.passes),
             )
-        by_search Missing e =
+        by_search None e =
             absurd (omega (arith, gap_total sum share slots sum_apart x out (total share slots) h sum_ends))
           where
             out : (k : ℕ) → k < slots → (sum k ≤ x) × (x < sum k + share k) → ⊥

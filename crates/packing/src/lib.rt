@@ -8,7 +8,6 @@ ghost use Rattle.room.specs.Room.{Bounded, range, ranges_in};
 ghost use Rattle.packing.specs.Order.{comes_first, new_slot, new_offset, none_overlaps};
 
 use room::Ranges;
-use rules::Found;
 
 // Where a slot moves.
 #[derive(Drop)]
@@ -62,7 +61,7 @@ pub fn none_overlaps(ranges: Ranges, slots: usize) -> bool
 {
     let mut i: usize = 0;
     while i < slots {
-        let Found::Missing = room::lowest_overlap(ranges, i, ranges.offsets[i], ranges.areas[i])
+        let None = room::lowest_overlap(ranges, i, ranges.offsets[i], ranges.areas[i])
         else {
             return false;
         };

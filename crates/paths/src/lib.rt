@@ -34,7 +34,7 @@ pub fn path_root(node: [u8; 32], position: u64, path: &[u8]) -> [u8; 32]
     let mut p = position;
     let mut i: usize = 0;
     while i < levels {
-        let sibling = octets::node_at(path, i * 32);
+        let sibling = octets::array_at(path, i * 32);
         let string = pair(p, running, sibling);
         let parent = node::node_hash(string);
         running = parent;
@@ -48,7 +48,7 @@ pub fn path_root(node: [u8; 32], position: u64, path: &[u8]) -> [u8; 32]
 pub fn compare_above(seen: Compared, left: [u8; 64], right: [u8; 64]) -> Compared
     ensures { result ≡ compared_above seen left right }
 {
-    if octets::same_pair(left, right) {
+    if left == right {
         return seen;
     }
     Compared {
@@ -79,8 +79,8 @@ pub fn compare_paths(
     let mut last = seen;
     let mut i: usize = 0;
     while i < levels {
-        let left_string = pair(p, a, octets::node_at(left, i * 32));
-        let right_string = pair(p, b, octets::node_at(right, i * 32));
+        let left_string = pair(p, a, octets::array_at(left, i * 32));
+        let right_string = pair(p, b, octets::array_at(right, i * 32));
         let above = compare_above(last, left_string, right_string);
         let left_parent = node::node_hash(left_string);
         let right_parent = node::node_hash(right_string);

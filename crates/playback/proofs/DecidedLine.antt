@@ -4,7 +4,7 @@ use mathlib.Core.Bool.{true}
 use Prim.Native.Nat.{ℕ, ◌+◌, ◌≤◌, ◌<◌}
 use native.Mathlib.Omega.{arith}
 use mathlib.Core.List.{List}
-use Rattle.rules.specs.declared.Found.{Found}
+use Rattle.std.proofs.Common.{Option}
 use Rattle.rules.specs.Search.{lowest}
 use Rattle.sizes.specs.Sizes.{segment_size_allowed, area, entry_count, index_start}
 use Rattle.sizes.specs.SizesLaws.{SegmentSize, lent_size, segment_size}
@@ -39,7 +39,7 @@ module _ (d : ℕ) (ledger : List LedgerRow) (f : Fits d ledger) (ranges : ℕ �
       subst (λ (r : Range). r.offset + r.area ≤ index_start d) (sym (same_slots i h)) (f.ends i h)
 
   -- what is decided by them
-  pub decided : (line : BookingLine) (slots : ℕ) (owners : List ℕ) (held n : ℕ) (keeping : Found)
+  pub decided : (line : BookingLine) (slots : ℕ) (owners : List ℕ) (held n : ℕ) (keeping : Option ℕ)
       → slots ≡ entry_count d → owners ≡ ledger_owners ledger → held ≡ held_count ranges owners line.house slots
       → keeping ≡ lowest (keeps_at ledger line) 0 slots → n ≡ area line.size
       → (made : Decision) → made ≡ decide d ranges held n keeping → made ≡ ledger_decision d ledger line
@@ -55,5 +55,5 @@ module _ (d : ℕ) (ledger : List LedgerRow) (f : Fits d ledger) (ranges : ℕ �
       ∙ held_cong (entry_count d) ranges (ledger_ranges ledger) table table line.house same_slots (λ i l. refl) in
       m
       ∙ decide_cong d ranges (ledger_ranges ledger) same_slots held n keeping
-      ∙ ap₂ (λ (x : ℕ) (y : Found). decide d (ledger_ranges ledger) x n y) h k
+      ∙ ap₂ (λ (x : ℕ) (y : Option ℕ). decide d (ledger_ranges ledger) x n y) h k
       ∙ ap (λ (x : ℕ). decide d (ledger_ranges ledger) all x kept) g

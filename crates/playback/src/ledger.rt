@@ -9,7 +9,6 @@ ghost use Rattle.playback.specs.Ledger.{empty_ledger, ledger_row, ledger_ranges,
 use crate::{LedgerRow, ROWS};
 use clerk_log::BookingLine;
 use room::Ranges;
-use rules::Found;
 
 // One row a slot, for the most slots that a lent deal has.
 pub type Ledger = [LedgerRow; ROWS];
@@ -85,11 +84,11 @@ fn same_segment(line: BookingLine, row: LedgerRow) -> bool
     }
     let here = row.commitment;
     let there = line.commitment;
-    octets::same_node(here, there)
+    here == there
 }
 
 // The lowest of the first rows that is the house's and for the segment of a line.
-pub(crate) fn lowest_same(ledger: Ledger, line: BookingLine, slots: usize) -> Found
+pub(crate) fn lowest_same(ledger: Ledger, line: BookingLine, slots: usize) -> Option<usize>
     requires { slots ≤ 128 }
     ensures { result
         ≡ lowest (λ i. owned (ledger_owners ledger) line.house i && same_segment line (ledger_row ledger i)) 0 slots }
@@ -98,9 +97,9 @@ pub(crate) fn lowest_same(ledger: Ledger, line: BookingLine, slots: usize) -> Fo
     while i < slots {
         let row = ledger[i];
         if row.house == line.house && same_segment(line, row) {
-            return Found::At(i);
+            return Some(i);
         }
         i += 1;
     }
-    Found::Missing
+    None
 }

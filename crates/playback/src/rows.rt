@@ -52,7 +52,7 @@ fn put_row(row: LedgerRow, out: &mut [u8], at: usize)
 {
     let commitment = row.commitment;
     octets::put(out, at, &[row.house]);
-    octets::put_node(out, at + 1, commitment);
+    octets::put_array(out, at + 1, commitment);
     octets::put_u64(out, at + 33, row.size);
     octets::put_u64(out, at + 41, row.offset);
     octets::put_u64(out, at + 49, row.place);

@@ -31,7 +31,7 @@ fn read_at(record: &[u8], starts: [usize; ROWS], lengths: [usize; ROWS]) -> Pars
     requires { spans_from layout «record».now 0 ≡ spans starts lengths }
     ensures { result ≡ read_at «record».now (spans starts lengths) }
 {
-    let commitment = octets::node_at(record, starts[COMMITMENT]);
+    let commitment = octets::array_at(record, starts[COMMITMENT]);
     let offset = octets::read_u64(record, starts[OFFSET]);
     let size = octets::read_u64(record, starts[SIZE]);
     let place = octets::read_u64(record, starts[PLACE]);

@@ -35,7 +35,7 @@ fn leads_to(commitment: &[u8], node: [u8; 32], position: u64, path: &[u8]) -> bo
         commitment.now }
 {
     let root = paths::path_root(node, position, path);
-    octets::same(&root, commitment)
+    root.as_slice() == commitment
 }
 
 // The code of the fields of a well-formed record: 21, 4 to 8 as numbered, 19, 9, 10.

@@ -2,8 +2,8 @@
 -- request (x): 22, "after 15 and before 13").
 use Rattle.std.specs.Prelude.{Bool, ℕ, ◌*◌, ◌<◌, leb}
 use Rattle.rules.specs.Choice.{choose}
-use Rattle.rules.specs.declared.Found.{Found}
-use Rattle.rules.specs.declared.Found.TheVariants.{At, Missing}
+use Rattle.std.specs.Prelude.{Option}
+use Rattle.std.specs.Prelude.{Some, None}
 use Rattle.sizes.specs.Sizes.{entry_count, index_start, slot_place}
 use Rattle.room.specs.Room.{Range, lowest_free_slot, lowest_place}
 use Rattle.room.specs.declared.Booked.{Booked}
@@ -11,23 +11,23 @@ use Rattle.room.specs.declared.Decision.{Decision}
 use Rattle.room.specs.declared.Decision.TheVariants.{Refuse, Already, Place}
 
 -- 15 where the segment is kept already
-abbrev pub unless_kept : Found → Decision → Decision
-unless_kept (At i) other = Already i
-unless_kept Missing other = other
+abbrev pub unless_kept : Option ℕ → Decision → Decision
+unless_kept (Some i) other = Already i
+unless_kept None other = other
 
 -- 22: "A house that holds half the slots or more"
 abbrev pub holds_half : ℕ → ℕ → Bool
 holds_half slots held = leb slots (2 * held)
 
 -- 13 with no free slot, and with one at hand 14 with no free place
-abbrev pub in_room : ℕ → Found → Found → Decision
-in_room n Missing at = Refuse 13
-in_room n (At i) Missing = Refuse 14
-in_room n (At i) (At k) = Place i (k * n)
+abbrev pub in_room : ℕ → Option ℕ → Option ℕ → Decision
+in_room n None at = Refuse 13
+in_room n (Some i) None = Refuse 14
+in_room n (Some i) (Some k) = Place i (k * n)
 
 -- for n bytes of a house in a deal of d bytes, with the number of slots that the house holds and the slot, if any, that
 -- keeps them already
-unfoldable pub decide : ℕ → (ℕ → Range) → ℕ → ℕ → Found → Decision
+unfoldable pub decide : ℕ → (ℕ → Range) → ℕ → ℕ → Option ℕ → Decision
 decide d ranges held n keeping =
     unless_kept keeping
     (choose (holds_half (entry_count d) held) (Refuse 22)

@@ -5,8 +5,8 @@ use Rattle.std.proofs.Math.Path.{refl, ap, subst}
 use Rattle.std.proofs.Common.{sym, ap₂, ◌∙◌, arith}
 use Rattle.std.proofs.Math.Logic.{inl, inr, ⊎_elim}
 use Rattle.rules.specs.Choice.{choose}
-use Rattle.rules.specs.declared.Found.{Found}
-use Rattle.rules.specs.declared.Found.TheVariants.{At, Missing}
+use Rattle.std.specs.Prelude.{Option}
+use Rattle.std.specs.Prelude.{Some, None}
 use Rattle.rules.specs.SearchLaws.{IsLowest, lowest_found, lowest_missing, lowest_is, lowest_none}
 use Rattle.sizes.specs.Sizes.{entry_count, index_start, slot_place}
 use Rattle.room.specs.Room.{Range, SameBelow, is_empty, fits, lowest_free_slot, lowest_place}
@@ -32,53 +32,53 @@ pub record NoPlace (d : ℕ) (ranges : ℕ → Range) (n : ℕ) : Type 0 where
   pub none_fits : (o : ℕ) → o % n ≡ 0 → o + n ≤ index_start d → fits ranges (entry_count d) n o ≡ false
 
 -- what is known from a decision of a slot that keeps the segment, the quota, a free slot and a free place
-abbrev decided : ℕ → Found → Bool → Found → Found → Decision
+abbrev decided : ℕ → Option ℕ → Bool → Option ℕ → Option ℕ → Decision
 decided n keeping half slot at = unless_kept keeping (choose half (Refuse 22) (in_room n slot at))
 
 impossible : {A : Type 0} → ◌≡◌ {A = ℕ} 0 1 → A
 impossible e = absurd (omega arith)
 
-decided_place : (n : ℕ) (keeping : Found) (half : Bool) (slot at : Found) (i o : ℕ)
+decided_place : (n : ℕ) (keeping : Option ℕ) (half : Bool) (slot at : Option ℕ) (i o : ℕ)
     → decided n keeping half slot at ≡ Place i o
-    → (keeping ≡ Missing) × (half ≡ false) × (slot ≡ At i) × ((k : ℕ) × (at ≡ At k) × (k * n ≡ o))
-decided_place n (At j) half slot at i o e = impossible (cc)
-decided_place n Missing true slot at i o e = impossible (cc)
-decided_place n Missing false Missing at i o e = impossible (cc)
-decided_place n Missing false (At j) Missing i o e = impossible (cc)
-decided_place n Missing false (At j) (At k) i o e = (refl, refl, cc, (k, refl, cc))
+    → (keeping ≡ None) × (half ≡ false) × (slot ≡ Some i) × ((k : ℕ) × (at ≡ Some k) × (k * n ≡ o))
+decided_place n (Some j) half slot at i o e = impossible (cc)
+decided_place n None true slot at i o e = impossible (cc)
+decided_place n None false None at i o e = impossible (cc)
+decided_place n None false (Some j) None i o e = impossible (cc)
+decided_place n None false (Some j) (Some k) i o e = (refl, refl, cc, (k, refl, cc))
 
-decided_already : (n : ℕ) (keeping : Found) (half : Bool) (slot at : Found) (i : ℕ)
-    → decided n keeping half slot at ≡ Already i → keeping ≡ At i
-decided_already n (At j) half slot at i e = cc
-decided_already n Missing true slot at i e = impossible (cc)
-decided_already n Missing false Missing at i e = impossible (cc)
-decided_already n Missing false (At j) Missing i e = impossible (cc)
-decided_already n Missing false (At j) (At k) i e = impossible (cc)
+decided_already : (n : ℕ) (keeping : Option ℕ) (half : Bool) (slot at : Option ℕ) (i : ℕ)
+    → decided n keeping half slot at ≡ Already i → keeping ≡ Some i
+decided_already n (Some j) half slot at i e = cc
+decided_already n None true slot at i e = impossible (cc)
+decided_already n None false None at i e = impossible (cc)
+decided_already n None false (Some j) None i e = impossible (cc)
+decided_already n None false (Some j) (Some k) i e = impossible (cc)
 
 -- a refusal is 22, 13 or 14, and each says what it is for
-Refused : ℕ → Found → Bool → Found → Found → ℕ → Type 0
+Refused : ℕ → Option ℕ → Bool → Option ℕ → Option ℕ → ℕ → Type 0
 Refused n keeping half slot at c =
-    (keeping ≡ Missing)
+    (keeping ≡ None)
     × (((c ≡ 22) × (half ≡ true))
-    ⊎ (((c ≡ 13) × (half ≡ false) × (slot ≡ Missing))
-    ⊎ ((c ≡ 14) × (half ≡ false) × ((j : ℕ) × (slot ≡ At j)) × (at ≡ Missing))))
+    ⊎ (((c ≡ 13) × (half ≡ false) × (slot ≡ None))
+    ⊎ ((c ≡ 14) × (half ≡ false) × ((j : ℕ) × (slot ≡ Some j)) × (at ≡ None))))
 
-decided_refused : (n : ℕ) (keeping : Found) (half : Bool) (slot at : Found) (c : ℕ)
+decided_refused : (n : ℕ) (keeping : Option ℕ) (half : Bool) (slot at : Option ℕ) (c : ℕ)
     → decided n keeping half slot at ≡ Refuse c → Refused n keeping half slot at c
 unfolding Refused
-decided_refused n (At j) half slot at c e = impossible (cc)
-decided_refused n Missing true slot at c e = let z : ◌≡◌ {A = ℕ} 22 c = cc in (refl, inl (sym z, refl))
-decided_refused n Missing false Missing at c e =
+decided_refused n (Some j) half slot at c e = impossible (cc)
+decided_refused n None true slot at c e = let z : ◌≡◌ {A = ℕ} 22 c = cc in (refl, inl (sym z, refl))
+decided_refused n None false None at c e =
     let z : ◌≡◌ {A = ℕ} 13 c = cc in (refl, inr (inl (sym z, refl, refl)))
-decided_refused n Missing false (At j) Missing c e =
+decided_refused n None false (Some j) None c e =
     let z : ◌≡◌ {A = ℕ} 14 c = cc in (refl, inr (inr (sym z, refl, (j, refl), refl)))
-decided_refused n Missing false (At j) (At k) c e = impossible (cc)
+decided_refused n None false (Some j) (Some k) c e = impossible (cc)
 
-module _ (d : ℕ) (ranges : ℕ → Range) (held n : ℕ) (keeping : Found) where
-  slot : Found
+module _ (d : ℕ) (ranges : ℕ → Range) (held n : ℕ) (keeping : Option ℕ) where
+  slot : Option ℕ
   slot = lowest_free_slot ranges (entry_count d)
 
-  at : Found
+  at : Option ℕ
   at = lowest_place ranges (entry_count d) n (index_start d)
 
   abbrev half : Bool
@@ -92,11 +92,11 @@ module _ (d : ℕ) (ranges : ℕ → Range) (held n : ℕ) (keeping : Found) whe
   refused c e = decided_refused n keeping half slot at c (sym decide_is ∙ e)
 
   -- a decision, and exactly when
-  pub decides_already : (i : ℕ) → (decide d ranges held n keeping ≡ Already i) ↔ (keeping ≡ At i)
+  pub decides_already : (i : ℕ) → (decide d ranges held n keeping ≡ Already i) ↔ (keeping ≡ Some i)
   decides_already i = (λ e. decided_already n keeping half slot at i (sym decide_is ∙ e), λ k. decide_is ∙ rw k)
 
   pub decides_22 : (decide d ranges held n keeping ≡ Refuse 22)
-      ↔ ((keeping ≡ Missing) × (holds_half (entry_count d) held ≡ true))
+      ↔ ((keeping ≡ None) × (holds_half (entry_count d) held ≡ true))
   unfolding Refused
   decides_22 = (
     λ e.
@@ -109,12 +109,12 @@ module _ (d : ℕ) (ranges : ℕ → Range) (held n : ℕ) (keeping : Found) whe
   )
 
   pub decides_13 : (decide d ranges held n keeping ≡ Refuse 13)
-      ↔ ((keeping ≡ Missing) × (holds_half (entry_count d) held ≡ false) × NoSlot d ranges)
+      ↔ ((keeping ≡ None) × (holds_half (entry_count d) held ≡ false) × NoSlot d ranges)
   unfolding slot Refused
   decides_13 = (
     λ e.
         let p = refused 13 e in
-        let q = ⊎_elim {C = (half ≡ false) × (slot ≡ Missing)} (λ x. absurd (omega (arith, x.0)))
+        let q = ⊎_elim {C = (half ≡ false) × (slot ≡ None)} (λ x. absurd (omega (arith, x.0)))
         (λ y. ⊎_elim (λ x. (x.1, x.2)) (λ x. absurd (omega (arith, x.0))) y) p.1 in (
           p.0,
           q.0,
@@ -124,7 +124,7 @@ module _ (d : ℕ) (ranges : ℕ → Range) (held n : ℕ) (keeping : Found) whe
           },
         ),
     λ b.
-        let s : slot ≡ Missing =
+        let s : slot ≡ None =
         lowest_none (λ i. is_empty (ranges i)) 0 (entry_count d) (λ j h k. b.2.none_free j (omega arith)) in
         decide_is ∙ rw (b.0, b.1, s),
   )
@@ -138,7 +138,7 @@ module _ (d : ℕ) (ranges : ℕ → Range) (held n : ℕ) (keeping : Found) whe
   module _ (z : 0 < n) where
     pub decides_place : (i o : ℕ)
         → (decide d ranges held n keeping ≡ Place i o)
-        ↔ ((keeping ≡ Missing) × (holds_half (entry_count d) held ≡ false) × Places d ranges n i o)
+        ↔ ((keeping ≡ None) × (holds_half (entry_count d) held ≡ false) × Places d ranges n i o)
     unfolding slot at
     decides_place i o = (
       λ e.
@@ -152,18 +152,18 @@ module _ (d : ℕ) (ranges : ℕ → Range) (held n : ℕ) (keeping : Found) whe
             },
           ),
       λ b.
-          let s : slot ≡ At i = lowest_is (λ j. is_empty (ranges j)) 0 (entry_count d) i b.2.free_slot in
-          let l : at ≡ At (o / n) = place_is ranges (entry_count d) n (index_start d) o z b.2.free_place in
+          let s : slot ≡ Some i = lowest_is (λ j. is_empty (ranges j)) 0 (entry_count d) i b.2.free_slot in
+          let l : at ≡ Some (o / n) = place_is ranges (entry_count d) n (index_start d) o z b.2.free_place in
           decide_is ∙ rw (b.0, b.1, s, l) (ap (Place i) (sym (multiple o n b.2.free_place.aligned))),
     )
 
     pub decides_14 : (decide d ranges held n keeping ≡ Refuse 14)
-        ↔ ((keeping ≡ Missing) × (holds_half (entry_count d) held ≡ false) × NoPlace d ranges n)
+        ↔ ((keeping ≡ None) × (holds_half (entry_count d) held ≡ false) × NoPlace d ranges n)
     unfolding slot at Refused
     decides_14 = (
       λ e.
           let p = refused 14 e in
-          let q = ⊎_elim {C = (half ≡ false) × ((j : ℕ) × (slot ≡ At j)) × (at ≡ Missing)}
+          let q = ⊎_elim {C = (half ≡ false) × ((j : ℕ) × (slot ≡ Some j)) × (at ≡ None)}
           (λ x. absurd (omega (arith, x.0)))
           (λ y. ⊎_elim (λ x. absurd (omega (arith, x.0))) (λ x. (x.1, x.2, x.3)) y) p.1 in (
             p.0,
@@ -175,14 +175,14 @@ module _ (d : ℕ) (ranges : ℕ → Range) (held n : ℕ) (keeping : Found) whe
             },
           ),
       λ b.
-          let s : slot ≡ At b.2.slot =
+          let s : slot ≡ Some b.2.slot =
           lowest_is (λ j. is_empty (ranges j)) 0 (entry_count d) b.2.slot b.2.free_slot in
-          let l : at ≡ Missing = (place_missing ranges (entry_count d) n (index_start d) z).1 b.2.none_fits in
+          let l : at ≡ None = (place_missing ranges (entry_count d) n (index_start d) z).1 b.2.none_fits in
           decide_is ∙ rw (b.0, b.1, s, l),
     )
 
     -- the slot that is decided on is one of the index
-    pub decides_below : ((i : ℕ) → keeping ≡ At i → i < entry_count d)
+    pub decides_below : ((i : ℕ) → keeping ≡ Some i → i < entry_count d)
         → SlotBelow (entry_count d) (decide d ranges held n keeping)
     decides_below h = by_decision (decide d ranges held n keeping) refl
       where
@@ -193,7 +193,7 @@ module _ (d : ℕ) (ranges : ℕ → Range) (held n : ℕ) (keeping : Found) whe
 
 -- the same ranges: the same decision and answer
 module _ (d : ℕ) (r s : ℕ → Range) (same : SameBelow (entry_count d) r s) where
-  pub decide_cong : (held n : ℕ) (keeping : Found) → decide d r held n keeping ≡ decide d s held n keeping
+  pub decide_cong : (held n : ℕ) (keeping : Option ℕ) → decide d r held n keeping ≡ decide d s held n keeping
   unfolding decide
   decide_cong held n keeping =
       ap (λ (x : Decision). unless_kept keeping (choose (holds_half (entry_count d) held) (Refuse 22) x))
@@ -206,7 +206,7 @@ module _ (d : ℕ) (r s : ℕ → Range) (same : SameBelow (entry_count d) r s) 
   answer_cong (Place i offset) h = refl
 
 -- the decision behind a code: 0 comes from a place alone, and 15 from a slot that keeps the segment
-module _ (d : ℕ) (ranges : ℕ → Range) (held n : ℕ) (keeping : Found) where
+module _ (d : ℕ) (ranges : ℕ → Range) (held n : ℕ) (keeping : Option ℕ) where
   abbrev made : Decision
   made = decide d ranges held n keeping
 

@@ -1,8 +1,8 @@
 -- Free slots and free places of a deal, from numbers alone: which bytes each slot takes up (document 01, "Booking,
 -- finding, building, settling": book).
 use Rattle.std.specs.Prelude.{◌≡◌, Bool, true, false, ◌&&◌, ℕ, ◌+◌, ◌*◌, ◌/◌, ◌^◌, ◌≤◌, ◌<◌, get_or, eqb, ltb}
-use Rattle.rules.specs.declared.Found.{Found}
-use Rattle.rules.specs.declared.Found.TheVariants.{At, Missing}
+use Rattle.std.specs.Prelude.{Option}
+use Rattle.std.specs.Prelude.{Some, None}
 use Rattle.rules.specs.Search.{lowest}
 use Rattle.room.specs.declared.Ranges.{Ranges}
 
@@ -41,21 +41,21 @@ overlap o n p m = ltb o (p + m) && ltb p (o + n)
 abbrev pub overlaps : ℕ → ℕ → Range → Bool
 overlaps o n r = overlap o n r.offset r.area
 
-abbrev pub is_missing : Found → Bool
-is_missing (At i) = false
-is_missing Missing = true
+abbrev pub is_missing : Option ℕ → Bool
+is_missing (Some i) = false
+is_missing None = true
 
 -- the lowest free slot
-abbrev pub lowest_free_slot : (ℕ → Range) → ℕ → Found
+abbrev pub lowest_free_slot : (ℕ → Range) → ℕ → Option ℕ
 lowest_free_slot ranges slots = lowest (λ i. is_empty (ranges i)) 0 slots
 
 -- the lowest slot whose bytes overlap the n bytes from o; these fit where there is none
-abbrev pub lowest_overlap : (ℕ → Range) → ℕ → ℕ → ℕ → Found
+abbrev pub lowest_overlap : (ℕ → Range) → ℕ → ℕ → ℕ → Option ℕ
 lowest_overlap ranges slots o n = lowest (λ i. overlaps o n (ranges i)) 0 slots
 
 abbrev pub fits : (ℕ → Range) → ℕ → ℕ → ℕ → Bool
 fits ranges slots n o = is_missing (lowest_overlap ranges slots o n)
 
 -- the lowest k such that the n bytes from k * n fit and end by the limit
-abbrev pub lowest_place : (ℕ → Range) → ℕ → ℕ → ℕ → Found
+abbrev pub lowest_place : (ℕ → Range) → ℕ → ℕ → ℕ → Option ℕ
 lowest_place ranges slots n limit = lowest (λ k. fits ranges slots n (k * n)) 0 (limit / n)

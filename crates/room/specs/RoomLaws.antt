@@ -4,8 +4,8 @@ use Rattle.std.proofs.Common.{sym, ap, ◌∙◌, true≢false, mul-lt-mul_of_po
 use Rattle.std.proofs.lemmas.Bool.{false≢true}
 use Rattle.std.proofs.Math.Nat.{mul-mod_left}
 use Rattle.rules.specs.RefusalLaws.{not_passed}
-use Rattle.rules.specs.declared.Found.{Found}
-use Rattle.rules.specs.declared.Found.TheVariants.{At, Missing}
+use Rattle.std.specs.Prelude.{Option}
+use Rattle.std.specs.Prelude.{Some, None}
 use Rattle.rules.specs.Search.{lowest}
 use Rattle.rules.specs.SearchLaws.{
   IsLowest,
@@ -37,13 +37,13 @@ pub slots_high : (d : ℕ) → lent_size_allowed d ≡ true → entry_count d �
 unfolding entry_count
 slots_high d t = omega (arith, (lent_size d t).lent_high)
 
-missing_is : (f : Found) → is_missing f ≡ true → f ≡ Missing
-missing_is (At k) e = absurd (false≢true e)
-missing_is Missing e = refl
+missing_is : (f : Option ℕ) → is_missing f ≡ true → f ≡ None
+missing_is (Some k) e = absurd (false≢true e)
+missing_is None e = refl
 
-found_is : (f : Found) → is_missing f ≡ false → (k : ℕ) × (f ≡ At k)
-found_is (At k) e = (k, refl)
-found_is Missing e = absurd (true≢false e)
+found_is : (f : Option ℕ) → is_missing f ≡ false → (k : ℕ) × (f ≡ Some k)
+found_is (Some k) e = (k, refl)
+found_is None e = absurd (true≢false e)
 
 module _ (ranges : ℕ → Range) (slots n : ℕ) where
   -- slot i overlaps the n bytes from o, and the n bytes from k * n fit
@@ -74,7 +74,7 @@ module _ (ranges : ℕ → Range) (slots n : ℕ) where
   )
 
   -- a search for a place that meets the bytes of slot i may go on at the first multiple from their end
-  module _ (k i : ℕ) (z : 0 < n) (e : lowest_overlap ranges slots (k * n) n ≡ At i) where
+  module _ (k i : ℕ) (z : 0 < n) (e : lowest_overlap ranges slots (k * n) n ≡ Some i) where
     abbrev end : ℕ
     end = (ranges i).offset + (ranges i).area
 
@@ -107,7 +107,7 @@ module _ (ranges : ℕ → Range) (slots n : ℕ) where
       pub first : (q : ℕ) → q % n ≡ 0 → q < o → fits ranges slots n q ≡ false
 
     -- what the search says: the lowest place, or that there is none
-    pub place_found : (k : ℕ) → 0 < n → lowest_place ranges slots n limit ≡ At k → IsPlace (k * n)
+    pub place_found : (k : ℕ) → 0 < n → lowest_place ranges slots n limit ≡ Some k → IsPlace (k * n)
     place_found k z e =
         let l = lowest_found fits_at 0 (limit / n) k e in
         record {
@@ -120,7 +120,7 @@ module _ (ranges : ℕ → Range) (slots n : ℕ) where
               ap (fits ranges slots n) at ∙ l.first (q / n) (omega arith) b;
         }
 
-    pub place_is : (o : ℕ) → 0 < n → IsPlace o → lowest_place ranges slots n limit ≡ At (o / n)
+    pub place_is : (o : ℕ) → 0 < n → IsPlace o → lowest_place ranges slots n limit ≡ Some (o / n)
     place_is o z l =
         let at : o ≡ o / n * n = multiple o n l.aligned in
         lowest_is fits_at 0 (limit / n) (o / n)
@@ -132,7 +132,7 @@ module _ (ranges : ℕ → Range) (slots n : ℕ) where
         })
 
     pub place_missing : 0 < n
-        → (lowest_place ranges slots n limit ≡ Missing)
+        → (lowest_place ranges slots n limit ≡ None)
         ↔ ((o : ℕ) → o % n ≡ 0 → o + n ≤ limit → fits ranges slots n o ≡ false)
     place_missing z = (
       λ e o m h.

@@ -7,28 +7,27 @@ ghost use Rattle.room.specs.Decide.{SlotBelow, answer_to};
 
 use crate::places::{lowest_free_slot, lowest_place};
 use crate::{Booked, Decision, Ranges};
-use rules::Found;
 
 // What is decided for an area in a lent deal of a size, for a house that holds so many slots, where the test for 15
 // found a slot that keeps the segment, or none: with none, 22 where the house holds half the slots or more, else the
 // lowest free slot and the lowest free place, 13 without the one and 14 without the other.
-pub fn decide(size: u64, ranges: Ranges, held: usize, area: u64, keeping: Found) -> Decision
+pub fn decide(size: u64, ranges: Ranges, held: usize, area: u64, keeping: Option<usize>) -> Decision
     requires size_value { lent_size_allowed size ≡ true }
     requires area_nonzero { (0 < area) × (area ≤ size) × (held ≤ entry_count size) }
     requires end_by { EndBy (index_start size) (entry_count size) (ranges_in ranges) }
     ensures { result ≡ D.decide size (ranges_in ranges) held area keeping }
 {
-    if let Found::At(i) = keeping {
+    if let Some(i) = keeping {
         return Decision::Already(i);
     }
     let slots = sizes::entry_count(size) as usize;
     if slots <= 2 * held {
         return Decision::Refuse(22);
     }
-    let Found::At(i) = lowest_free_slot(ranges, slots) else {
+    let Some(i) = lowest_free_slot(ranges, slots) else {
         return Decision::Refuse(13);
     };
-    let Found::At(k) = lowest_place(ranges, slots, area, sizes::index_start(size)) else {
+    let Some(k) = lowest_place(ranges, slots, area, sizes::index_start(size)) else {
         return Decision::Refuse(14);
     };
     Decision::Place(i, k as u64 * area)

@@ -1,3 +1,4 @@
+pub mod Answers
 pub mod Choice
 pub mod Refusals
 pub mod RefusalLaws

@@ -1,13 +1,13 @@
 -- The lowest number of a range that passes a test, and how many pass.
 use Rattle.std.specs.Prelude.{ℕ, zero, suc, ◌+◌, Bool, true, false}
 use Rattle.rules.specs.Choice.{choose}
-use Rattle.rules.specs.declared.Found.{Found}
-use Rattle.rules.specs.declared.Found.TheVariants.{At, Missing}
+use Rattle.std.specs.Prelude.{Option}
+use Rattle.std.specs.Prelude.{Some, None}
 
 -- the lowest of the n numbers from i that passes
-abbrev pub lowest : (ℕ → Bool) → ℕ → ℕ → Found
-lowest p i zero = Missing
-lowest p i (suc n) = choose (p i) (At i) (lowest p (suc i) n)
+abbrev pub lowest : (ℕ → Bool) → ℕ → ℕ → Option ℕ
+lowest p i zero = None
+lowest p i (suc n) = choose (p i) (Some i) (lowest p (suc i) n)
 
 abbrev pub one : Bool → ℕ
 one true = 1

@@ -118,7 +118,7 @@ fn compare_deal_entry(
 {
     let place = x.place as usize;
     let entry = entry_for(x);
-    let own_entry = octets::pair_at(deal, place);
+    let own_entry = octets::array_at(deal, place);
     let seen = compare_strings(entry, own_entry);
     let entry_path = path_in(record, x.entry_path, x.entry_path_length);
     let node = node::node_hash(entry);

@@ -126,7 +126,7 @@ impl Stream {
         }
         let height = (pow2::log2(count) - 5) as usize;
         let waiting = self.waiting;
-        let node = octets::node_at(&waiting, 32 * height);
+        let node = octets::array_at(&waiting, 32 * height);
         Streamed {
             code: 0,
             node,

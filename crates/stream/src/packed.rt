@@ -18,7 +18,7 @@ pub fn unpack(bytes: &[u8]) -> Stream
     Stream {
         code: bytes[8],
         count: octets::read_u64(bytes, 0),
-        partial: octets::node_at(bytes, 16),
+        partial: octets::array_at(bytes, 16),
         waiting,
     }
 }
@@ -41,6 +41,6 @@ pub fn pack(state: Stream, bytes: &mut [u8])
     let waiting = state.waiting;
     octets::put_u64(bytes, 0, state.count);
     octets::put(bytes, 8, &code);
-    octets::put_node(bytes, 16, partial);
+    octets::put_array(bytes, 16, partial);
     put_waiting(bytes, waiting);
 }

@@ -63,7 +63,7 @@ fn take_within_node(partial: &mut [u8], waiting: &mut [u8], count: u64, bytes: &
     if next % 32 != 0 {
         return true;
     }
-    let node = octets::node_at(partial, 0);
+    let node = octets::array_at(partial, 0);
     if 64 <= node[31] {
         return false;
     }
@@ -85,7 +85,7 @@ fn take_block(partial: &mut [u8], waiting: &mut [u8], count: u64, block: &[u8]) 
     let height = (pow2::log2_usize(size) - 5) as usize;
     let root = merkle::root_with_last_path(block, height, waiting);
     add_node(waiting, height, count / (size as u64), root);
-    octets::put_node(partial, 0, octets::node_at(block, size - 32));
+    octets::put_array(partial, 0, octets::array_at(block, size - 32));
     true
 }
 

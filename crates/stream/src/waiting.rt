@@ -3,7 +3,7 @@ ghost use Rattle.std.specs.Prelude.{◌≡◌, ◌-◌, ◌^◌, ◌≤◌, ◌<
 ghost use Rattle.stream.specs.Stream.{with_node};
 
 use node::node_hash;
-use octets::{join, node_at, put_node};
+use octets::{array_at, join, put_array};
 
 // One more node of a height that has k nodes already. Each odd number of nodes has one waiting: the left neighbour of
 // the new one.
@@ -15,11 +15,11 @@ pub(crate) fn add_node(waiting: &mut [u8], level: usize, k: u64, node: [u8; 32])
     let mut nodes = k;
     let mut new = node;
     while nodes % 2 == 1 {
-        let left = node_at(waiting, 32 * height);
+        let left = array_at(waiting, 32 * height);
         let parent = node_hash(join(left, new));
         new = parent;
         nodes = nodes / 2;
         height += 1;
     }
-    put_node(waiting, 32 * height, new);
+    put_array(waiting, 32 * height, new);
 }

@@ -17,7 +17,7 @@ pub fn node_in(deal: &[u8], tree: &[u8], level: usize, position: usize) -> [u8; 
     ensures { result ≡ tree_nodes deal.now tree.now level position }
 {
     if level == 0 {
-        return octets::node_at(deal, position * 32);
+        return octets::array_at(deal, position * 32);
     }
-    octets::node_at(tree, node_place(deal.len(), level, position))
+    octets::array_at(tree, node_place(deal.len(), level, position))
 }

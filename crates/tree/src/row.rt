@@ -55,7 +55,7 @@ fn renew_node(deal: &[u8], tree: &mut [u8], below: usize, position: usize)
     let left = node_in(deal, tree, below, position * 2);
     let right = node_in(deal, tree, below, position * 2 + 1);
     let at = node_place(deal.len(), below + 1, position);
-    octets::put_node(tree, at, node_hash(join(left, right)));
+    octets::put_array(tree, at, node_hash(join(left, right)));
 }
 
 // The same for `count` positions from `first` on, one after the other.

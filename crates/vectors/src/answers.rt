@@ -306,8 +306,8 @@ fn compare(rt: &impl Print, position: u64, a: &[u8], b: &[u8]) -> io::Result<()>
     if a.len() < 32 {
         return Ok(());
     }
-    let x = octets::node_at(a, 0);
-    let y = octets::node_at(b, 0);
+    let x = octets::array_at(a, 0);
+    let y = octets::array_at(b, 0);
     let seen = Compared {
         differs: false,
         left: [0u8; 64],

@@ -46,7 +46,7 @@ pub(crate) fn write_32_bytes(written: bool, bytes: [u8; 32], output: &mut [u8])
     ensures { output.new ≡ choose written bytes output.old }
 {
     if written {
-        octets::put_node(output, 0, bytes);
+        octets::put_array(output, 0, bytes);
     }
 }
 
@@ -56,7 +56,7 @@ pub(crate) fn write_64_bytes(written: bool, bytes: [u8; 64], output: &mut [u8])
     ensures { output.new ≡ choose written bytes output.old }
 {
     if written {
-        octets::put_pair(output, 0, bytes);
+        octets::put_array(output, 0, bytes);
     }
 }
 

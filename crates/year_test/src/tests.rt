@@ -38,7 +38,7 @@ fn alike(deal: &[u8], a: Slot, b: Slot) -> bool {
     if a.size != b.size {
         return false;
     }
-    octets::same(part(deal, a.offset, a.size), part(deal, b.offset, b.size))
+    part(deal, a.offset, a.size) == part(deal, b.offset, b.size)
 }
 
 // Whether of two standing areas one ends by the start of the other.

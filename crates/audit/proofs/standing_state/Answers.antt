@@ -1,6 +1,6 @@
 use Rattle.std.proofs.Common.{sym, ap, ◌∙◌, not, arith}
 use Rattle.std.proofs.lemmas.Bool.{not-true, not-false}
-use Rattle.rules.specs.declared.Found.{Found}
+use Rattle.std.proofs.Common.{Option}
 use Rattle.room.specs.Room.{is_missing}
 use Rattle.audit.specs.SlotStateLaws.{state_3, state_4, state_5}
 use Rattle.audit.proofs.Judged.{usable, few, slot_in, ends, overlaps_same, read_kept, read_not_kept}
@@ -32,7 +32,7 @@ pub returns-in_default : goal.returns-in_default
 returns-in_default c =
     let g = c.requires.gathered in
     let overlaps = sym (overlaps_same g.0 c.args.i g.1)
-    ∙ ap (λ (f : Found). not (is_missing f)) (sym c.lowest_overlap.ensures ∙ c.in_default.is) in
+    ∙ ap (λ (f : Option ℕ). not (is_missing f)) (sym c.lowest_overlap.ensures ∙ c.in_default.is) in
     sym ((state_3 c.args.deal.now c.args.i).1 (c.requires.place_value.1, overlaps))
 
 pub kept_at-row-requires : goal.kept_at-row-requires
@@ -45,7 +45,7 @@ returns-then-not-row c =
     let g = c.requires.gathered in
     let p = c.requires.place_value in
     let overlaps = sym (overlaps_same g.0 c.args.i g.1)
-    ∙ ap (λ (f : Found). not (is_missing f)) (sym c.lowest_overlap.ensures ∙ c.in-Missing.is) in
+    ∙ ap (λ (f : Option ℕ). not (is_missing f)) (sym c.lowest_overlap.ensures ∙ c.in-None.is) in
     let other = read_not_kept c.args.deal.now c.args.i c.args.place c.kept_at-row.result p.0 c.kept_at-row.ensures
     (not-true _ c.if-not-row.true) in
     sym ((state_4 c.args.deal.now c.args.i).1 (p.1, overlaps, other))
@@ -55,7 +55,7 @@ returns c =
     let g = c.requires.gathered in
     let p = c.requires.place_value in
     let overlaps = sym (overlaps_same g.0 c.args.i g.1)
-    ∙ ap (λ (f : Found). not (is_missing f)) (sym c.lowest_overlap.ensures ∙ c.in-Missing.is) in
+    ∙ ap (λ (f : Option ℕ). not (is_missing f)) (sym c.lowest_overlap.ensures ∙ c.in-None.is) in
     let own = read_kept c.args.deal.now c.args.i c.args.place c.kept_at-row.result p.0 c.kept_at-row.ensures
     (not-false _ c.if-not-row.false) in
     sym ((state_5 c.args.deal.now c.args.i).1 (own, overlaps))

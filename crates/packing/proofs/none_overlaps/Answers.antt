@@ -2,7 +2,7 @@ use mathlib.Core.Path.{sym, ap, ◌∙◌}
 use mathlib.Core.Bool.{not}
 use native.Mathlib.Omega.{arith}
 use borrow.Author.Rules.{rules}
-use Rattle.rules.specs.declared.Found.{Found}
+use Rattle.std.proofs.Common.{Option}
 use Rattle.rules.specs.SearchLaws.{lowest_start, found_here, found_later, found_nowhere}
 use Rattle.room.specs.Room.{ranges_in, is_missing}
 use Rattle.packing.specs.Order.{overlaps_lower, none_overlaps}
@@ -21,14 +21,14 @@ returns-in_default c =
     let a = c.args in
     ap is_missing
     (found_here (overlaps_lower (ranges_in a.ranges)) a.slots c.loop-i.i c.loop-i.invariant.1 (omega arith)
-    (ap (λ (f : Found). not (is_missing f)) (sym c.lowest_overlap.ensures ∙ c.in_default.is)))
+    (ap (λ (f : Option ℕ). not (is_missing f)) (sym c.lowest_overlap.ensures ∙ c.in_default.is)))
 
 pub loop-i-preserved : goal.loop-i-preserved
 loop-i-preserved c =
     let a = c.args in (
       search rules,
       found_later (overlaps_lower (ranges_in a.ranges)) a.slots c.loop-i.i c.loop-i.invariant.1 (omega arith)
-          (ap (λ (f : Found). not (is_missing f)) (sym c.lowest_overlap.ensures ∙ c.in-Missing.is)),
+          (ap (λ (f : Option ℕ). not (is_missing f)) (sym c.lowest_overlap.ensures ∙ c.in-None.is)),
     )
 
 pub returns : goal.returns

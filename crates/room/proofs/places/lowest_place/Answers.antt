@@ -1,13 +1,13 @@
 use mathlib.Core.Path.{◌≡◌, sym, ap, ◌∙◌}
 use Prim.Native.Nat.{ℕ, ◌*◌, ◌/◌, ◌<◌}
 use native.Mathlib.Omega.{arith}
-use Rattle.rules.specs.declared.Found.TheVariants.{At}
+use Rattle.std.proofs.Common.{Some}
 use Rattle.rules.specs.SearchLaws.{lowest_start, found_here, found_nowhere}
 use Rattle.room.specs.Room.{ranges_in, is_missing, lowest_overlap}
 use Rattle.room.specs.RoomLaws.{met_below, jump_on, jump}
 use Rattle.room.specs.OverlapLaws.{place_ends}
 use Rattle.room.specs.declared.Ranges.{Ranges}
-use Rattle.rules.specs.declared.Found.{Found}
+use Rattle.std.proofs.Common.{Option}
 use Rattle.room.proofs.places.lowest_place.Invariants.{fits_at}
 use Rattle.room.proofs.places.lowest_place.Goals as goal
 
@@ -35,30 +35,30 @@ returns-in_default c =
     (ap is_missing (sym c.lowest_overlap.ensures ∙ c.in_default.is))
 
 -- a turn that meets a slot: it is below the count of slots
-below : (r : Ranges) (slots area k i : ℕ) (x : Found) → 0 < area → x ≡ lowest_overlap (ranges_in r) slots (k * area) area
-    → x ≡ At i → i < slots
+below : (r : Ranges) (slots area k i : ℕ) (x : Option ℕ) → 0 < area → x ≡ lowest_overlap (ranges_in r) slots (k * area) area
+    → x ≡ Some i → i < slots
 below r slots area k i x p e f = met_below (ranges_in r) slots area k i p (sym e ∙ f)
 
 pub offset_bounds-ranges-i : goal.offset_bounds-ranges-i
-offset_bounds-ranges-i c = let h = below c.args.ranges c.args.slots c.args.area c.loop-k.k c.in-At.i _ c.requires.1.0 c.lowest_overlap.ensures c.in-At.is in omega arith
+offset_bounds-ranges-i c = let h = below c.args.ranges c.args.slots c.args.area c.loop-k.k c.in-Some.i _ c.requires.1.0 c.lowest_overlap.ensures c.in-Some.is in omega arith
 
 pub bounds-ranges-i : goal.bounds-ranges-i
-bounds-ranges-i c = let h = below c.args.ranges c.args.slots c.args.area c.loop-k.k c.in-At.i _ c.requires.1.0 c.lowest_overlap.ensures c.in-At.is in omega arith
+bounds-ranges-i c = let h = below c.args.ranges c.args.slots c.args.area c.loop-k.k c.in-Some.i _ c.requires.1.0 c.lowest_overlap.ensures c.in-Some.is in omega arith
 
 pub offset_bounds-ranges-i-in-loop-k : goal.offset_bounds-ranges-i-in-loop-k
-offset_bounds-ranges-i-in-loop-k c = let h = below c.args.ranges c.args.slots c.args.area c.loop-k.k c.in-At.i _ c.requires.1.0 c.lowest_overlap.ensures c.in-At.is in omega arith
+offset_bounds-ranges-i-in-loop-k c = let h = below c.args.ranges c.args.slots c.args.area c.loop-k.k c.in-Some.i _ c.requires.1.0 c.lowest_overlap.ensures c.in-Some.is in omega arith
 
 pub bounds-ranges-i-in-loop-k : goal.bounds-ranges-i-in-loop-k
-bounds-ranges-i-in-loop-k c = let h = below c.args.ranges c.args.slots c.args.area c.loop-k.k c.in-At.i _ c.requires.1.0 c.lowest_overlap.ensures c.in-At.is in omega arith
+bounds-ranges-i-in-loop-k c = let h = below c.args.ranges c.args.slots c.args.area c.loop-k.k c.in-Some.i _ c.requires.1.0 c.lowest_overlap.ensures c.in-Some.is in omega arith
 
 pub overflow_add-end : goal.overflow_add-end
 overflow_add-end c =
-    let e = c.requires.3 c.in-At.i (below c.args.ranges c.args.slots c.args.area c.loop-k.k c.in-At.i _ c.requires.1.0 c.lowest_overlap.ensures c.in-At.is) in
+    let e = c.requires.3 c.in-Some.i (below c.args.ranges c.args.slots c.args.area c.loop-k.k c.in-Some.i _ c.requires.1.0 c.lowest_overlap.ensures c.in-Some.is) in
     omega arith
 
 pub overflow_add-k : goal.overflow_add-k
 overflow_add-k c =
-    let e = c.requires.3 c.in-At.i (below c.args.ranges c.args.slots c.args.area c.loop-k.k c.in-At.i _ c.requires.1.0 c.lowest_overlap.ensures c.in-At.is) in
+    let e = c.requires.3 c.in-Some.i (below c.args.ranges c.args.slots c.args.area c.loop-k.k c.in-Some.i _ c.requires.1.0 c.lowest_overlap.ensures c.in-Some.is) in
     omega arith
 
 pub overflow_sub-k : goal.overflow_sub-k
@@ -70,16 +70,16 @@ nonzero_div-k c = omega arith
 pub loop-k-smaller : goal.loop-k-smaller
 loop-k-smaller c =
     let a = c.args in
-    let met = sym c.lowest_overlap.ensures ∙ c.in-At.is in
-    let on = jump_on (ranges_in a.ranges) a.slots a.area c.loop-k.k c.in-At.i c.requires.1.0 met in
+    let met = sym c.lowest_overlap.ensures ∙ c.in-Some.is in
+    let on = jump_on (ranges_in a.ranges) a.slots a.area c.loop-k.k c.in-Some.i c.requires.1.0 met in
     omega arith
 
 pub loop-k-preserved : goal.loop-k-preserved
 loop-k-preserved c =
     let a = c.args in
-    let met = sym c.lowest_overlap.ensures ∙ c.in-At.is in
+    let met = sym c.lowest_overlap.ensures ∙ c.in-Some.is in
     c.loop-k.invariant
-    ∙ jump (ranges_in a.ranges) a.slots a.area c.loop-k.k c.in-At.i c.requires.1.0 met
+    ∙ jump (ranges_in a.ranges) a.slots a.area c.loop-k.k c.in-Some.i c.requires.1.0 met
     (a.limit / a.area)
 
 pub returns : goal.returns
