@@ -4,9 +4,9 @@ use borrow.Author.Tests.{lt-leb}
 use Rattle.sha256.specs.Fips.{sha256}
 use Rattle.sha256.proofs.sha256.Goals as goal
 
-pub returns-then-message-le16777216 : goal.returns-then-message-le16777216
+pub returns : goal.returns
 unfolding sha256
-returns-then-message-le16777216 c = simp (le-leb _ _ c.if-message-le16777216.true, c.digest-digest.ensures, c.hash_value.ensures)
+returns c = simp (le-leb _ _ c.if-message-gt16777216.false, c.digest.ensures, c.hash_value.ensures)
 
-pub returns-else-message-le16777216 : goal.returns-else-message-le16777216
-returns-else-message-le16777216 c = simp (lt-leb _ _ c.if-message-le16777216.false)
+pub returns-then-message-gt16777216 : goal.returns-then-message-gt16777216
+returns-then-message-gt16777216 c = simp (lt-leb _ _ c.if-message-gt16777216.true)
