@@ -1,4 +1,1 @@
-pub mod EqualityLoops
-pub mod CopyLoops
-pub mod NumberLoops
 pub mod Filling

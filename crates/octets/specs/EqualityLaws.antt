@@ -1,8 +1,24 @@
 -- What the tests on byte strings say.
 use Rattle.std.specs.Prelude.{◌≡◌, refl, Bool, true, false, ◌&&◌, ℕ, List, [], ◌∷◌, ◌++◌, eqb, length, replicate}
 use Rattle.std.proofs.Common.{sym, ap, ap₂, ◌∙◌, true≢false, arith, eqb-true, eq-eqb}
+use Rattle.std.specs.Prelude.{nat_eq}
+use Rattle.std.specs.Cmp.Lexicographic.{pointwise}
+use Rattle.std.specs.List.{list_all}
 use Rattle.octets.specs.Equality.{same_bytes, all_zero}
 use Rattle.rules.specs.RefusalLaws.{and_left, and_right}
+
+-- the words of std's `==` and `all`
+pub pointwise_same : (v w : List ℕ) → pointwise nat_eq v w ≡ same_bytes v w
+unfolding same_bytes
+pointwise_same [] [] = refl
+pointwise_same [] (y ∷ ys) = refl
+pointwise_same (x ∷ xs) [] = refl
+pointwise_same (x ∷ xs) (y ∷ ys) = ap (λ (b : Bool). eqb x y && b) (pointwise_same xs ys)
+
+pub all_zeros : (v : List ℕ) → list_all (λ (x : ℕ). eqb x 0) v ≡ all_zero v
+unfolding all_zero
+all_zeros [] = refl
+all_zeros (x ∷ xs) = ap (λ (b : Bool). eqb x 0 && b) (all_zeros xs)
 
 pub same_true : (v w : List ℕ) → same_bytes v w ≡ true → v ≡ w
 unfolding same_bytes

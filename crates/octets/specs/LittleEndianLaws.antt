@@ -2,8 +2,28 @@
 use Rattle.std.specs.Prelude.{◌≡◌, refl, ℕ, zero, suc, ◌+◌, ◌*◌, ◌/◌, ◌%◌, ◌^◌, ◌<◌, List, [], ◌∷◌, length}
 use Rattle.std.proofs.Common.{ap, ap₂, ◌∙◌, pow-suc, div-lt_iff_lt-mul, arith, lit<}
 use Rattle.std.proofs.Math.Nat.{mod-add-div}
+use Rattle.std.specs.Prelude.{get_or}
+use Rattle.std.specs.Int.{w64, byte_at, bytes_low_first, to_le_bytes, from_le_bytes}
+use Rattle.std.proofs.Common.{sym}
+use Rattle.std.proofs.Math.Nat.{div-one, div-div-eq-div-mul}
+use Rattle.std.proofs.lemmas.Nat.{le_bytes_8}
 use Rattle.octets.specs.Bytes.{Bytes}
 use Rattle.octets.specs.LittleEndian.{number_of, bytes_of}
+
+-- std's words for the same bytes
+byte_here : (i v : ℕ) → byte_at i v ≡ v / 256 ^ i % 256
+byte_here zero v = ap (λ (x : ℕ). x % 256) (sym (div-one v))
+byte_here (suc i) v = refl
+
+low_bytes : (i n v : ℕ) → bytes_low_first i n v ≡ bytes_of n (v / 256 ^ i)
+unfolding bytes_of
+low_bytes i zero v = refl
+low_bytes i (suc n) v =
+    let next : v / 256 ^ suc i ≡ v / 256 ^ i / 256 = ap (λ (x : ℕ). v / x) (pow-suc 256 i) ∙ sym (div-div-eq-div-mul v (256 ^ i) 256) in
+    ap₂ ◌∷◌ (byte_here i v) (low_bytes (suc i) n v ∙ ap (bytes_of n) next)
+
+pub le_bytes_of : (v : ℕ) → to_le_bytes w64 v ≡ bytes_of 8 v
+le_bytes_of v = low_bytes 0 8 v ∙ ap (bytes_of 8) (div-one v)
 
 pub length_bytes_of : (n v : ℕ) → length (bytes_of n v) ≡ n
 unfolding bytes_of
@@ -44,3 +64,12 @@ number_bound (suc n) (x ∷ xs) l h =
     let r : number_of xs < 256 ^ n = number_bound n xs (omega arith) h.1 in
     let p = pow-suc 256 n in
     omega arith
+
+each_byte : (xs : List ℕ) → Bytes xs → (i : ℕ) → get_or xs i 0 < 256
+each_byte [] b i = omega arith
+each_byte (x ∷ xs) b zero = b.0
+each_byte (x ∷ xs) b (suc i) = each_byte xs b.1 i
+
+pub le_number_of : (xs : List ℕ) (v : ℕ) → length xs ≡ 8 → Bytes xs → v < 2 ^ 64 → v ≡ from_le_bytes w64 xs → v ≡ number_of xs
+le_number_of xs v l h f e =
+    sym (number_of_bytes 8 v f) ∙ ap number_of (sym (le_bytes_of v) ∙ le_bytes_8 xs v l (each_byte xs h) e)

@@ -8,27 +8,27 @@ ghost use Rattle.rules.specs.Answers.{number, code_of};
 #[derive(Clone, Copy, Debug, PartialEq, Eq)]
 pub enum Refusal {
     CommitmentLength, // 1
-    Size,             // 2
-    Form,             // 3
-    SegmentSize,      // 4
-    Offset,           // 5
-    Place,            // 6
-    PathLength,       // 7
-    CommitmentBits,   // 8
-    SegmentPath,      // 9
-    EntryPath,        // 10
-    StrayBits,        // 11
-    Output,           // 12
-    NoSlot,           // 13
-    NoPlace,          // 14
-    NotKept,          // 16
-    OtherPlace,       // 18
-    PathBits,         // 19
-    Overlap,          // 20
-    DealNumber,       // 21
-    Quota,            // 22
-    House,            // 23
-    SegmentLength,    // 24
+    Size, // 2
+    Form, // 3
+    SegmentSize, // 4
+    Offset, // 5
+    Place, // 6
+    PathLength, // 7
+    CommitmentBits, // 8
+    SegmentPath, // 9
+    EntryPath, // 10
+    StrayBits, // 11
+    Output, // 12
+    NoSlot, // 13
+    NoPlace, // 14
+    NotKept, // 16
+    OtherPlace, // 18
+    PathBits, // 19
+    Overlap, // 20
+    DealNumber, // 21
+    Quota, // 22
+    House, // 23
+    SegmentLength, // 24
 }
 
 impl Refusal {
