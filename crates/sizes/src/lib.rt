@@ -40,7 +40,7 @@ pub fn deal_size_allowed(d: u64) -> bool
 pub fn lent_size_allowed(d: usize) -> bool
     ensures { result ≡ lent_size_allowed d }
 {
-    SMALLEST_LENT_DEAL <= d && (d <= LARGEST_LENT_DEAL && pow2::is_power_of_two_usize(d))
+    SMALLEST_LENT_DEAL <= d && (d <= LARGEST_LENT_DEAL && pow2::is_power_of_two(d as u64))
 }
 
 // The bytes that a segment of a size takes up in the deal: the smallest power of two at or above both the size and 128,

@@ -82,7 +82,7 @@ fn take_block(partial: &mut [u8], waiting: &mut [u8], count: u64, block: &[u8]) 
         return false;
     }
     let size = block.len();
-    let height = (pow2::log2_usize(size) - 5) as usize;
+    let height = (pow2::log2(size as u64) - 5) as usize;
     let root = merkle::root_with_last_path(block, height, waiting);
     add_node(waiting, height, count / (size as u64), root);
     octets::put_array(partial, 0, octets::array_at(block, size - 32));
