@@ -6,7 +6,7 @@ use Rattle.std.specs.Int.Count.{count_trailing_zeros}
 use Rattle.octets.specs.Bytes.{Bytes}
 use Rattle.pow2.specs.PowerLaws.{ones_pow}
 use Rattle.fr32.specs.Padding.{segment_length}
-use Rattle.sizes.specs.declared.IndexNumbers.{IndexNumbers}
+use Rattle.sizes.specs.Numbers.{IndexNumbers}
 use Rattle.sizes.specs.Numbers.{index_numbers}
 use Rattle.sizes.specs.Sizes.{deal_size_allowed, segment_size_allowed, offset_allowed, place_allowed, area, doubled_to}
 use Rattle.sizes.specs.Sizes.{entry_count, index_start, deal_level, segment_level}

@@ -1,2 +1,2 @@
 pub mod OffsetTest
-pub mod Doubling
+pub mod NextPower

@@ -5,12 +5,13 @@ ghost use Rattle.std.specs.Prelude.{◌≡◌, true, ◌≤◌, ◌<◌};
 ghost use Rattle.sizes.specs.Sizes.{deal_size_allowed, lent_size_allowed, area, segment_size_allowed, entry_count};
 ghost use Rattle.sizes.specs.Sizes.{index_start, offset_allowed, place_allowed, slot_place, deal_level, segment_level};
 ghost use Rattle.sizes.specs.Sizes.{segment_position};
-ghost use Rattle.sizes.specs.Numbers.{index_numbers};
+ghost use Rattle.sizes.specs.Numbers.{index_numbers, numbers_answer};
 
-// The number of entries and the index start for a deal size; zeros with code 2.
-#[derive(Drop)]
+use rules::Refusal;
+
+// The number of entries and the index start of an allowed deal size.
+#[derive(Clone, Copy, Debug, PartialEq, Eq)]
 pub struct IndexNumbers {
-    pub code: u8,
     pub entries: u64,
     pub start: u64,
 }
@@ -19,28 +20,26 @@ const SMALLEST_DEAL: u64 = 512;
 
 const LARGEST_DEAL: u64 = 68719476736; // 2 ^ 36
 
-const SMALLEST_LENT_DEAL: usize = 512;
-
-const LARGEST_LENT_DEAL: usize = 16777216; // 2 ^ 24
+const LARGEST_LENT_DEAL: u64 = 16777216; // 2 ^ 24
 
 const SMALLEST_SEGMENT: u64 = 1;
 
 const SMALLEST_AREA: u64 = 128;
 
-const DOUBLINGS: u64 = 28; // from the smallest area to 2 ^ 35, half of the largest deal
+const LARGEST_AREA: u64 = 34359738368; // 2 ^ 35, half of the largest deal
 
 // Whether a record may be checked against a deal of d bytes: a power of two from 512 to 2 ^ 36.
 pub fn deal_size_allowed(d: u64) -> bool
     ensures { result ≡ deal_size_allowed d }
 {
-    SMALLEST_DEAL <= d && (d <= LARGEST_DEAL && pow2::is_power_of_two(d))
+    pow2::is_power_between(d, SMALLEST_DEAL, LARGEST_DEAL)
 }
 
 // Whether a deal of d bytes may be lent: a power of two from 512 to 2 ^ 24.
 pub fn lent_size_allowed(d: usize) -> bool
     ensures { result ≡ lent_size_allowed d }
 {
-    SMALLEST_LENT_DEAL <= d && (d <= LARGEST_LENT_DEAL && pow2::is_power_of_two(d as u64))
+    pow2::is_power_between(d as u64, SMALLEST_DEAL, LARGEST_LENT_DEAL)
 }
 
 // The bytes that a segment of a size takes up in the deal: the smallest power of two at or above both the size and 128,
@@ -48,16 +47,7 @@ pub fn lent_size_allowed(d: usize) -> bool
 pub fn area(size: u64) -> u64
     ensures { result ≡ area size }
 {
-    let mut taken = SMALLEST_AREA;
-    let mut i: u64 = 0;
-    while i < DOUBLINGS {
-        if size <= taken {
-            return taken;
-        }
-        taken = 2 * taken;
-        i += 1;
-    }
-    taken
+    size.clamp(SMALLEST_AREA, LARGEST_AREA).next_power_of_two()
 }
 
 // Whether a segment may have this size, before its zero trailer, in a deal of d bytes: from 1 to d / 2.
@@ -71,8 +61,7 @@ pub fn segment_size_allowed(d: u64, size: u64) -> bool
 pub fn entry_count(d: u64) -> u64
     ensures { result ≡ entry_count d }
 {
-    let count = d / 131072;
-    if count < 4 { 4 } else { count }
+    (d / 131072).max(4)
 }
 
 // Where the index of a deal of d bytes starts.
@@ -132,20 +121,15 @@ pub fn segment_position(offset: u64, size: u64) -> u64
     offset / area(size)
 }
 
-// The number of index entries and the index start of a deal of d bytes; 2 for a size that is not allowed.
-pub fn index_numbers(d: u64) -> IndexNumbers
-    ensures { result ≡ index_numbers d }
+// The number of index entries and the index start of a deal of d bytes; a size that is not allowed is refused.
+pub fn index_numbers(d: u64) -> Result<IndexNumbers, Refusal>
+    ensures { numbers_answer result ≡ index_numbers d }
 {
     if !deal_size_allowed(d) {
-        return IndexNumbers {
-            code: 2,
-            entries: 0,
-            start: 0,
-        };
+        return Err(Refusal::Size);
     }
-    IndexNumbers {
-        code: 0,
+    Ok(IndexNumbers {
         entries: entry_count(d),
         start: index_start(d),
-    }
+    })
 }

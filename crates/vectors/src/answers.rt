@@ -68,10 +68,13 @@ fn stream(rt: &impl Print, bytes: &[u8], lengths: &[u8]) -> io::Result<()> {
 }
 
 fn index_numbers(rt: &impl Print, size: u64) -> io::Result<()> {
-    let numbers = sizes::index_numbers(size);
-    show::code(rt, numbers.code)?;
-    show::number(rt, numbers.entries)?;
-    show::number(rt, numbers.start)
+    let (code, entries, start) = match sizes::index_numbers(size) {
+        Ok(numbers) => (0, numbers.entries, numbers.start),
+        Err(refusal) => (refusal.code(), 0, 0),
+    };
+    show::code(rt, code)?;
+    show::number(rt, entries)?;
+    show::number(rt, start)
 }
 
 fn make_entry(rt: &impl Print, commitment: &[u8], offset: u64, size: u64) -> io::Result<()> {

@@ -14,11 +14,14 @@ pub extern "C" fn vz_index_numbers(size: u64, entries: &mut u64, start: &mut u64
     ensures entries_after { entries.new ≡ lent_output result (index_numbers size).entries entries.old }
     ensures start_after { start.new ≡ lent_output result (index_numbers size).start start.old }
 {
-    let answer = sizes::index_numbers(size);
-    let written = answer.code == 0;
-    write_u64(written, answer.entries, entries);
-    write_u64(written, answer.start, start);
-    answer.code as u32
+    match sizes::index_numbers(size) {
+        Ok(numbers) => {
+            *entries = numbers.entries;
+            *start = numbers.start;
+            0
+        }
+        Err(refusal) => refusal.code() as u32,
+    }
 }
 
 // The entry for a commitment and two numbers.

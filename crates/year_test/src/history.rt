@@ -131,7 +131,7 @@ fn comes_first(a: BookedSegment, b: BookedSegment) -> bool {
 // and from the first slot of a deal of this many bytes on.
 fn moved_one(size: u64, bookings: Bookings, b: BookedSegment) -> BookedSegment {
     let mut offset: u64 = 0;
-    let mut place = sizes::index_numbers(size).start;
+    let mut place = sizes::index_numbers(size).map_or(0, |numbers| numbers.start);
     for other in &bookings {
         let first = other.booked && comes_first(*other, b);
         offset = offset.wrapping_add(counted(first, area_of(*other)));

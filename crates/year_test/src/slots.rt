@@ -42,7 +42,7 @@ fn vacant() -> Slot {
 fn slot_of(deal: &[u8], i: usize, state: u8, owner: u8) -> Slot
     requires { i < 4 }
 {
-    let start = sizes::index_numbers(deal.len() as u64).start;
+    let start = sizes::index_numbers(deal.len() as u64).map_or(0, |numbers| numbers.start);
     let place = start.wrapping_add(64 * (i as u64));
     let entry = entries::read_entry(part(deal, place, 64));
     Slot {

@@ -1,17 +1,10 @@
-use borrow.Author.Tests.{le-leb, lt-leb}
+use Rattle.std.specs.Prelude.{◌^◌, leb}
+use Rattle.std.proofs.Common.{◌∙◌}
+use Rattle.std.proofs.Math.Bool.{and_assoc}
+use Rattle.pow2.specs.Power.{is_power}
 use Rattle.sizes.specs.Sizes.{lent_size_allowed}
 use Rattle.sizes.proofs.lent_size_allowed.Goals as goal
 
-pub returns-then-d-le-LARGEST_LENT_DEAL : goal.returns-then-d-le-LARGEST_LENT_DEAL
+pub returns : goal.returns
 unfolding lent_size_allowed
-returns-then-d-le-LARGEST_LENT_DEAL c =
-    simp (le-leb _ _ c.if-d-ge-SMALLEST_LENT_DEAL.true, le-leb _ _ c.if-d-le-LARGEST_LENT_DEAL.true)
-    c.is_power_of_two_usize.ensures
-
-pub returns-else-d-le-LARGEST_LENT_DEAL : goal.returns-else-d-le-LARGEST_LENT_DEAL
-unfolding lent_size_allowed
-returns-else-d-le-LARGEST_LENT_DEAL c = simp (le-leb _ _ c.if-d-ge-SMALLEST_LENT_DEAL.true, lt-leb _ _ c.if-d-le-LARGEST_LENT_DEAL.false)
-
-pub returns-else-d-ge-SMALLEST_LENT_DEAL : goal.returns-else-d-ge-SMALLEST_LENT_DEAL
-unfolding lent_size_allowed
-returns-else-d-ge-SMALLEST_LENT_DEAL c = simp (lt-leb _ _ c.if-d-ge-SMALLEST_LENT_DEAL.false)
+returns c = let d = c.args.d in c.is_power_between.ensures ∙ and_assoc (leb 512 d) (leb d (2 ^ 24)) (is_power d)
