@@ -4,9 +4,8 @@ use borrow.Author.Tests.{lt-leb}
 use Rattle.rules.specs.RefusalLaws.{and_right}
 use Rattle.octets.specs.Splice.{splice}
 use Rattle.fr32.specs.Padding.{raw_length_allowed, segment_length, padded, unpadded, only_raw_bits}
-use Rattle.fr32.specs.Answers.{refused, written, pad_code, pad_answer, pad_output, unpad_code, unpad_answer}
+use Rattle.fr32.specs.Answers.{Written, refused, written, pad_code, pad_answer, pad_output, unpad_code, unpad_answer}
 use Rattle.fr32.specs.Answers.{unpad_output}
-use Rattle.fr32.specs.declared.Written.{Written}
 
 pub largest_raw : (n : ℕ) → raw_length_allowed n ≡ true → n ≤ 8323072
 largest_raw n e = leb-true n 8323072 (and_right (leb 1 n) (leb n 8323072) e)

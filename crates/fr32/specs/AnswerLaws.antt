@@ -8,10 +8,9 @@ use Rattle.rules.specs.Refusals.{unless_refused}
 use Rattle.rules.specs.RefusalLaws.{none_refused, all_passed}
 use Rattle.octets.specs.Splice.{part, splice}
 use Rattle.octets.specs.SpliceLaws.{part_written}
-use Rattle.fr32.specs.declared.Written.{Written}
 use Rattle.fr32.specs.Padding.{raw_length_allowed, segment_length, padded, only_raw_bits}
 use Rattle.fr32.specs.PaddingLaws.{length_padded}
-use Rattle.fr32.specs.Answers.{refused, written}
+use Rattle.fr32.specs.Answers.{Written, refused, written}
 use Rattle.fr32.specs.Answers.{pad_rules, pad_code, pad_answer, pad_output, unpad_answer}
 use Rattle.fr32.specs.Answers.{unpad_output}
 

@@ -1,16 +1,26 @@
 -- What the public routines answer and write (document 02, request (iv)). The rest of the output stays; nothing changes
 -- on a refusal.
-use Rattle.std.specs.Prelude.{ℕ, List, [], ◌∷◌, length, ◌==◌, nat_le}
+use Rattle.std.specs.Prelude.{ℕ, List, [], ◌∷◌, length, ◌==◌, nat_le, Result}
+use Rattle.rules.specs.declared.Refusal.{Refusal}
+use Rattle.rules.specs.Answers.{answered}
 use Rattle.rules.specs.Refusals.{Rule, rule, first_refusal, unless_refused}
 use Rattle.octets.specs.Splice.{splice}
 use Rattle.fr32.specs.Padding.{raw_length_allowed, segment_length, padded, unpadded, only_raw_bits}
-use Rattle.fr32.specs.declared.Written.{Written}
+
+-- a code, and the number of bytes written beside it
+pub record Written : Type 0 where
+  pub code : ℕ
+  pub length : ℕ
 
 abbrev pub refused : ℕ → Written
 refused code = record { code = code; length = 0 }
 
 abbrev pub written : ℕ → Written
 written n = record { code = 0; length = n }
+
+-- the answer that a result stands for
+abbrev pub written_answer : Result ℕ Refusal → Written
+written_answer = answered written refused
 
 -- inward: 2, 12
 abbrev pub pad_rules : List ℕ → List ℕ → List Rule

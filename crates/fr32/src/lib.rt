@@ -12,20 +12,6 @@ ghost use Rattle.fr32.specs.Padding.{raw_length_allowed, segment_length};
 pub use padding::pad;
 pub use unpadding::unpad;
 
-// The number of bytes written; 0 on a refusal.
-#[derive(Drop)]
-pub struct Written {
-    pub code: u8,
-    pub length: usize,
-}
-
-// A refusal.
-fn refused(code: u8) -> Written
-    ensures { result ≡ record { code = code; length = 0 } }
-{
-    Written { code, length: 0 }
-}
-
 const LARGEST_RAW: u64 = 8323072; // its segment has 2^23 bytes
 
 // Whether an archive may have n raw bytes.

@@ -3,11 +3,12 @@ ghost use Rattle.std.specs.Prelude.{◌≡◌, ◌+◌, ◌*◌, ◌/◌, ◌<�
 ghost use Rattle.octets.specs.LittleEndian.{bytes_of};
 ghost use Rattle.octets.specs.Splice.{part, splice};
 ghost use Rattle.fr32.specs.Padding.{segment_length, padded};
-ghost use Rattle.fr32.specs.Answers.{pad_answer, pad_output};
+ghost use Rattle.fr32.specs.Answers.{written_answer, pad_answer, pad_output};
 
 use crate::bits::{across, byte_at};
 use crate::words::{LAST_WORD, across_words};
-use crate::{Written, raw_length_allowed, refused, segment_length};
+use crate::{raw_length_allowed, segment_length};
+use rules::Refusal;
 
 // Byte q of the segment: the eight data bits from its first on; byte 31 of a node has six.
 fn segment_byte(raw: &[u8], q: usize) -> u8
@@ -84,18 +85,18 @@ fn write_segment(raw: &[u8], output: &mut [u8])
 }
 
 // Writes the segment of raw bytes into the first bytes of `output`, and answers its length; the rest of `output` stays.
-// 2 for a raw length that is not allowed, 12 for an output shorter than the segment: then nothing is written.
-pub fn pad(raw: &[u8], output: &mut [u8]) -> Written
-    ensures { (result ≡ pad_answer raw.now output.old)
+// Size: the raw length is not allowed. Output: it is shorter than the segment. Then nothing is written.
+pub fn pad(raw: &[u8], output: &mut [u8]) -> Result<usize, Refusal>
+    ensures { (written_answer result ≡ pad_answer raw.now output.old)
         × (output.new ≡ pad_output raw.now output.old) }
 {
     if !raw_length_allowed(raw.len() as u64) {
-        return refused(2);
+        return Err(Refusal::Size);
     }
     let length = segment_length(raw.len());
     if output.len() < length {
-        return refused(12);
+        return Err(Refusal::Output);
     }
     write_segment(raw, output);
-    Written { code: 0, length }
+    Ok(length)
 }

@@ -2,11 +2,12 @@
 ghost use Rattle.std.specs.Prelude.{◌≡◌, ◌+◌, ◌*◌, ◌/◌, ◌%◌, ◌^◌, ◌≤◌, length, take, drop};
 ghost use Rattle.octets.specs.Splice.{splice};
 ghost use Rattle.fr32.specs.Padding.{segment_length, data_of, unpadded, only_raw_bits};
-ghost use Rattle.fr32.specs.Answers.{unpad_answer, unpad_output};
+ghost use Rattle.fr32.specs.Answers.{written_answer, unpad_answer, unpad_output};
 
 use crate::bits::{across, across_nodes, byte_at};
 use crate::words::{across_node_words, across_words};
-use crate::{Written, raw_length_allowed, refused, segment_length};
+use crate::{raw_length_allowed, segment_length};
+use rules::Refusal;
 
 // Eight data bits of the segment, from bit 8 p on: raw byte p.
 fn raw_byte(segment: &[u8], p: usize) -> u8
@@ -93,26 +94,26 @@ fn write_raw(n: usize, segment: &[u8], output: &mut [u8])
 }
 
 // Writes the raw bytes of a segment, as many as the caller names, into the first bytes of `output`, and answers their
-// number; the rest of `output` stays. 2 for a raw length that is not allowed, 24 for a segment of another length than
-// that gives, 11 for stray bits or bits after the last raw bit, 12 for an output shorter than the raw bytes: then
-// nothing is written.
-pub fn unpad(raw_length: u64, segment: &[u8], output: &mut [u8]) -> Written
-    ensures { (result ≡ unpad_answer raw_length segment.now output.old)
+// number; the rest of `output` stays. Size: the raw length is not allowed. SegmentLength: the segment has another length
+// than that gives. StrayBits: it has stray bits, or bits after the last raw bit. Output: it is shorter than the raw
+// bytes. Then nothing is written.
+pub fn unpad(raw_length: u64, segment: &[u8], output: &mut [u8]) -> Result<usize, Refusal>
+    ensures { (written_answer result ≡ unpad_answer raw_length segment.now output.old)
         × (output.new ≡ unpad_output raw_length segment.now output.old) }
 {
     if !raw_length_allowed(raw_length) {
-        return refused(2);
+        return Err(Refusal::Size);
     }
     let n = raw_length as usize;
     if segment.len() != segment_length(n) {
-        return refused(24);
+        return Err(Refusal::SegmentLength);
     }
     if !only_raw_bits(n, segment) {
-        return refused(11);
+        return Err(Refusal::StrayBits);
     }
     if output.len() < n {
-        return refused(12);
+        return Err(Refusal::Output);
     }
     write_raw(n, segment, output);
-    Written { code: 0, length: n }
+    Ok(n)
 }

@@ -34,10 +34,11 @@ fn show_node_hash(rt: &impl Print, pair: [u8; 64]) -> io::Result<()> {
 fn show_commitment(rt: &impl Print, run: &[u8], size: usize) -> io::Result<()>
     requires { size ≤ length run.now }
 {
-    let answer = merkle::commitment(&run[..size]);
-    let commitment = answer.node;
     print!(rt; "commitment {size} ")?;
-    show(rt, answer.code, commitment)
+    match merkle::commitment(&run[..size]) {
+        Ok(commitment) => show(rt, 0, commitment),
+        Err(refusal) => show(rt, refusal.code(), [0u8; 32]),
+    }
 }
 
 // Bytes below 61, so that no node has stray bits.

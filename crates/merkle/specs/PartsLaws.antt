@@ -19,8 +19,7 @@ use Rattle.stray.specs.StrayBits.{no_stray_bits}
 use Rattle.stray.specs.StrayBitsLaws.{clear_nodes_lem, nodes_clear, part_clear}
 use Rattle.merkle.specs.Tree.{commitment_of, node_at}
 use Rattle.merkle.specs.TreeLaws.{node_split, node_part, node_at_length, within, top_node, commitment_clear}
-use Rattle.merkle.specs.declared.Committed.{Committed}
-use Rattle.merkle.specs.Commitment.{committed, refused}
+use Rattle.merkle.specs.Commitment.{Committed, committed, refused}
 use Rattle.merkle.specs.CommitmentLaws.{accepted, stray_refused}
 use Rattle.merkle.specs.Parts.{node_row, part_of, part_nodes}
 use Rattle.merkle.specs.NodeRowLaws.{row_split, row_length, same_row, row_clear}

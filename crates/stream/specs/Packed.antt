@@ -3,9 +3,8 @@
 use Rattle.std.specs.Prelude.{ℕ, List, ◌∷◌, ◌++◌, get_or, replicate}
 use Rattle.octets.specs.LittleEndian.{number_of, bytes_of}
 use Rattle.octets.specs.Splice.{part}
-use Rattle.stream.specs.Stream.{started, take_piece, ending}
+use Rattle.stream.specs.Stream.{Streamed, started, take_piece, ending}
 use Rattle.stream.specs.declared.Stream.{Stream}
-use Rattle.stream.specs.declared.Streamed.{Streamed}
 
 abbrev pub packed_length : ℕ
 packed_length = 1072

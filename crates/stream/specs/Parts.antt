@@ -1,8 +1,8 @@
 -- The parts that the code takes a piece by, and what it promises of each: the state is what the bytes one by one leave.
-use Rattle.std.specs.Prelude.{◌≡◌, Bool, List, ℕ, ◌+◌, ◌*◌, ◌%◌, ◌^◌, ◌≤◌, ◌<◌, length}
-use Rattle.rules.specs.Choice.{choose}
+use Rattle.std.specs.Prelude.{◌≡◌, ℕ, ◌+◌, ◌*◌, ◌%◌, ◌^◌, ◌≤◌, ◌<◌, Result, Ok, Err}
+use Rattle.rules.specs.declared.Refusal.{Refusal}
+use Rattle.rules.specs.Answers.{number}
 use Rattle.stream.specs.Stream.{largest, failed_with}
-use Rattle.stream.specs.StreamLaws.{running}
 use Rattle.stream.specs.declared.Stream.{Stream}
 
 -- n bytes that come after `count` others are a block: 2 ^ height whole nodes, at least sixteen, and blocks of that size
@@ -20,10 +20,7 @@ pub record Part (count n : ℕ) : Type 0 where
   pub within : n ≤ 32 → count % 32 + n ≤ 32
   pub block : 32 < n → Block count n
 
--- the partial node and the waiting ones
-abbrev pub StateSized : List ℕ → List ℕ → Type 0
-StateSized partial waiting = (length partial ≡ 32) × (length waiting ≡ 1024)
-
--- the state after such bytes, or 11
-abbrev pub unless_stray : Bool → ℕ → List ℕ → List ℕ → Stream
-unless_stray clear count partial waiting = choose clear (running count partial waiting) (failed_with 11)
+-- the state after such bytes, or one in which the code of the refusal sticks
+abbrev pub unless_failed : {A : Type 0} → Result A Refusal → Stream → Stream
+unless_failed (Ok x) s = s
+unless_failed (Err r) s = failed_with (number r)

@@ -1,6 +1,8 @@
 -- The commitment of bytes that arrive in pieces (document 02, request (i)).
 use Rattle.std.specs.Prelude.{ℕ, zero, suc, ◌+◌, ◌-◌, ◌*◌, ◌/◌, ◌%◌, ◌^◌, List, [], ◌∷◌, ◌++◌, length, take, set}
-use Rattle.std.specs.Prelude.{replicate, eqb, ltb}
+use Rattle.std.specs.Prelude.{replicate, eqb, ltb, Result}
+use Rattle.rules.specs.declared.Refusal.{Refusal}
+use Rattle.rules.specs.Answers.{answered}
 use Rattle.rules.specs.Choice.{choose}
 use Rattle.rules.specs.Refusals.{rule, first_refusal, unless_refused}
 use Rattle.octets.specs.Splice.{part, splice}
@@ -9,7 +11,13 @@ use Rattle.node.specs.Node.{node_hash}
 use Rattle.merkle.specs.Tree.{commitment_of}
 use Rattle.stray.specs.StrayBits.{clear_node, no_stray_bits}
 use Rattle.stream.specs.declared.Stream.{Stream}
-use Rattle.stream.specs.declared.Streamed.{Streamed}
+use Rattle.stream.specs.declared.Ended.{Ended}
+
+-- a code, and beside it the commitment and the number of the bytes
+pub record Streamed : Type 0 where
+  pub code : ℕ
+  pub node : List ℕ
+  pub count : ℕ
 
 -- the largest number of bytes
 abbrev pub largest : ℕ
@@ -84,6 +92,10 @@ ending s =
     rule (power_between 32 largest s.count) 2 ∷ []))
     refused
     (record { code = 0; node = part s.waiting (32 * (height s.count - 5)) 32; count = s.count })
+
+-- the answer that a result stands for
+abbrev pub ended_answer : Result Ended Refusal → Streamed
+ended_answer = answered (λ e. record { code = 0; node = e.node; count = e.count }) refused
 
 -- the state after several pieces, each state handed on as it came back
 unfoldable pub take_pieces : Stream → List (List ℕ) → Stream

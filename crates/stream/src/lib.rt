@@ -7,27 +7,31 @@ mod parts; // parts.rt: the parts that a piece is taken by
 mod waiting; // waiting.rt: the waiting nodes
 
 ghost use Rattle.std.specs.Prelude.{◌≡◌};
-ghost use Rattle.stream.specs.Stream.{started, take_piece, lasting_code, ending};
+ghost use Rattle.stream.specs.Stream.{started, take_piece, lasting_code, ending, ended_answer};
 ghost use Rattle.stream.specs.Stream as S;
 
 pub use packed::{STATE_LENGTH, pack, unpack};
+use rules::Refusal;
 
 // The largest number of bytes: 2^36.
 const LARGEST: u64 = 68719476736;
 
-// The state. `code` is 0, or the code that sticks until a new start.
+// The bytes of the waiting nodes: 32 for each of 32 heights.
+const WAITING: usize = 1024;
+
+// The state. `code` is 0, or the code that sticks until a new start. It is a byte and no Refusal: `unpacked` makes a
+// state of any bytes, and `packed` gives its code back as it stood.
 #[derive(Drop)]
 pub struct Stream {
     pub code: u8,
     pub count: u64,
     pub partial: [u8; 32],
-    pub waiting: [u8; 1024],
+    pub waiting: [u8; WAITING],
 }
 
-// The answer at the end: code 0, the commitment and the number of bytes; or the code of the refusal and zeros.
-#[derive(Drop)]
-pub struct Streamed {
-    pub code: u8,
+// What the bytes come to at the end: their commitment and their number.
+#[derive(Clone, Copy)]
+pub struct Ended {
     pub node: [u8; 32],
     pub count: u64,
 }
@@ -40,7 +44,7 @@ fn failed_with(code: u8) -> Stream
         code,
         count: 0,
         partial: [0u8; 32],
-        waiting: [0u8; 1024],
+        waiting: [0u8; WAITING],
     }
 }
 
@@ -48,23 +52,10 @@ fn failed_with(code: u8) -> Stream
 pub fn lasting_code(code: u8) -> u8
     ensures { result ≡ lasting_code code }
 {
-    if code == 0 {
-        return 0;
-    }
-    if code == 11 {
-        return 11;
-    }
-    2
-}
-
-// A refusal.
-fn refused(code: u8) -> Streamed
-    ensures { result ≡ S.refused code }
-{
-    Streamed {
-        code,
-        node: [0u8; 32],
-        count: 0,
+    match code {
+        0 => 0,
+        11 => 11,
+        _ => 2,
     }
 }
 
@@ -73,12 +64,7 @@ impl Stream {
     pub fn new() -> Stream
         ensures { result ≡ started }
     {
-        Stream {
-            code: 0,
-            count: 0,
-            partial: [0u8; 32],
-            waiting: [0u8; 1024],
-        }
+        failed_with(0)
     }
 
     // The state after one more piece, of any length, which is taken by parts.
@@ -88,49 +74,31 @@ impl Stream {
         if self.code != 0 {
             return self;
         }
-        let mut count = self.count;
-        let mut partial = self.partial;
-        let mut waiting = self.waiting;
-        let mut i = 0;
-        while i < piece.len() {
-            if LARGEST <= count {
-                return failed_with(2);
-            }
-            let n = parts::part_length(count, piece.len() - i);
-            if !parts::take_part(&mut partial, &mut waiting, count, &piece[i..i + n]) {
-                return failed_with(11);
-            }
-            count += n as u64;
-            i += n;
+        match self.take_parts(piece) {
+            Ok(()) => self,
+            Err(refusal) => failed_with(refusal.code()),
         }
-        self.count = count;
-        self.partial = partial;
-        self.waiting = waiting;
-        self
     }
 
-    // The answer for all bytes taken so far. Code 2: their number is no power of two from 32 to 2^36. Code 11 where it
-    // stands.
-    pub fn end(self) -> Streamed
-        ensures { result ≡ ending self }
+    // The answer for all bytes taken so far. Size: their number is no power of two from 32 to 2^36. StrayBits: a node
+    // among them has stray bits.
+    pub fn end(self) -> Result<Ended, Refusal>
+        ensures { ended_answer result ≡ ending self }
     {
         if self.code == 11 {
-            return refused(11);
+            return Err(Refusal::StrayBits);
         }
         if self.code != 0 {
-            return refused(2);
+            return Err(Refusal::Size);
         }
-        let count = self.count;
-        if !pow2::is_power_between(count, 32, LARGEST) {
-            return refused(2);
+        if !pow2::is_power_between(self.count, 32, LARGEST) {
+            return Err(Refusal::Size);
         }
-        let height = (pow2::log2(count) - 5) as usize;
-        let waiting = self.waiting;
-        let node = octets::array_at(&waiting, 32 * height);
-        Streamed {
-            code: 0,
+        let height = (pow2::log2(self.count) - 5) as usize;
+        let node = octets::array_at(&self.waiting, 32 * height);
+        Ok(Ended {
             node,
-            count,
-        }
+            count: self.count,
+        })
     }
 }

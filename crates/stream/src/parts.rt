@@ -1,11 +1,11 @@
 // The parts that a piece is taken by: the bytes up to the end of a node, or a block of nodes at once.
 ghost use Rattle.std.specs.Prelude.{◌≡◌, true, ◌+◌, ◌%◌, ◌≤◌, ◌<◌, length};
 ghost use Rattle.stream.specs.Stream.{largest, take_piece};
-ghost use Rattle.stream.specs.StreamLaws.{running};
-ghost use Rattle.stream.specs.Parts.{Block, Part, StateSized, unless_stray};
+ghost use Rattle.stream.specs.Parts.{Block, Part, unless_failed};
 
-use crate::LARGEST;
 use crate::waiting::add_node;
+use crate::{LARGEST, Stream};
+use rules::Refusal;
 
 // Whether a block of `size` bytes can begin here: all of it is there, within the largest number of bytes, and what
 // comes before it is made of such blocks.
@@ -13,13 +13,7 @@ fn block_fits(count: u64, left: usize, size: usize) -> bool
     requires { (0 < size) × (count ≤ largest) }
     ensures { result ≡ true → (size ≤ left) × (count + size ≤ largest) × (count % size ≡ 0) }
 {
-    if left < size {
-        return false;
-    }
-    if LARGEST - count < size as u64 {
-        return false;
-    }
-    count % (size as u64) == 0
+    size <= left && size as u64 <= LARGEST - count && count % (size as u64) == 0
 }
 
 // How many bytes the largest block has that begins here.
@@ -35,7 +29,7 @@ fn block_length(count: u64, left: usize) -> usize
 }
 
 // How many of the next `left` bytes are taken at once.
-pub(crate) fn part_length(count: u64, left: usize) -> usize
+fn part_length(count: u64, left: usize) -> usize
     requires { (count < largest) × (0 < left) }
     ensures { (result ≤ left) × Part count result }
 {
@@ -51,52 +45,69 @@ pub(crate) fn part_length(count: u64, left: usize) -> usize
     rest
 }
 
-// Takes bytes that end within a node, or with it. False: the node is whole and has stray bits.
-fn take_within_node(partial: &mut [u8], waiting: &mut [u8], count: u64, bytes: &[u8]) -> bool
-    requires state_sized { StateSized partial.old waiting.old × (count + length bytes.now ≤ largest) }
-    requires bytes_nonzero { (0 < length bytes.now) × (count % 32 + length bytes.now ≤ 32) }
-    ensures { take_piece (running count partial.old waiting.old) bytes.now
-        ≡ unless_stray result (count + length bytes.now) partial.new waiting.new }
-{
-    let next = count + bytes.len() as u64;
-    octets::put(partial, (count % 32) as usize, bytes);
-    if next % 32 != 0 {
-        return true;
+impl Stream {
+    // Takes bytes that end within a node, or with it. StrayBits: the node is whole and has stray bits.
+    fn take_within_node(&mut self, bytes: &[u8]) -> Result<(), Refusal>
+        requires no_code { (self.old.code ≡ 0) × (self.old.count + length bytes.now ≤ largest) }
+        requires bytes_nonzero { (0 < length bytes.now) × (self.old.count % 32 + length bytes.now ≤ 32) }
+        ensures { take_piece self.old bytes.now ≡ unless_failed result self.new }
+    {
+        octets::put(&mut self.partial, (self.count % 32) as usize, bytes);
+        self.count += bytes.len() as u64;
+        if self.count % 32 != 0 {
+            return Ok(());
+        }
+        if 64 <= self.partial[31] {
+            return Err(Refusal::StrayBits);
+        }
+        add_node(&mut self.waiting, 0, self.count / 32 - 1, self.partial);
+        Ok(())
     }
-    let node = octets::array_at(partial, 0);
-    if 64 <= node[31] {
-        return false;
-    }
-    add_node(waiting, 0, next / 32 - 1, node);
-    true
-}
 
-// Takes a block. False: one of its nodes has stray bits.
-fn take_block(partial: &mut [u8], waiting: &mut [u8], count: u64, block: &[u8]) -> bool
-    requires state_sized { StateSized partial.old waiting.old × (count + length block.now ≤ largest) }
-    requires block { Block count (length block.now) }
-    ensures { take_piece (running count partial.old waiting.old) block.now
-        ≡ unless_stray result (count + length block.now) partial.new waiting.new }
-{
-    if !stray::no_stray_bits(block) {
-        return false;
+    // Takes a block. StrayBits: one of its nodes has stray bits.
+    fn take_block(&mut self, block: &[u8]) -> Result<(), Refusal>
+        requires no_code { (self.old.code ≡ 0) × (self.old.count + length block.now ≤ largest) }
+        requires block { Block self.old.count (length block.now) }
+        ensures { take_piece self.old block.now ≡ unless_failed result self.new }
+    {
+        if !stray::no_stray_bits(block) {
+            return Err(Refusal::StrayBits);
+        }
+        let size = block.len();
+        let height = (pow2::log2(size as u64) - 5) as usize;
+        let root = merkle::root_with_last_path(block, height, &mut self.waiting);
+        add_node(&mut self.waiting, height, self.count / (size as u64), root);
+        self.partial = octets::array_at(block, size - 32);
+        self.count += size as u64;
+        Ok(())
     }
-    let size = block.len();
-    let height = (pow2::log2(size as u64) - 5) as usize;
-    let root = merkle::root_with_last_path(block, height, waiting);
-    add_node(waiting, height, count / (size as u64), root);
-    octets::put_array(partial, 0, octets::array_at(block, size - 32));
-    true
-}
 
-// Takes the next part of a piece. False: a node that it makes whole has stray bits.
-pub(crate) fn take_part(partial: &mut [u8], waiting: &mut [u8], count: u64, bytes: &[u8]) -> bool
-    requires { StateSized partial.old waiting.old × Part count (length bytes.now) }
-    ensures { take_piece (running count partial.old waiting.old) bytes.now
-        ≡ unless_stray result (count + length bytes.now) partial.new waiting.new }
-{
-    if bytes.len() <= 32 {
-        return take_within_node(partial, waiting, count, bytes);
+    // Takes the next part of a piece. StrayBits: a node that it makes whole has stray bits.
+    fn take_part(&mut self, bytes: &[u8]) -> Result<(), Refusal>
+        requires { (self.old.code ≡ 0) × Part self.old.count (length bytes.now) }
+        ensures { take_piece self.old bytes.now ≡ unless_failed result self.new }
+    {
+        if bytes.len() <= 32 {
+            return self.take_within_node(bytes);
+        }
+        self.take_block(bytes)
     }
-    take_block(partial, waiting, count, bytes)
+
+    // Takes a piece by its parts. Size: there are more bytes than the largest number. StrayBits: a node that they make
+    // whole has stray bits.
+    pub(crate) fn take_parts(&mut self, piece: &[u8]) -> Result<(), Refusal>
+        requires { self.old.code ≡ 0 }
+        ensures { take_piece self.old piece.now ≡ unless_failed result self.new }
+    {
+        let mut rest = piece;
+        while !rest.is_empty() {
+            if LARGEST <= self.count {
+                return Err(Refusal::Size);
+            }
+            let (part, later) = rest.split_at(part_length(self.count, rest.len()));
+            self.take_part(part)?;
+            rest = later;
+        }
+        Ok(())
+    }
 }

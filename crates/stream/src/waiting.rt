@@ -6,20 +6,15 @@ use node::node_hash;
 use octets::{array_at, join, put_array};
 
 // One more node of a height that has k nodes already. Each odd number of nodes has one waiting: the left neighbour of
-// the new one.
-pub(crate) fn add_node(waiting: &mut [u8], level: usize, k: u64, node: [u8; 32])
-    requires { (length waiting.old ≡ 1024) × (level ≤ 31) × (k < 2 ^ (31 - level)) }
-    ensures { waiting.new ≡ with_node (32 - level) level k node waiting.old }
+// the new one. The node over the two is one more node of the next height.
+pub(crate) fn add_node(waiting: &mut [u8], height: usize, k: u64, node: [u8; 32])
+    requires { (length waiting.old ≡ 1024) × (height ≤ 31) × (k < 2 ^ (31 - height)) }
+    ensures { waiting.new ≡ with_node (32 - height) height k node waiting.old }
 {
-    let mut height = level;
-    let mut nodes = k;
-    let mut new = node;
-    while nodes % 2 == 1 {
-        let left = array_at(waiting, 32 * height);
-        let parent = node_hash(join(left, new));
-        new = parent;
-        nodes = nodes / 2;
-        height += 1;
+    if k % 2 == 0 {
+        put_array(waiting, 32 * height, node);
+        return;
     }
-    put_array(waiting, 32 * height, new);
+    let left = array_at(waiting, 32 * height);
+    add_node(waiting, height + 1, k / 2, node_hash(join(left, node)));
 }

@@ -1,11 +1,13 @@
 // A row of nodes, or a part of one, written from the row below it: the two stand in slices of their own, so parts of
 // one tree can be filled at the same time.
 ghost use Rattle.std.specs.Prelude.{◌≡◌, ◌+◌, ◌*◌, ◌≤◌, ◌<◌, length, drop};
+ghost use Rattle.rules.specs.Answers.{code_of};
 ghost use Rattle.octets.specs.Splice.{splice};
 ghost use Rattle.lanes.specs.Lanes.{lanes};
 ghost use Rattle.tree.specs.RowAbove.{row_above, row_code, filled_row};
 
 use crate::row::over_pairs;
+use rules::Refusal;
 
 // Writes one to sixteen nodes from position `first` on, all at once.
 fn fill_lanes(below: &[u8], above: &mut [u8], first: usize, count: usize)
@@ -50,18 +52,15 @@ fn fill_part(below: &[u8], above: &mut [u8], first: usize, count: usize)
     fill_part(below, above, first + left, count - left);
 }
 
-// Writes the nodes over the pairs of `below` into `above`. 12 where `below` is no whole number of pairs or `above` not
-// half as long: then nothing is written.
-pub fn fill_row(below: &[u8], above: &mut [u8]) -> u8
-    ensures value { result ≡ row_code below.now above.old }
+// Writes the nodes over the pairs of `below` into `above`. Output: `below` is no whole number of pairs or `above` not
+// half as long. Then nothing is written.
+pub fn fill_row(below: &[u8], above: &mut [u8]) -> Result<(), Refusal>
+    ensures value { code_of result ≡ row_code below.now above.old }
     ensures above_after { above.new ≡ filled_row below.now above.old }
 {
-    if below.len() % 64 != 0 {
-        return 12;
-    }
-    if above.len() != below.len() / 2 {
-        return 12;
+    if below.len() % 64 != 0 || above.len() != below.len() / 2 {
+        return Err(Refusal::Output);
     }
     fill_part(below, above, 0, below.len() / 64);
-    0
+    Ok(())
 }

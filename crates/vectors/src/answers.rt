@@ -7,9 +7,18 @@ use fields::Field;
 use paths::Compared;
 use playback::Verdict;
 use room::Booked;
+use rules::Refusal;
 use settle::Settled;
 use std::io;
 use stream::Stream;
+
+// The code of an answer: 0, or that of the refusal.
+fn refusal_of<T>(answer: &Result<T, Refusal>) -> u8 {
+    match answer {
+        Ok(_) => 0,
+        Err(refusal) => refusal.code(),
+    }
+}
 
 fn hash(rt: &impl Print, message: &[u8]) -> io::Result<()> {
     let hashed = sha256::sha256(message);
@@ -20,9 +29,8 @@ fn hash(rt: &impl Print, message: &[u8]) -> io::Result<()> {
 
 fn commit(rt: &impl Print, run: &[u8]) -> io::Result<()> {
     let committed = merkle::commitment(run);
-    let node = committed.node;
-    show::code(rt, committed.code)?;
-    show::bytes(rt, &node)
+    show::code(rt, refusal_of(&committed))?;
+    show::bytes(rt, &committed.unwrap_or([0u8; 32]))
 }
 
 // Where a piece ends that starts at `at` and has a length, as far as the bytes go.
@@ -59,10 +67,13 @@ fn take_pieces(rt: &impl Print, bytes: &[u8], lengths: &[u8], shown: bool) -> io
 // Bytes that arrive in pieces; then the code that sticks after each piece.
 fn stream(rt: &impl Print, bytes: &[u8], lengths: &[u8]) -> io::Result<()> {
     let answer = take_pieces(rt, bytes, lengths, false)?.end();
-    let node = answer.node;
-    show::code(rt, answer.code)?;
-    show::bytes(rt, &node)?;
-    show::number(rt, answer.count)?;
+    show::code(rt, refusal_of(&answer))?;
+    let ended = answer.unwrap_or(stream::Ended {
+        node: [0u8; 32],
+        count: 0,
+    });
+    show::bytes(rt, &ended.node)?;
+    show::number(rt, ended.count)?;
     let _ = take_pieces(rt, bytes, lengths, true)?;
     Ok(())
 }
@@ -254,7 +265,7 @@ fn fill_tree(rt: &impl Print, deal: &[u8], tree: &mut [u8]) -> io::Result<()> {
 }
 
 fn fill_row(rt: &impl Print, below: &[u8], above: &mut [u8]) -> io::Result<()> {
-    show::code(rt, tree::fill_row(below, above))?;
+    show::code(rt, rules::code_of(tree::fill_row(below, above)))?;
     show::digest(rt, above)
 }
 
@@ -284,12 +295,12 @@ fn build_with_tree(
 
 fn pad(rt: &impl Print, raw: &[u8], out: &mut [u8]) -> io::Result<()> {
     let answer = fr32::pad(raw, out);
-    written(rt, answer.code, answer.length, out)
+    written(rt, refusal_of(&answer), answer.unwrap_or(0), out)
 }
 
 fn unpad(rt: &impl Print, raw_length: u64, segment: &[u8], out: &mut [u8]) -> io::Result<()> {
     let answer = fr32::unpad(raw_length, segment, out);
-    written(rt, answer.code, answer.length, out)
+    written(rt, refusal_of(&answer), answer.unwrap_or(0), out)
 }
 
 fn settled(rt: &impl Print, answer: Settled) -> io::Result<()> {

@@ -21,14 +21,12 @@ use Rattle.sizes.specs.Sizes.{area, segment_level}
 use Rattle.sizes.specs.AreaLaws.{IsArea, area_least}
 use Rattle.merkle.specs.Tree.{commitment_of, node_at}
 use Rattle.merkle.specs.TreeLaws.{within, node_part}
-use Rattle.merkle.specs.declared.Committed.{Committed}
-use Rattle.merkle.specs.Commitment.{committed}
+use Rattle.merkle.specs.Commitment.{Committed, committed}
 use Rattle.merkle.specs.Parts.{node_row, part_of}
 use Rattle.merkle.specs.NodeRowLaws.{same_row}
 use Rattle.merkle.specs.PartsLaws.{commitment_of_parts, part_sized, parts_clear, parts_run, parts_run_clear}
 use Rattle.merkle.specs.PartsLaws.{answer_clear}
-use Rattle.stream.specs.declared.Streamed.{Streamed}
-use Rattle.stream.specs.Stream.{largest, streamed, together}
+use Rattle.stream.specs.Stream.{Streamed, largest, streamed, together}
 use Rattle.stream.specs.StreamLaws.{gets_committed}
 use Rattle.stream.specs.Packed.{packed_length, packed_end}
 use Rattle.fr32.specs.Padding.{segment_length, padded}

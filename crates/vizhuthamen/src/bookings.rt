@@ -97,5 +97,5 @@ pub extern "C" fn vz_tree_row(below: &[u8], above: &mut [u8]) -> u32
     ensures value { result ≡ row_code below.now above.old }
     ensures above_after { above.new ≡ filled_row below.now above.old }
 {
-    tree::fill_row(below, above) as u32
+    rules::code_of(tree::fill_row(below, above)) as u32
 }

@@ -30,8 +30,11 @@ pub extern "C" fn vz_commitment(run: &[u8], node: &mut [u8]) -> u32
     if node.len() != 32 {
         return WRONG_LENGTH;
     }
-    let answer = merkle::commitment(run);
-    let bytes = answer.node;
-    write_32_bytes(answer.code == 0, bytes, node);
-    answer.code as u32
+    match merkle::commitment(run) {
+        Ok(commitment) => {
+            octets::put_array(node, 0, commitment);
+            0
+        }
+        Err(refusal) => refusal.code() as u32,
+    }
 }

@@ -3,8 +3,6 @@ ghost use Rattle.std.specs.Prelude.{◌≡◌};
 ghost use Rattle.fr32.specs.Answers.{pad_answer, pad_output, unpad_answer, unpad_output};
 ghost use Rattle.vizhuthamen.specs.Export.{lent_output};
 
-use crate::output::write_length;
-
 // The segment of raw bytes.
 #[unsafe(no_mangle)]
 pub extern "C" fn vz_fr32_pad(raw: &[u8], segment: &mut [u8], length: &mut u64) -> u32
@@ -13,8 +11,13 @@ pub extern "C" fn vz_fr32_pad(raw: &[u8], segment: &mut [u8], length: &mut u64) 
     ensures length_after { length.new
         ≡ lent_output result (pad_answer raw.now segment.old).length length.old }
 {
-    let answer = fr32::pad(raw, segment);
-    write_length(answer.code, answer.length, length)
+    match fr32::pad(raw, segment) {
+        Ok(written) => {
+            *length = written as u64;
+            0
+        }
+        Err(refusal) => refusal.code() as u32,
+    }
 }
 
 // The raw bytes of a segment, as many as the caller names.
@@ -31,6 +34,11 @@ pub extern "C" fn vz_fr32_unpad(
         ≡ lent_output result (unpad_answer raw_length segment.now raw.old).length
         length.old }
 {
-    let answer = fr32::unpad(raw_length, segment, raw);
-    write_length(answer.code, answer.length, length)
+    match fr32::unpad(raw_length, segment, raw) {
+        Ok(written) => {
+            *length = written as u64;
+            0
+        }
+        Err(refusal) => refusal.code() as u32,
+    }
 }

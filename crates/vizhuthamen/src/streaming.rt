@@ -4,7 +4,7 @@ ghost use Rattle.stream.specs.Packed.{packed_end};
 ghost use Rattle.vizhuthamen.specs.Export.{lent_output};
 ghost use Rattle.vizhuthamen.specs.StreamCalls.{new_code, new_state, taken_code, taken_state, end_code};
 
-use crate::output::{WRONG_LENGTH, write_32_bytes, write_u64};
+use crate::output::WRONG_LENGTH;
 use stream::{STATE_LENGTH, Stream};
 
 // A new start.
@@ -50,10 +50,12 @@ pub extern "C" fn vz_stream_end(state: &[u8], node: &mut [u8], count: &mut u64) 
     if node.len() != 32 {
         return WRONG_LENGTH;
     }
-    let answer = stream::unpack(state).end();
-    let written = answer.code == 0;
-    let bytes = answer.node;
-    write_32_bytes(written, bytes, node);
-    write_u64(written, answer.count, count);
-    answer.code as u32
+    match stream::unpack(state).end() {
+        Ok(ended) => {
+            octets::put_array(node, 0, ended.node);
+            *count = ended.count;
+            0
+        }
+        Err(refusal) => refusal.code() as u32,
+    }
 }

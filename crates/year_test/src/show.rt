@@ -104,8 +104,7 @@ pub(crate) fn year(
 
 // The deal's commitment, and a hash of the deal and of its table.
 pub(crate) fn state(rt: &impl Print, deal: &[u8], table: &[u8]) -> io::Result<()> {
-    let committed = merkle::commitment(deal);
-    let commitment = committed.node;
+    let commitment = merkle::commitment(deal).unwrap_or([0u8; 32]);
     node(rt, b"commitment ", commitment)?;
     digest(rt, b"deal ", deal)?;
     digest(rt, b"table ", table)

@@ -112,8 +112,7 @@ fn accepted(deal: &[u8], number: u64, built: BuildAnswer, out: &[u8]) -> bool {
     if built.code != 0 {
         return false;
     }
-    let committed = merkle::commitment(deal);
-    let commitment = committed.node;
+    let commitment = merkle::commitment(deal).unwrap_or([0u8; 32]);
     let record = part(out, 0, built.length as u64);
     record::check(&commitment, deal.len() as u64, number, record) == 0
 }
