@@ -104,10 +104,10 @@ pub(crate) fn write_record(
     let position = sizes::segment_position(entry.offset, entry.size) as usize;
     let entry_position = (place / 64) as usize;
     let commitment = entry.commitment;
-    let at = fields::put_node(out, 0, record::row(record::COMMITMENT), commitment);
-    let at = fields::put_number(out, at, record::row(record::OFFSET), entry.offset);
-    let at = fields::put_number(out, at, record::row(record::SIZE), entry.size);
-    let at = fields::put_number(out, at, record::row(record::PLACE), place);
+    let at = fields::put_field(out, 0, record::row(record::COMMITMENT), commitment);
+    let at = fields::put_field(out, at, record::row(record::OFFSET), entry.offset.to_le_bytes());
+    let at = fields::put_field(out, at, record::row(record::SIZE), entry.size.to_le_bytes());
+    let at = fields::put_field(out, at, record::row(record::PLACE), place.to_le_bytes());
     let segment = PathNode {
         position,
         node: commitment,
@@ -122,5 +122,5 @@ pub(crate) fn write_record(
         segment,
         entry_position,
     );
-    fields::put_number(out, at, record::row(record::NUMBER), number);
+    fields::put_field(out, at, record::row(record::NUMBER), number.to_le_bytes());
 }

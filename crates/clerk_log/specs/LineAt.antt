@@ -3,8 +3,8 @@ use Rattle.std.specs.Prelude.{Bool, true, false, ℕ, List, eqb}
 use Rattle.rules.specs.Choice.{choose}
 use Rattle.octets.specs.Splice.{part}
 use Rattle.fields.specs.FieldAt.{field_for}
-use Rattle.fields.specs.declared.Field.{Field}
-use Rattle.fields.specs.declared.Field.TheVariants.{Content, Refused}
+use Rattle.fields.specs.FieldAt.{Field}
+use Rattle.fields.specs.FieldAt.{Content, Refused}
 use Rattle.clerk_log.specs.Log.{Line, booking, cancelling, booking_field, cancelling_field, booking_in, cancelling_in}
 use Rattle.clerk_log.specs.Log.{Lines, lines, malformed}
 

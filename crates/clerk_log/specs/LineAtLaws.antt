@@ -9,8 +9,8 @@ use Rattle.rules.specs.Choice.{choose}
 use Rattle.octets.specs.Splice.{part}
 use Rattle.fields.specs.FieldAt.{field_for}
 use Rattle.fields.specs.FieldAtLaws.{taken_at, field_at_lem, IsField, is_field}
-use Rattle.fields.specs.declared.Field.{Field}
-use Rattle.fields.specs.declared.Field.TheVariants.{Content, Refused}
+use Rattle.fields.specs.FieldAt.{Field}
+use Rattle.fields.specs.FieldAt.{Content, Refused}
 use Rattle.clerk_log.specs.Log.{Line, booking, cancelling, booking_field, cancelling_field, booking_in, cancelling_in}
 use Rattle.clerk_log.specs.Log.{FirstLine, first, no_line, or_else, first_line, line_allowed, Lines, lines, malformed}
 use Rattle.clerk_log.specs.Log.{add_line, on_first, lines_within, log_lines}

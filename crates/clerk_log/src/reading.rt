@@ -3,21 +3,23 @@ ghost use Rattle.std.specs.Prelude.{◌≡◌, ◌+◌, ◌≤◌, length};
 ghost use Rattle.octets.specs.Splice.{part};
 ghost use Rattle.clerk_log.specs.Log.{booking_in, cancelling_in};
 ghost use Rattle.clerk_log.specs.LineAt.{line_field};
+ghost use Rattle.fields.specs.FieldAt.{field_answer};
 
 use crate::{BOOKING, BookingLine, CANCELLING, CancellingLine};
 use fields::{Field, FieldRule, LengthRule};
 use room::Booked;
+use rules::Refusal;
 
 // The field of the line at a place; the refusal where no line stands there.
-pub fn line_field(log: &[u8], at: usize) -> Field
-    ensures { result ≡ line_field log.now at }
+pub fn line_field(log: &[u8], at: usize) -> Result<Field, Refusal>
+    ensures { field_answer result ≡ line_field log.now at }
 {
     let booking = FieldRule {
         tag: BOOKING,
         length: LengthRule::Exactly(58),
     };
     let field = fields::field_for(log, at, booking);
-    if let Field::Content { .. } = field {
+    if field.is_ok() {
         return field;
     }
     let cancelling = FieldRule {

@@ -4,7 +4,7 @@ ghost use Rattle.clerk_log.specs.Log.{booking_logged, cancelling_logged, booking
 ghost use Rattle.clerk_log.specs.Log.{log_lines};
 ghost use Rattle.clerk_log.specs.LineAt.{line_field, line_of, is_log};
 ghost use Rattle.clerk_log.specs.Log.{line_allowed};
-ghost use Rattle.fields.specs.declared.Field.TheVariants.{Content};
+ghost use Rattle.fields.specs.FieldAt.{Content};
 
 use crate::reading::{booking_at, cancelling_at, line_field};
 use crate::{BOOKING, BookingLine, CancellingLine};
@@ -73,12 +73,7 @@ pub fn in_form(size: u64, log: &[u8]) -> bool
 {
     let mut at: usize = 0;
     while at < log.len() {
-        let Field::Content {
-            tag,
-            start,
-            length,
-            next,
-        } = line_field(log, at)
+        let Ok(Field { tag, start, length, next }) = line_field(log, at)
         else {
             return false;
         };

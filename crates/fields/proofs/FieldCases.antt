@@ -10,8 +10,8 @@ use Rattle.fields.specs.Table.{length_allowed}
 use Rattle.fields.specs.FieldAt.{length_at, field_at, field_for, field_code, field_rules, row_rules}
 use Rattle.fields.specs.FieldAtLaws.{field_code_lem, row_code_lem}
 use Rattle.fields.specs.declared.FieldRule.{FieldRule}
-use Rattle.fields.specs.declared.Field.{Field}
-use Rattle.fields.specs.declared.Field.TheVariants.{Content, Refused}
+use Rattle.fields.specs.FieldAt.{Field}
+use Rattle.fields.specs.FieldAt.{Content, Refused}
 
 -- a field by its four numbers, as taking it apart gives them
 abbrev pub content : (ℕ × (ℕ × (ℕ × (ℕ × Unit {0})))) → Field

@@ -6,8 +6,15 @@ use Rattle.rules.specs.Choice.{choose}
 use Rattle.rules.specs.Refusals.{Rule, rule}
 use Rattle.fields.specs.Table.{length_allowed}
 use Rattle.fields.specs.declared.FieldRule.{FieldRule}
-use Rattle.fields.specs.declared.Field.{Field}
-use Rattle.fields.specs.declared.Field.TheVariants.{Content, Refused}
+use Rattle.std.specs.Prelude.{Result}
+use Rattle.rules.specs.declared.Refusal.{Refusal}
+use Rattle.rules.specs.Answers.{answered}
+use Rattle.fields.specs.declared.Field.{Field as Found}
+
+-- a field: its tag, where its content starts, the content's length, and the next field's place; or the refusal
+pub data Field : Type 0 where
+  Content : ℕ → ℕ → ℕ → ℕ → Field
+  Refused : Field
 
 -- the length that the two bytes after the tag say
 abbrev pub length_at : List ℕ → ℕ → ℕ
@@ -29,6 +36,13 @@ asked f Refused = Refused
 
 unfoldable pub field_for : FieldRule → List ℕ → ℕ → Field
 field_for f r at = asked f (field_at r at)
+
+-- the answer that a result stands for
+abbrev pub content : Found → Field
+content f = Content f.tag f.start f.length f.next
+
+abbrev pub field_answer : Result Found Refusal → Field
+field_answer = answered content (λ code. Refused)
 
 -- the code of an answer: 0 with the field, 3 for the refusal (document 01, "Codes and their order")
 abbrev pub field_code : Field → ℕ

@@ -14,8 +14,8 @@ use Rattle.octets.specs.Splice.{part}
 use Rattle.fields.specs.Table.{length_allowed, Taken, taken, refused, take_field}
 use Rattle.fields.specs.FieldAt.{length_at, field_at, asked, field_for, field_code, field_rules, row_rules}
 use Rattle.fields.specs.declared.FieldRule.{FieldRule}
-use Rattle.fields.specs.declared.Field.{Field}
-use Rattle.fields.specs.declared.Field.TheVariants.{Content, Refused}
+use Rattle.fields.specs.FieldAt.{Field}
+use Rattle.fields.specs.FieldAt.{Content, Refused}
 
 -- room for a bytes after b of c
 room : (a b c : ℕ) → b ≤ c → leb a (c - b) ≡ leb (b + a) c

@@ -5,8 +5,8 @@ use Rattle.octets.specs.Splice.{part}
 use Rattle.fields.specs.Table.{Contents, contents, malformed}
 use Rattle.fields.specs.FieldAt.{field_for}
 use Rattle.fields.specs.declared.FieldRule.{FieldRule}
-use Rattle.fields.specs.declared.Field.{Field}
-use Rattle.fields.specs.declared.Field.TheVariants.{Content, Refused}
+use Rattle.fields.specs.FieldAt.{Field}
+use Rattle.fields.specs.FieldAt.{Content, Refused}
 
 -- the starts and the lengths, or that the fields are not those of the table
 pub data Spans : Type 0 where

@@ -11,8 +11,8 @@ use Rattle.fields.specs.FieldAt.{field_for}
 use Rattle.fields.specs.FieldAtLaws.{taken_at, field_at_lem, is_field}
 use Rattle.fields.specs.Spans.{Spans, spans, misplaced, before, on_field, spans_from, parts_of, contents_at}
 use Rattle.fields.specs.declared.FieldRule.{FieldRule}
-use Rattle.fields.specs.declared.Field.{Field}
-use Rattle.fields.specs.declared.Field.TheVariants.{Content, Refused}
+use Rattle.fields.specs.FieldAt.{Field}
+use Rattle.fields.specs.FieldAt.{Content, Refused}
 
 -- nothing after the last field
 ends : (r : List ℕ) (at : ℕ) → eqb (length (drop at r)) 0 ≡ leb (length r) at

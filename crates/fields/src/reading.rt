@@ -2,9 +2,11 @@
 ghost use Rattle.std.specs.Prelude.{◌≡◌, ◌+◌, ◌*◌};
 ghost use Rattle.rules.specs.Refusals.{first_refusal};
 ghost use Rattle.fields.specs.Table.{length_allowed};
-ghost use Rattle.fields.specs.FieldAt.{field_at, field_for, field_code, field_rules, row_rules};
+ghost use Rattle.fields.specs.FieldAt.{field_at, field_for, field_answer, field_rules, row_rules};
+ghost use Rattle.rules.specs.Answers.{code_of};
 
 use crate::{Field, FieldRule, LengthRule};
+use rules::Refusal;
 
 // The length that two bytes say, the least first.
 fn length_in(low: u8, high: u8) -> usize
@@ -14,28 +16,25 @@ fn length_in(low: u8, high: u8) -> usize
 }
 
 // The field at any place, with the next place; the refusal, code 3, where it does not lie within the bytes.
-pub fn read_field(bytes: &[u8], place: usize) -> Field
-    ensures { (result ≡ field_at bytes.now place)
-        × (field_code result ≡ first_refusal (field_rules bytes.now place)) }
+pub fn read_field(bytes: &[u8], place: usize) -> Result<Field, Refusal>
+    ensures { (field_answer result ≡ field_at bytes.now place)
+        × (code_of result ≡ first_refusal (field_rules bytes.now place)) }
 {
     let end = bytes.len();
-    if end < 3 {
-        return Field::Refused;
-    }
-    if end - 3 < place {
-        return Field::Refused;
+    if end < 3 || end - 3 < place {
+        return Err(Refusal::Form);
     }
     let length = length_in(bytes[place + 1], bytes[place + 2]);
     let start = place + 3;
     if end - start < length {
-        return Field::Refused;
+        return Err(Refusal::Form);
     }
-    Field::Content {
+    Ok(Field {
         tag: bytes[place],
         start,
         length,
         next: start + length,
-    }
+    })
 }
 
 // Whether a content may have a length.
@@ -49,20 +48,13 @@ fn length_allowed(rule: LengthRule, length: usize) -> bool
 }
 
 // The field at a place, where it is the one that a row of a table asks for; else the refusal, code 3.
-pub fn field_for(bytes: &[u8], place: usize, row: FieldRule) -> Field
-    ensures { (result ≡ field_for row bytes.now place)
-        × (field_code result ≡ first_refusal (row_rules row bytes.now place)) }
+pub fn field_for(bytes: &[u8], place: usize, row: FieldRule) -> Result<Field, Refusal>
+    ensures { (field_answer result ≡ field_for row bytes.now place)
+        × (code_of result ≡ first_refusal (row_rules row bytes.now place)) }
 {
-    let field = read_field(bytes, place);
-    let Field::Content { tag, length, .. } = field else {
-        return Field::Refused;
-    };
-    if tag != row.tag {
-        return Field::Refused;
+    let field = read_field(bytes, place)?;
+    if field.tag != row.tag || !length_allowed(row.length, field.length) {
+        return Err(Refusal::Form);
     }
-    let rule = row.length;
-    if !length_allowed(rule, length) {
-        return Field::Refused;
-    }
-    field
+    Ok(field)
 }

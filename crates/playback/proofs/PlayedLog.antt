@@ -9,8 +9,8 @@ use lib.ListN.{length, drop}
 use Rattle.sizes.specs.Sizes.{entry_count}
 use Rattle.fields.specs.FieldAt.{field_for}
 use Rattle.fields.specs.FieldAtLaws.{is_field}
-use Rattle.fields.specs.declared.Field.{Field}
-use Rattle.fields.specs.declared.Field.TheVariants.{Content, Refused}
+use Rattle.fields.specs.FieldAt.{Field}
+use Rattle.fields.specs.FieldAt.{Content, Refused}
 use Rattle.clerk_log.specs.Log.{Line, Lines, lines, malformed, add_line, log_lines, booking_field, cancelling_field}
 use Rattle.clerk_log.specs.LineAt.{or_field, line_field, line_of, is_log}
 use Rattle.clerk_log.specs.LineAtLaws.{no_more_lines, line_on, in_form_line}

@@ -95,12 +95,7 @@ fn play(size: u64, log: &[u8]) -> Playback
     let mut at: usize = 0;
     let mut number: u64 = 1;
     while at < log.len() {
-        let Field::Content {
-            tag,
-            start,
-            next,
-            ..
-        } = clerk_log::line_field(log, at)
+        let Ok(Field { tag, start, next, .. }) = clerk_log::line_field(log, at)
         else {
             return says(3);
         };

@@ -8,8 +8,8 @@ use Rattle.octets.specs.Splice.{part}
 use Rattle.fields.specs.Table.{Contents, contents, malformed, add_content}
 use Rattle.fields.specs.FieldAt.{field_at, asked}
 use Rattle.fields.specs.declared.FieldRule.{FieldRule}
-use Rattle.fields.specs.declared.Field.{Field}
-use Rattle.fields.specs.declared.Field.TheVariants.{Content, Refused}
+use Rattle.fields.specs.FieldAt.{Field}
+use Rattle.fields.specs.FieldAt.{Content, Refused}
 use Rattle.record.specs.Form.{layout, Parsed, fields_in}
 use Rattle.reader.specs.declared.RecordReader.{RecordReader}
 

@@ -12,8 +12,8 @@ use Rattle.fields.specs.FieldAt.{field_at, asked, field_for}
 use Rattle.fields.specs.FieldAtLaws.{field_at_lem, is_field}
 use Rattle.fields.specs.declared.LengthRule.TheVariants.{Exactly}
 use Rattle.fields.specs.declared.FieldRule.{FieldRule}
-use Rattle.fields.specs.declared.Field.{Field}
-use Rattle.fields.specs.declared.Field.TheVariants.{Content, Refused}
+use Rattle.fields.specs.FieldAt.{Field}
+use Rattle.fields.specs.FieldAt.{Content, Refused}
 use Rattle.record.specs.Form.{layout, fields_in, parse}
 use Rattle.reader.specs.Reader.{next_place, place_after, reader_at, handed_out, add_field, contents_named, parsed_by}
 

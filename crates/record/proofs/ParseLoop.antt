@@ -16,7 +16,7 @@ use Rattle.fields.specs.SpansLaws.{before_one, spans_step, spans_refused, span_l
 use Rattle.fields.specs.declared.LengthRule.{LengthRule}
 use Rattle.fields.specs.declared.LengthRule.TheVariants.{Exactly}
 use Rattle.fields.specs.declared.FieldRule.{FieldRule}
-use Rattle.fields.specs.declared.Field.TheVariants.{Content, Refused}
+use Rattle.fields.specs.FieldAt.{Content, Refused}
 use Rattle.record.specs.Form.{layout, table_row}
 use Rattle.record.specs.ParsedRecord.{unread, content_at, read_at, parsed_record}
 use Rattle.record.specs.declared.ParsedRecord.{ParsedRecord}

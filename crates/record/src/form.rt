@@ -59,12 +59,7 @@ pub fn parse(record: &[u8]) -> ParsedRecord
     let mut at = 0;
     let mut i = 0;
     while i < ROWS {
-        let Field::Content {
-            start,
-            length,
-            next,
-            ..
-        } = fields::field_for(record, at, row(i))
+        let Ok(Field { start, length, next, .. }) = fields::field_for(record, at, row(i))
         else {
             return unread_with(3);
         };

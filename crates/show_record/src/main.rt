@@ -5,7 +5,6 @@
 
 ghost use Rattle.std.specs.Prelude.{◌≡◌, length};
 
-use fields::Field;
 use std::io;
 
 fn wide(x: u8) -> u64 {
@@ -30,17 +29,11 @@ fn show_field(rt: &impl Print, tag: u8, content: &[u8]) -> io::Result<()> {
 fn show_fields(rt: &impl Print, record: &[u8]) -> io::Result<usize> {
     let mut place = 0;
     for number in 0..record.len() {
-        let Field::Content {
-            tag,
-            start,
-            next,
-            ..
-        } = reader::field(record, number)
-        else {
+        let Ok(field) = reader::field(record, number) else {
             return Ok(place);
         };
-        show_field(rt, tag, &record[start..next])?;
-        place = next;
+        show_field(rt, field.tag, &record[field.start..field.next])?;
+        place = field.next;
     }
     Ok(place)
 }

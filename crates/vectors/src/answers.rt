@@ -3,7 +3,6 @@ ghost use Rattle.std.specs.Prelude.{◌≤◌};
 
 use crate::show;
 use entries::EntryKind;
-use fields::Field;
 use paths::Compared;
 use playback::Verdict;
 use room::Booked;
@@ -344,20 +343,14 @@ fn fields(rt: &impl Print, record: &[u8]) -> io::Result<()> {
     show::code(rt, 0)?;
     let mut place: usize = 0;
     for _ in 0..8192 {
-        let Field::Content {
-            tag,
-            start,
-            length,
-            next,
-        } = fields::read_field(record, place)
-        else {
+        let Ok(field) = fields::read_field(record, place) else {
             break;
         };
-        show::number(rt, tag as u64)?;
-        show::number(rt, start as u64)?;
-        show::number(rt, length as u64)?;
-        show::number(rt, next as u64)?;
-        place = next;
+        show::number(rt, field.tag as u64)?;
+        show::number(rt, field.start as u64)?;
+        show::number(rt, field.length as u64)?;
+        show::number(rt, field.next as u64)?;
+        place = field.next;
     }
     show::number(rt, place as u64)
 }

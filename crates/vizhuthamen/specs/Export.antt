@@ -1,8 +1,8 @@
 -- What the functions of include/vizhuthamen.h answer, and what they write to lent outputs.
 use Rattle.std.specs.Prelude.{◌||◌, ℕ, List, length, eqb}
 use Rattle.rules.specs.Choice.{choose}
-use Rattle.fields.specs.declared.Field.{Field}
-use Rattle.fields.specs.declared.Field.TheVariants.{Content, Refused}
+use Rattle.fields.specs.FieldAt.{Field}
+use Rattle.fields.specs.FieldAt.{Content, Refused}
 
 -- the code: 12, before all else, where an output has not its one length
 abbrev pub lent_code : ℕ → List ℕ → ℕ → ℕ

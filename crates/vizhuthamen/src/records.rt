@@ -7,7 +7,6 @@ ghost use Rattle.builder.specs.Build.{build_answer, build_output};
 ghost use Rattle.vizhuthamen.specs.Export.{lent_output, field_tag, field_start, field_length, field_next};
 
 use crate::output::write_length;
-use fields::Field;
 
 // Builds the record of the kept entry at a place of a deal with a number.
 #[unsafe(no_mangle)]
@@ -79,18 +78,14 @@ pub extern "C" fn vz_read_field(
     ensures next_after { next.new
         ≡ lent_output result (field_next (field_at «record».now place)) next.old }
 {
-    let Field::Content {
-        tag: field_tag,
-        start: field_start,
-        length: field_length,
-        next: field_next,
-    } = fields::read_field(record, place as usize)
-    else {
-        return 3;
-    };
-    *tag = field_tag as u32;
-    *start = field_start as u64;
-    *length = field_length as u64;
-    *next = field_next as u64;
-    0
+    match fields::read_field(record, place as usize) {
+        Ok(field) => {
+            *tag = field.tag as u32;
+            *start = field.start as u64;
+            *length = field.length as u64;
+            *next = field.next as u64;
+            0
+        }
+        Err(refusal) => refusal.code() as u32,
+    }
 }

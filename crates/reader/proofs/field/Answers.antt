@@ -1,8 +1,8 @@
 -- A turn passes one field, or none is left to pass.
 use Rattle.std.proofs.Common.{◌≡◌, ℕ, zero, suc, ◌-◌, List, refl, sym, ap, ◌∙◌, arith}
 use Rattle.fields.specs.FieldAt.{field_at}
-use Rattle.fields.specs.declared.Field.{Field}
-use Rattle.fields.specs.declared.Field.TheVariants.{Content, Refused}
+use Rattle.fields.specs.FieldAt.{Field}
+use Rattle.fields.specs.FieldAt.{Content, Refused}
 use Rattle.reader.specs.Reader.{next_place, place_after, left_after}
 use Rattle.reader.proofs.field.Goals as goal
 
