@@ -1,4 +1,5 @@
 pub mod Answers
+pub mod AnswerLaws
 pub mod Choice
 pub mod Refusals
 pub mod RefusalLaws

@@ -1,13 +1,16 @@
 -- A field at a place: three bytes, and as many more as the last two of them say.
-use native.Mathlib.Omega.{arith}
+use Rattle.std.proofs.Common.{arith}
 use Rattle.fields.proofs.FieldCases.{read_short, read_cut, read_here}
 use Rattle.fields.proofs.reading.read_field.Goals as goal
+use Rattle.fields.proofs.reading.read_field.Goals.{then-end-lt3-via-then-end-lt3, then-end-lt3-via-else-end-lt3+then-end-place}
 
 pub returns-then-end-lt3 : goal.returns-then-end-lt3
-returns-then-end-lt3 c = let a = c.args in read_short a.bytes.now a.place (omega arith)
-
-pub returns-then-end-place : goal.returns-then-end-place
-returns-then-end-place c = let a = c.args in read_short a.bytes.now a.place (omega arith)
+returns-then-end-lt3 c =
+    let a = c.args in
+    read_short a.bytes.now a.place (elim c.then-end-lt3.branch [
+      | then-end-lt3-via-then-end-lt3 w ↦ omega arith
+      | then-end-lt3-via-else-end-lt3+then-end-place w ↦ omega arith
+    ])
 
 pub returns-then-end-start : goal.returns-then-end-start
 returns-then-end-start c =
