@@ -14,8 +14,7 @@ use Rattle.entries.specs.Entry.{kind_of}
 use Rattle.entries.specs.declared.EntryKind.{EntryKind}
 use Rattle.lent.specs.LentDeal.{lent_deal}
 use Rattle.lent.specs.Usable.{Usable}
-use Rattle.index.specs.declared.Row.{Row}
-use Rattle.index.specs.Slots.{entry_at, slot_at, kept_row, kept_at, row_at, row_area}
+use Rattle.index.specs.Slots.{Row, entry_at, slot_at, kept_row, kept_at, row_at, row_area}
 use Rattle.index.specs.SlotsLaws.{answer_kept, answer_not_kept}
 use Rattle.index.specs.KeptRowsLaws.{slot_within}
 use Rattle.room.specs.Room.{Range, Bounded, ranges_in, fits}

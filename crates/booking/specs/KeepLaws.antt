@@ -19,12 +19,11 @@ use Rattle.sizes.specs.SizesLaws.{DealSize, lent_size, index_start_le}
 use Rattle.entries.specs.Entry.{offset_in, size_in}
 use Rattle.lent.specs.LentDeal.{LentDeal, lent_deal, deal_size, deal_refusal}
 use Rattle.lent.specs.LentDealLaws.{refusal_none}
-use Rattle.index.specs.Slots.{slot_at, standing, kept_at, row_at, row_offset, row_area}
+use Rattle.index.specs.Slots.{slot_at, standing, kept_at, row_at, row_offset, row_area, Row}
 use Rattle.index.specs.SlotsLaws.{stands}
 use Rattle.index.specs.KeptLaws.{row_stands, kept_stands}
 use Rattle.index.specs.KeptRows.{area_of}
 use Rattle.index.specs.KeptRowsLaws.{standing_place}
-use Rattle.index.specs.declared.Row.{Row}
 use Rattle.room.specs.OverlapLaws.{multiple}
 use Rattle.ranges.specs.RangesLaws.{range_nodes}
 use Rattle.booking.specs.Write.{area_bytes, written_deal}

@@ -2,7 +2,7 @@
 use Rattle.std.specs.Prelude.{Bool, ◌&&◌, ℕ, List, length, eqb}
 use Rattle.octets.specs.Equality.{same_bytes}
 use Rattle.index.specs.KeptRows.{row_kept}
-use Rattle.index.specs.declared.Row.{Row}
+use Rattle.index.specs.Slots.{Row}
 use Rattle.booking.specs.Write.{area_bytes}
 
 -- the row is kept, with the segment's size, and the bytes are those of the segment's area

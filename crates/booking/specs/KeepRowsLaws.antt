@@ -9,11 +9,10 @@ use Rattle.sizes.specs.Sizes.{area}
 use Rattle.sizes.specs.SizesLaws.{DealSize}
 use Rattle.entries.specs.Entry.{offset_in, size_in}
 use Rattle.lent.specs.LentDeal.{lent_deal}
-use Rattle.index.specs.Slots.{slot_at, standing, free, holds, row_at}
+use Rattle.index.specs.Slots.{slot_at, standing, free, holds, row_at, Row}
 use Rattle.index.specs.KeptLaws.{row_stands, kept_stands}
 use Rattle.index.specs.KeptRows.{area_of, row_kept}
 use Rattle.index.specs.KeptRowsLaws.{kept_row_lem}
-use Rattle.index.specs.declared.Row.{Row}
 use Rattle.booking.specs.Write.{area_bytes}
 use Rattle.booking.specs.Booking.{keeps_segment}
 use Rattle.booking.specs.KeepRows.{row_keeps}

@@ -18,12 +18,11 @@ use Rattle.entries.specs.Entry.{offset_in, size_in}
 use Rattle.entries.specs.EntryLaws.{entry_length, offset_back, size_back}
 use Rattle.entries.specs.MadeLaws.{made_bytes, made_clear}
 use Rattle.lent.specs.LentDeal.{lent_deal}
-use Rattle.index.specs.Slots.{slot_at, standing, kept, kept_at, holds, row_of, row_at, row_offset, row_area}
+use Rattle.index.specs.Slots.{slot_at, standing, kept, kept_at, holds, row_of, row_at, row_offset, row_area, Row}
 use Rattle.index.specs.SlotsLaws.{made_kept, made_row}
 use Rattle.index.specs.KeptLaws.{row_stands, row_free, segment_node}
 use Rattle.index.specs.KeptRows.{area_of}
 use Rattle.index.specs.KeptRowsLaws.{row_ends}
-use Rattle.index.specs.declared.Row.{Row}
 use Rattle.index.specs.Written.{with_slot, with_area}
 use Rattle.index.specs.SlotWrittenLaws as S
 use Rattle.index.specs.AreaWrittenLaws as A

@@ -10,9 +10,8 @@ use borrow.Author.Tests.{le-leb, lt-leb}
 use Rattle.octets.specs.Splice.{splice}
 use Rattle.paths.specs.NodesSized.{NodesSized}
 use Rattle.sizes.specs.Sizes.{place_allowed, deal_level, segment_level, segment_position}
-use Rattle.index.specs.Slots.{entry_at, kept_row}
+use Rattle.index.specs.Slots.{entry_at, kept_row, Row}
 use Rattle.index.specs.SlotsLaws.{keeps, answer_kept, answer_not_kept}
-use Rattle.index.specs.declared.Row.{Row}
 use Rattle.lent.specs.LentDeal.{LentDeal, deal_size, deal_refusal}
 use Rattle.lent.specs.LentDealLaws.{refusal_none, refused_answer}
 use Rattle.builder.specs.Build.{entry_rules, fields_for, built, not_built, record_at, build_answer, build_output}

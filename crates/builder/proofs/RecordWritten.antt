@@ -11,7 +11,7 @@ use Rattle.paths.specs.Start.{path_start, InTree}
 use Rattle.paths.specs.NodesSized.{NodesSized}
 use Rattle.paths.specs.Siblings.{siblings}
 use Rattle.sizes.specs.Sizes.{deal_level, segment_level, segment_position}
-use Rattle.index.specs.declared.Row.{Row}
+use Rattle.index.specs.Slots.{Row}
 use Rattle.fields.specs.Table.{put_field, write_contents}
 use Rattle.fields.specs.WrittenLaws.{Wrote, wrote_field, WroteAll, all_written}
 use Rattle.fields.specs.declared.FieldRule.{FieldRule}

@@ -14,8 +14,7 @@ use Rattle.sizes.specs.Sizes.{entry_count, index_start, slot_place}
 use Rattle.sizes.specs.SizesLaws.{DealSize, index_area, index_start_le}
 use Rattle.entries.specs.Entry.{commitment_in, size_in}
 use Rattle.entries.specs.MadeLaws.{made_bytes, made_clear}
-use Rattle.index.specs.Slots.{slot_at, standing, row_at, row_offset, row_area}
-use Rattle.index.specs.declared.Row.{Row}
+use Rattle.index.specs.Slots.{slot_at, standing, row_at, row_offset, row_area, Row}
 use Rattle.index.specs.KeptLaws.{row_stands, row_free}
 use Rattle.index.specs.KeptRowsLaws.{slot_within, row_ends}
 use Rattle.ranges.specs.Ranges.{ranges_of}

@@ -10,8 +10,7 @@ use Rattle.std.proofs.lemmas.List.{length-replicate}
 use Rattle.octets.specs.Splice.{part}
 use Rattle.sizes.specs.Sizes.{entry_count, index_start, slot_place}
 use Rattle.entries.specs.Entry.{entry_of, commitment_in, size_in}
-use Rattle.index.specs.Slots.{slot_at, standing, row_at, row_area}
-use Rattle.index.specs.declared.Row.{Row}
+use Rattle.index.specs.Slots.{slot_at, standing, row_at, row_area, Row}
 use Rattle.index.specs.KeptLaws.{row_stands}
 use Rattle.index.specs.KeptRows.{area_of}
 use Rattle.index.specs.KeptRowsLaws.{slot_within}

@@ -6,8 +6,7 @@ use Rattle.std.proofs.Math.Decide.{ℕ_discrete, dec_lt}
 use Rattle.octets.specs.Splice.{part}
 use Rattle.sizes.specs.Sizes.{lent_size_allowed, entry_count, index_start}
 use Rattle.lent.specs.LentDeal.{lent_deal}
-use Rattle.index.specs.Slots.{slot_at, standing, kept_at, free, holds, row_at, row_offset, row_area}
-use Rattle.index.specs.declared.Row.{Row}
+use Rattle.index.specs.Slots.{slot_at, standing, kept_at, free, holds, row_at, row_offset, row_area, Row}
 use Rattle.index.specs.KeptLaws.{row_stands}
 use Rattle.room.specs.Room.{range}
 use Rattle.ranges.specs.Ranges.{row_range, ranges_of}

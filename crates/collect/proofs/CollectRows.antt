@@ -9,9 +9,8 @@ use Rattle.sizes.specs.SizesLaws.{DealSize}
 use Rattle.entries.specs.Entry.{commitment_in, offset_in, size_in}
 use Rattle.entries.specs.EntryLaws.{commitment_back, offset_back, size_back}
 use Rattle.lent.specs.LentDeal.{lent_deal}
-use Rattle.index.specs.Slots.{slot_at, standing, kept_at, free, holds, row_of, row_at, row_area}
+use Rattle.index.specs.Slots.{slot_at, standing, kept_at, free, holds, row_of, row_at, row_area, Row}
 use Rattle.index.specs.SlotsLaws.{stands, answer_stands, made_row, zero_free}
-use Rattle.index.specs.declared.Row.{Row}
 use Rattle.index.specs.KeptLaws.{row_stands, row_free}
 use Rattle.index.specs.KeptRows.{area_of, row_kept}
 use Rattle.index.specs.KeptRowsLaws.{standing_size, kept_row_lem, row_moved}

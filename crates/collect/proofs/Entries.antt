@@ -9,9 +9,8 @@ use Rattle.octets.specs.Splice.{splice}
 use Rattle.octets.specs.SpliceLaws.{splice_nothing}
 use Rattle.sizes.specs.Sizes.{slot_place}
 use Rattle.entries.specs.Entry.{entry_of}
-use Rattle.index.specs.Slots.{entry_at, slot_at, standing, row_of, row_at}
+use Rattle.index.specs.Slots.{entry_at, slot_at, standing, row_of, row_at, Row}
 use Rattle.index.specs.SlotsLaws.{answer_stands}
-use Rattle.index.specs.declared.Row.{Row}
 use Rattle.collect.specs.Collect.{entry_moved}
 
 module _ (deal : List ℕ) (j place : ℕ) (row : Row) (p : place ≡ slot_place (length deal) j)

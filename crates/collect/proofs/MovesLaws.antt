@@ -8,8 +8,7 @@ use Rattle.sizes.specs.Sizes.{entry_count, index_start, slot_place}
 use Rattle.sizes.specs.SizesLaws.{DealSize, lent_size, index_area, index_start_le}
 use Rattle.entries.specs.Entry.{entry_of, commitment_in, offset_in, size_in}
 use Rattle.entries.specs.EntryLaws.{entry_length}
-use Rattle.index.specs.Slots.{slot_at, standing, holds, row_at, row_offset, row_area}
-use Rattle.index.specs.declared.Row.{Row}
+use Rattle.index.specs.Slots.{slot_at, standing, holds, row_at, row_offset, row_area, Row}
 use Rattle.index.specs.KeptLaws.{row_stands, row_free}
 use Rattle.index.specs.KeptRowsLaws.{slot_within, row_ends}
 use Rattle.room.specs.Room.{is_empty}

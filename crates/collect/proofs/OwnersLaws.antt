@@ -10,8 +10,7 @@ use Rattle.octets.specs.Bytes.{Bytes}
 use Rattle.octets.specs.Splice.{part}
 use Rattle.octets.specs.SpliceLaws.{get_d_part}
 use Rattle.sizes.specs.Sizes.{entry_count}
-use Rattle.index.specs.Slots.{slot_at, standing, row_at}
-use Rattle.index.specs.declared.Row.{Row}
+use Rattle.index.specs.Slots.{slot_at, standing, row_at, Row}
 use Rattle.index.specs.KeptLaws.{row_stands, row_free}
 use Rattle.ranges.specs.Ranges.{ranges_of}
 use Rattle.houses.specs.Houses.{table_sized, owner_at}

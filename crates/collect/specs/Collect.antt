@@ -12,8 +12,7 @@ use Rattle.sizes.specs.Sizes.{lent_size_allowed, entry_count, slot_place, deal_l
 use Rattle.entries.specs.Entry.{entry_of}
 use Rattle.tree.specs.Filled.{filled}
 use Rattle.lent.specs.LentDeal.{LentDeal, tree_deal, deal_size}
-use Rattle.index.specs.Slots.{row_at}
-use Rattle.index.specs.declared.Row.{Row}
+use Rattle.index.specs.Slots.{row_at, Row}
 use Rattle.index.specs.KeptRows.{area_of}
 use Rattle.index.specs.Written.{slot_of}
 use Rattle.ranges.specs.Ranges.{ranges_of}

@@ -15,13 +15,12 @@ use Rattle.sizes.specs.SizesLaws.{DealSize, SegmentPlace, slot_allowed}
 use Rattle.entries.specs.Entry.{offset_in}
 use Rattle.lent.specs.LentDeal.{lent_deal}
 use Rattle.lent.specs.LentDealLaws.{none_refusal}
-use Rattle.index.specs.Slots.{slot_at, row_at}
+use Rattle.index.specs.Slots.{slot_at, row_at, Row}
 use Rattle.index.specs.KeptLaws.{row_free, kept_stands}
 use Rattle.index.specs.KeptRowsLaws.{standing_place}
 use Rattle.index.specs.Written.{slot_of, with_slot}
 use Rattle.index.specs.SlotWrittenLaws.{slot_back, with_slot_own, with_slot_over}
 use Rattle.index.specs.AreaWrittenLaws.{with_area_own}
-use Rattle.index.specs.declared.Row.{Row}
 use Rattle.room.specs.Room.{SameBelow, is_empty, fits}
 use Rattle.room.specs.Decide.{decide}
 use Rattle.room.specs.DecideLaws.{decide_cong, decides_refused}
@@ -32,10 +31,8 @@ use Rattle.ranges.specs.Ranges.{row_range, ranges_of}
 use Rattle.houses.specs.Houses.{table_sized, owner_at, owned, with_owner}
 use Rattle.houses.specs.HousesLaws.{owner_here, with_owner_length, with_owner_sized}
 use Rattle.booking.specs.Write.{area_bytes, new_entry, written_deal}
-use Rattle.booking.specs.WriteLaws.{Fits, entry_64, written_length, written_clear, segment_written, slot_written}
-use Rattle.booking.specs.WriteLaws.{row_same, kept_written}
-use Rattle.booking.specs.Booking.{keeps_segment, keeps_own, lowest_keeping, held_in, decision}
-use Rattle.booking.specs.Booking.{book_answer, booked_deal, booked_table}
+use Rattle.booking.specs.WriteLaws.{Fits, entry_64, written_length, written_clear, segment_written, slot_written, row_same, kept_written}
+use Rattle.booking.specs.Booking.{keeps_segment, keeps_own, lowest_keeping, held_in, decision, book_answer, booked_deal, booked_table}
 use Rattle.booking.specs.BookableLaws.{BookableFor, bookable_deal, area_length}
 use Rattle.booking.proofs.BookingLaws.{decision_is, kept_already, half_held, no_slot, no_place, answer_is}
 use Rattle.booking.specs.Outcomes.{Unkept}
@@ -43,8 +40,7 @@ use Rattle.booking.specs.KeepLaws.{keeps_parts, keeps_stands, keeps_bookable}
 use Rattle.booking.specs.OwnLaws.{own_keeps, own_same, bookable_for_stays}
 use Rattle.booking.proofs.BookedLaws.{booked_unkept, booked_fits, booked_is, booked_table_is, booked_slot_in}
 use Rattle.cancel.specs.Cancel.{cancel_code, cancelled_deal, cancelled_table}
-use Rattle.cancel.proofs.CancelLaws.{cancels, cancelled_sized, cancelled_length, cancelled_is, cancelled_below}
-use Rattle.cancel.proofs.CancelLaws.{cancelled_free, cancelled_row_other}
+use Rattle.cancel.proofs.CancelLaws.{cancels, cancelled_sized, cancelled_length, cancelled_is, cancelled_below, cancelled_free, cancelled_row_other}
 use Rattle.cancel.proofs.OwnerCancelLaws.{table_is}
 use Rattle.demands.specs.Covers.{covers}
 use Rattle.demands.proofs.CancelKeepLaws.{bookable_after_cancelling, cancelled_keeps_none, cancelled_own_other}

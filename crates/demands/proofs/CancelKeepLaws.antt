@@ -8,12 +8,11 @@ use Rattle.rules.specs.RefusalLaws.{and_right, not_passed}
 use Rattle.sizes.specs.Sizes.{lent_size_allowed, segment_size_allowed, entry_count, slot_place}
 use Rattle.sizes.specs.SizesLaws.{DealSize}
 use Rattle.lent.specs.LentDeal.{LentDeal, lent_deal, deal_size}
-use Rattle.index.specs.Slots.{slot_at, row_at, free}
+use Rattle.index.specs.Slots.{slot_at, row_at, free, Row}
 use Rattle.index.specs.KeptRows.{area_of}
 use Rattle.index.specs.KeptRowsLaws.{row_ends}
 use Rattle.index.specs.Written.{slot_of}
 use Rattle.index.specs.SlotWrittenLaws.{place_slot}
-use Rattle.index.specs.declared.Row.{Row}
 use Rattle.room.specs.Room.{Range}
 use Rattle.room.specs.declared.Booked.{Booked}
 use Rattle.room.specs.declared.Decision.TheVariants.{Already}
@@ -28,8 +27,7 @@ use Rattle.booking.proofs.AlreadyLaws.{answer_kept}
 use Rattle.booking.specs.KeepRows.{row_keeps}
 use Rattle.booking.specs.KeepRowsLaws.{keeps_row, free_keeps_none}
 use Rattle.cancel.specs.Cancel.{cancel_code, cancelled_deal, cancelled_table}
-use Rattle.cancel.proofs.CancelLaws.{cancels, refused_same, cancelled_sized, cancelled_length, cancelled_below}
-use Rattle.cancel.proofs.CancelLaws.{cancelled_free, cancelled_row_other, cancelled_clear}
+use Rattle.cancel.proofs.CancelLaws.{cancels, refused_same, cancelled_sized, cancelled_length, cancelled_below, cancelled_free, cancelled_row_other, cancelled_clear}
 use Rattle.cancel.proofs.OwnerCancelLaws.{
   owner_cancels,
   refused_table,

@@ -4,9 +4,8 @@ use Rattle.std.proofs.Common.{sym, ap, ◌∙◌, inl, arith}
 use Rattle.std.proofs.Math.Decide.{ℕ_discrete}
 use Rattle.sizes.specs.Sizes.{entry_count}
 use Rattle.lent.specs.LentDeal.{LentDeal, deal_size}
-use Rattle.index.specs.Slots.{slot_at, standing}
+use Rattle.index.specs.Slots.{slot_at, standing, Row}
 use Rattle.index.specs.Written.{slot_of}
-use Rattle.index.specs.declared.Row.{Row}
 use Rattle.room.specs.Room.{overlap, overlaps, fits}
 use Rattle.room.specs.OverlapLaws.{overlap_false}
 use Rattle.room.specs.RoomLaws.{fits_true}

@@ -9,11 +9,10 @@ use Rattle.sizes.specs.Sizes.{entry_count}
 use Rattle.sizes.specs.SizesLaws.{DealSize}
 use Rattle.entries.specs.Entry.{commitment_in, offset_in, size_in}
 use Rattle.lent.specs.LentDeal.{lent_deal}
-use Rattle.index.specs.Slots.{slot_at, standing, holds, row_at}
+use Rattle.index.specs.Slots.{slot_at, standing, holds, row_at, Row}
 use Rattle.index.specs.KeptLaws.{row_stands}
 use Rattle.index.specs.KeptRows.{area_of}
 use Rattle.index.specs.Find.{keeps_commitment}
-use Rattle.index.specs.declared.Row.{Row}
 use Rattle.booking.specs.Booking.{keeps_segment, keeps_own}
 use Rattle.booking.specs.KeepRows.{row_keeps}
 use Rattle.booking.specs.KeepRowsLaws.{keeps_row, keeps_moved}

@@ -4,10 +4,9 @@ use Rattle.std.proofs.Math.Path.{sym, ap}
 use Rattle.std.proofs.Common.{ap₂, ◌∙◌, arith}
 use Rattle.rules.specs.Search.{one, count}
 use Rattle.sizes.specs.Sizes.{entry_count}
-use Rattle.index.specs.Slots.{slot_at, standing, holds, row_at, row_area}
+use Rattle.index.specs.Slots.{slot_at, standing, holds, row_at, row_area, Row}
 use Rattle.index.specs.SlotsLaws.{zero_free}
 use Rattle.index.specs.KeptLaws.{row_stands}
-use Rattle.index.specs.declared.Row.{Row}
 use Rattle.room.specs.Room.{Range, is_empty}
 use Rattle.ranges.specs.Ranges.{ranges_of}
 use Rattle.ranges.specs.RangesLaws.{range_free}

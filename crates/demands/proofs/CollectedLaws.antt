@@ -10,12 +10,11 @@ use Rattle.sizes.specs.SizesLaws.{DealSize, SegmentPlace, segment_size, segment_
 use Rattle.entries.specs.Entry.{entry_of, commitment_in, size_in}
 use Rattle.lent.specs.LentDeal.{lent_deal, deal_refusal}
 use Rattle.lent.specs.LentDealLaws.{refusal_none, none_refusal}
-use Rattle.index.specs.Slots.{entry_at, slot_at, standing, kept, holds}
+use Rattle.index.specs.Slots.{entry_at, slot_at, standing, kept, holds, Row}
 use Rattle.index.specs.SlotsLaws.{answer_stands}
 use Rattle.index.specs.KeptLaws.{row_stands, kept_stands}
 use Rattle.index.specs.Written.{slot_of}
 use Rattle.index.specs.SlotWrittenLaws.{place_slot}
-use Rattle.index.specs.declared.Row.{Row}
 use Rattle.index.specs.Find.{keeps_commitment, find_numbers}
 use Rattle.index.specs.FindLaws.{Searched, find_zero, find_some}
 use Rattle.room.specs.declared.Booked.{Booked}
@@ -28,11 +27,10 @@ use Rattle.booking.proofs.AlreadyLaws.{answer_kept}
 use Rattle.booking.proofs.NeverAgain.{kept_is_15}
 use Rattle.collect.specs.Collect.{slot_to, offset_to, place_to, collected_deal, collected_table}
 use Rattle.collect.proofs.MovesLaws.{sized, slot_in}
-use Rattle.collect.specs.Collectable.{Collectable}
+use Rattle.collect.specs.Collectable.{Collectable, From}
 use Rattle.collect.proofs.CollectLaws.{collected_length, collected_slot}
 use Rattle.collect.proofs.CollectRows.{collected_row, collected_kept}
 use Rattle.collect.proofs.CollectPacked.{standing_from_lem}
-use Rattle.collect.specs.Collectable.{From}
 use Rattle.collect.proofs.CollectClear.{collected_clear}
 use Rattle.collect.proofs.OwnersLaws.{owners_sized}
 use Rattle.demands.proofs.CollectKeepLaws.{collected_own, collected_names}

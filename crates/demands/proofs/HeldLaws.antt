@@ -10,11 +10,10 @@ use Rattle.rules.specs.SearchLaws.{count_cong}
 use Rattle.sizes.specs.Sizes.{entry_count, deal_level}
 use Rattle.sizes.specs.SizesLaws.{DealSize}
 use Rattle.lent.specs.LentDeal.{LentDeal, deal_size}
-use Rattle.index.specs.Slots.{entry_at, slot_at, standing, row_at}
+use Rattle.index.specs.Slots.{entry_at, slot_at, standing, row_at, Row}
 use Rattle.index.specs.KeptLaws.{kept_stands}
 use Rattle.index.specs.Written.{slot_of}
 use Rattle.index.specs.SlotWrittenLaws.{place_slot}
-use Rattle.index.specs.declared.Row.{Row}
 use Rattle.room.specs.Room.{is_empty}
 use Rattle.ranges.specs.Ranges.{row_range, ranges_of}
 use Rattle.ranges.specs.RangesLaws.{range_empty}
@@ -25,8 +24,7 @@ use Rattle.booking.specs.WriteLaws.{Fits, written_length, row_same, kept_written
 use Rattle.booking.specs.Booking.{held_in}
 use Rattle.booking.specs.BookableLaws.{bookable_deal}
 use Rattle.cancel.specs.Cancel.{cancel_code, cancelled_deal, cancelled_table}
-use Rattle.cancel.proofs.CancelLaws.{cancels, cancelled_sized, cancelled_slot_in, cancelled_length}
-use Rattle.cancel.proofs.CancelLaws.{cancelled_free, cancelled_row_other}
+use Rattle.cancel.proofs.CancelLaws.{cancels, cancelled_sized, cancelled_slot_in, cancelled_length, cancelled_free, cancelled_row_other}
 use Rattle.cancel.proofs.OwnerCancelLaws.{owner_cancels, cancelled_owner_other}
 
 -- one number more passes

@@ -10,18 +10,16 @@ use Rattle.rules.specs.Search.{lowest}
 use Rattle.rules.specs.SearchLaws.{lowest_cong}
 use Rattle.octets.specs.SpliceLaws.{same_part}
 use Rattle.stray.specs.StrayBits.{no_stray_bits}
-use Rattle.sizes.specs.Sizes.{lent_size_allowed, segment_size_allowed, area, entry_count, index_start}
-use Rattle.sizes.specs.Sizes.{slot_place, place_allowed}
+use Rattle.sizes.specs.Sizes.{lent_size_allowed, segment_size_allowed, area, entry_count, index_start, slot_place, place_allowed}
 use Rattle.sizes.specs.SizesLaws.{DealSize, index_start_le, lent_size}
 use Rattle.lent.specs.LentDeal.{lent_deal}
 use Rattle.lent.specs.LentDealLaws.{answer_refused}
-use Rattle.index.specs.Slots.{slot_at, entry_at, standing, row_of, row_at, row_offset, row_area}
+use Rattle.index.specs.Slots.{slot_at, entry_at, standing, row_of, row_at, row_offset, row_area, Row}
 use Rattle.index.specs.KeptLaws.{row_stands, row_free}
 use Rattle.index.specs.KeptRows.{area_of}
 use Rattle.index.specs.KeptRowsLaws.{row_ends}
 use Rattle.index.specs.Written.{slot_of}
 use Rattle.index.specs.SlotWrittenLaws.{place_slot}
-use Rattle.index.specs.declared.Row.{Row}
 use Rattle.room.specs.Room.{range, SameBelow}
 use Rattle.room.specs.Decide.{decide, answer_to, SlotBelow}
 use Rattle.room.specs.DecideLaws.{decide_cong, answer_cong}
@@ -33,8 +31,7 @@ use Rattle.packing.specs.NoOverlapLaws.{none_overlaps_lem}
 use Rattle.houses.specs.Houses.{house_allowed, house_rules, owned, held_count, with_owner}
 use Rattle.houses.specs.HousesLaws.{held_cong}
 use Rattle.booking.specs.Write.{area_bytes}
-use Rattle.booking.specs.Booking.{book_rules, keeps_segment, keeps_own, lowest_keeping, held_in}
-use Rattle.booking.specs.Booking.{decision, book_answer, booked_table}
+use Rattle.booking.specs.Booking.{book_rules, keeps_segment, keeps_own, lowest_keeping, held_in, decision, book_answer, booked_table}
 use Rattle.booking.specs.BookableLaws.{not_refused, bookable_deal}
 use Rattle.booking.proofs.BookingLaws.{decision_is, kept_already, answer_is}
 use Rattle.booking.proofs.BookingLaws as B

@@ -6,8 +6,7 @@ use Rattle.std.proofs.Math.Decide.{ℕ_discrete}
 use Rattle.octets.specs.SpliceLaws.{get_d_part}
 use Rattle.sizes.specs.Sizes.{area, entry_count, index_start}
 use Rattle.lent.specs.LentDeal.{lent_deal}
-use Rattle.index.specs.Slots.{holds, row_at}
-use Rattle.index.specs.declared.Row.{Row}
+use Rattle.index.specs.Slots.{holds, row_at, Row}
 use Rattle.room.specs.Room.{overlap, overlaps}
 use Rattle.room.specs.OverlapLaws.{overlap_sym}
 use Rattle.room.specs.DecideLaws.{Places}

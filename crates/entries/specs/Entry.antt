@@ -7,10 +7,8 @@ use Rattle.octets.specs.LittleEndian.{number_of, bytes_of}
 use Rattle.octets.specs.Splice.{part}
 use Rattle.stray.specs.StrayBits.{clear_node}
 use Rattle.entries.specs.Checksum.{checksum_of}
-use Rattle.entries.specs.declared.MadeEntry.{MadeEntry}
 use Rattle.entries.specs.declared.EntryKind.{EntryKind}
 use Rattle.entries.specs.declared.EntryKind.TheVariants.{Blank, Damaged, Valid}
-use Rattle.entries.specs.declared.ReadEntry.{ReadEntry}
 
 -- the first 48 bytes of an entry: all but its checksum
 unfoldable pub entry_body : List ℕ → ℕ → ℕ → List ℕ
@@ -48,6 +46,19 @@ kind_number Valid = 2
 -- whether an entry is of a kind
 unfoldable pub is_kind : EntryKind → List ℕ → Bool
 is_kind kind entry = eqb (kind_number (kind_of entry)) (kind_number kind)
+
+-- a code, and the entry of 64 bytes that was made
+pub record MadeEntry : Type 0 where
+  pub code : ℕ
+  pub entry : List ℕ
+
+-- a code, and what the bytes of an entry say
+pub record ReadEntry : Type 0 where
+  pub code : ℕ
+  pub kind : EntryKind
+  pub commitment : List ℕ
+  pub offset : ℕ
+  pub size : ℕ
 
 -- zeros beside a refusal's code
 abbrev pub refused : ℕ → MadeEntry

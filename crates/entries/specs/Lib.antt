@@ -3,3 +3,4 @@ pub mod Entry
 pub mod EntryLaws
 pub mod KindLaws
 pub mod MadeLaws
+pub mod Answers

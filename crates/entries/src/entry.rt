@@ -2,10 +2,11 @@
 ghost use Rattle.std.specs.Prelude.{◌≡◌, length};
 ghost use Rattle.octets.specs.Splice.{part};
 ghost use Rattle.entries.specs.Checksum.{checksum_of};
-ghost use Rattle.entries.specs.Entry.{entry_of, checksum_right, kind_of, made_entry, no_fields, read_entry};
-ghost use Rattle.entries.specs.Entry as E;
+ghost use Rattle.entries.specs.Entry.{entry_of, checksum_right, kind_of, made_entry, read_entry};
+ghost use Rattle.entries.specs.Answers.{made_as, read_answer};
 
-use crate::{EntryKind, MadeEntry, ReadEntry};
+use crate::{EntryKind, Fields, ReadEntry};
+use rules::Refusal;
 
 // The checksum of an entry, whatever its own last 16 bytes hold: the first 16 bytes of the SHA-256 of the entry with
 // zeros there, the top two bits of the last one cleared.
@@ -59,63 +60,34 @@ pub fn kind_of(entry: &[u8]) -> EntryKind
     EntryKind::Valid
 }
 
-// A refusal.
-fn refused(code: u8) -> MadeEntry
-    ensures { result ≡ E.refused code }
-{
-    MadeEntry {
-        code,
-        entry: [0u8; 64],
-    }
-}
-
 // The entry for a lent commitment and two numbers, which are taken as they are; 1 for a commitment that is not 32 bytes
 // long, 8 for one with stray bits.
-pub fn make_entry(commitment: &[u8], offset: u64, size: u64) -> MadeEntry
-    ensures { result ≡ made_entry commitment.now offset size }
+pub fn make_entry(commitment: &[u8], offset: u64, size: u64) -> Result<[u8; 64], Refusal>
+    ensures { made_as result ≡ made_entry commitment.now offset size }
 {
     if commitment.len() != 32 {
-        return refused(1);
+        return Err(Refusal::CommitmentLength);
     }
     if !stray::no_stray_bits(commitment) {
-        return refused(8);
+        return Err(Refusal::CommitmentBits);
     }
-    let node = octets::array_at(commitment, 0);
-    MadeEntry {
-        code: 0,
-        entry: entry_of(node, offset, size),
-    }
-}
-
-// What is said of bytes that are no valid entry, and on a refusal.
-fn no_fields(code: u8, kind: EntryKind) -> ReadEntry
-    ensures { result ≡ no_fields code kind }
-{
-    ReadEntry {
-        code,
-        kind,
-        commitment: [0u8; 32],
-        offset: 0,
-        size: 0,
-    }
+    Ok(entry_of(octets::array_at(commitment, 0), offset, size))
 }
 
 // The kind of a lent entry, with its three fields where it is valid; 2 unless there are 64 bytes.
-pub fn read_entry(entry: &[u8]) -> ReadEntry
-    ensures { result ≡ read_entry entry.now }
+pub fn read_entry(entry: &[u8]) -> Result<ReadEntry, Refusal>
+    ensures { read_answer result ≡ read_entry entry.now }
 {
     if entry.len() != 64 {
-        return no_fields(2, EntryKind::Blank);
+        return Err(Refusal::Size);
     }
-    let kind = kind_of(entry);
-    let EntryKind::Valid = kind else {
-        return no_fields(0, kind);
-    };
-    ReadEntry {
-        code: 0,
-        kind,
-        commitment: octets::array_at(entry, 0),
-        offset: octets::read_u64(entry, 32),
-        size: octets::read_u64(entry, 40),
+    match kind_of(entry) {
+        EntryKind::Blank => Ok(ReadEntry::Blank),
+        EntryKind::Damaged => Ok(ReadEntry::Damaged),
+        EntryKind::Valid => Ok(ReadEntry::Valid(Fields {
+            commitment: octets::array_at(entry, 0),
+            offset: octets::read_u64(entry, 32),
+            size: octets::read_u64(entry, 40),
+        })),
     }
 }

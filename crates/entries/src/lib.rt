@@ -5,27 +5,26 @@ mod entry; // entry.rt: entries and their checksum
 
 pub use entry::{entry_of, kind_of, make_entry, read_entry};
 
-// An entry of 64 bytes; zeros on a refusal.
-#[derive(Drop)]
-pub struct MadeEntry {
-    pub code: u8,
-    pub entry: [u8; 64],
-}
-
 // The kind of an entry: blank where all its 64 bytes are zero, else damaged where its checksum is wrong, else valid.
-#[derive(Drop)]
+#[derive(Clone, Copy, Debug, PartialEq, Eq, Drop)]
 pub enum EntryKind {
     Blank,
     Damaged,
     Valid,
 }
 
-// What the bytes of an entry say; zeros where it is not valid, and the kind Blank on a refusal.
-#[derive(Drop)]
-pub struct ReadEntry {
-    pub code: u8,
-    pub kind: EntryKind,
+// The three fields of an entry.
+#[derive(Clone, Copy, Debug, PartialEq, Eq, Drop)]
+pub struct Fields {
     pub commitment: [u8; 32],
     pub offset: u64,
     pub size: u64,
+}
+
+// What the bytes of an entry say: its kind, with its fields where it is valid.
+#[derive(Clone, Copy, Debug, PartialEq, Eq, Drop)]
+pub enum ReadEntry {
+    Blank,
+    Damaged,
+    Valid(Fields),
 }

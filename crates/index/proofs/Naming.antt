@@ -18,12 +18,11 @@ use Rattle.sizes.specs.Sizes.{area, slot_place, segment_level, segment_position}
 use Rattle.sizes.specs.AreaLaws.{area_doubled, area_is_doubled}
 use Rattle.entries.specs.Entry.{commitment_in, offset_in, size_in}
 use Rattle.lent.specs.LentDeal.{LentDeal, deal_size}
-use Rattle.index.specs.Slots.{entry_at, standing, node_over, kept, free, holds, row_of, row_area}
+use Rattle.index.specs.Slots.{entry_at, standing, node_over, kept, free, holds, row_of, row_area, Row}
 use Rattle.index.specs.SlotsLaws.{StandsAs, answer_stands}
 use Rattle.index.specs.KeptLaws.{row_stands, row_free, area_node}
 use Rattle.index.specs.Find.{keeps_commitment, found_in}
 use Rattle.index.specs.Tried.{naming_row, kept_by, TriedBefore}
-use Rattle.index.specs.declared.Row.{Row}
 
 either_free : (t : Bool) → choose t free free ≡ free
 either_free true = refl

@@ -10,9 +10,8 @@ use Rattle.merkle.specs.NodeSource.{NodeSource}
 use Rattle.sizes.specs.Sizes.{segment_size_allowed, offset_allowed, segment_level, segment_position}
 use Rattle.entries.specs.Entry.{commitment_in, offset_in, size_in, is_kind}
 use Rattle.entries.specs.declared.EntryKind.{EntryKind}
-use Rattle.index.specs.Slots.{standing, kept, free, holds, row_of, kept_row}
+use Rattle.index.specs.Slots.{standing, kept, free, holds, row_of, kept_row, Row}
 use Rattle.index.specs.SlotsLaws.{answer_stands, answer_free}
-use Rattle.index.specs.declared.Row.{Row}
 
 -- an entry as it is read
 module _ (d : ℕ) (entry : List ℕ) where

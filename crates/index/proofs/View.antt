@@ -6,9 +6,8 @@ use lib.ListN.{length, take, drop}
 use Rattle.octets.specs.Splice.{part}
 use Rattle.octets.specs.SpliceLaws.{part_range}
 use Rattle.lent.specs.LentDeal.{LentDeal, deal_size}
-use Rattle.index.specs.Find.{find_numbers, find_view}
+use Rattle.index.specs.Find.{find_numbers, find_view, FoundSegment}
 use Rattle.index.specs.FindLaws.{find_within, view_length}
-use Rattle.index.specs.declared.FoundSegment.{FoundSegment}
 
 module _ (deal : LentDeal) (commitment : List ℕ) (answer : FoundSegment)
     (e : answer ≡ find_numbers deal commitment) where

@@ -1,5 +1,5 @@
 -- What finding a segment answers: the lowest slot that keeps the commitment, and where the segment lies.
-use Rattle.std.specs.Prelude.{◌≡◌, refl, Bool, true, false, ◌≢◌, ℕ, zero, suc, ◌+◌, ◌≤◌, ◌<◌, length, eqb}
+use Rattle.std.specs.Prelude.{◌≡◌, refl, Bool, true, false, ◌≢◌, ℕ, zero, suc, ◌+◌, ◌≤◌, ◌<◌, length, eqb, Option, Some, None}
 use Rattle.std.proofs.Common.{sym, ◌∙◌, subst, true≢false}
 use Rattle.std.proofs.Math.Path.{ap}
 use native.Mathlib.Omega.{arith}
@@ -7,8 +7,6 @@ use mathlib.Core.List.{List, [], ◌∷◌}
 use borrow.Author.Tests.{eq-eqb, ne_eqb, eqb-true}
 use Rattle.rules.specs.Refusals.{Rule, rule, first_refusal, unless_refused}
 use Rattle.rules.specs.RefusalLaws.{and_left, and_right, none_refused}
-use Rattle.std.specs.Prelude.{Option}
-use Rattle.std.specs.Prelude.{Some, None}
 use Rattle.rules.specs.SearchLaws.{IsLowest, lowest_found, lowest_missing}
 use Rattle.octets.specs.Equality.{same_bytes}
 use Rattle.octets.specs.EqualityLaws.{same_true}
@@ -23,8 +21,7 @@ use Rattle.lent.specs.LentDeal.{LentDeal, deal_size, deal_rules, deal_refusal}
 use Rattle.lent.specs.LentDealLaws.{refused_answer}
 use Rattle.index.specs.Slots.{slot_at, kept_at}
 use Rattle.index.specs.SlotsLaws.{keeps, kept_clear}
-use Rattle.index.specs.Find.{keeps_commitment, lowest_with_commitment, refused, found_in, find_numbers, find_view}
-use Rattle.index.specs.declared.FoundSegment.{FoundSegment}
+use Rattle.index.specs.Find.{keeps_commitment, lowest_with_commitment, refused, found_in, find_numbers, find_view, FoundSegment}
 
 -- what a slot that keeps a commitment holds
 pub record SlotKeeps (deal : LentDeal) (commitment : List ℕ) (i : ℕ) : Type 0 where

@@ -4,8 +4,7 @@ use Rattle.octets.specs.Equality.{same_bytes}
 use Rattle.octets.specs.Splice.{part}
 use Rattle.merkle.specs.Tree.{commitment_of}
 use Rattle.sizes.specs.Sizes.{segment_level}
-use Rattle.index.specs.Slots.{row_offset, row_area}
-use Rattle.index.specs.declared.Row.{Row}
+use Rattle.index.specs.Slots.{row_offset, row_area, Row}
 
 -- the bytes of a row's area; none for a free row
 abbrev pub area_of : List ℕ → Row → List ℕ

@@ -1,5 +1,5 @@
 -- The slots of a deal's index (document 01, "Entries and the index area").
-use Rattle.std.specs.Prelude.{Bool, true, false, ◌&&◌, ℕ, List, length, replicate}
+use Rattle.std.specs.Prelude.{Bool, true, false, ◌&&◌, ℕ, List, length, replicate, Option, Some, None}
 use Rattle.rules.specs.Choice.{choose}
 use Rattle.octets.specs.Equality.{same_bytes}
 use Rattle.octets.specs.Splice.{part}
@@ -7,8 +7,8 @@ use Rattle.merkle.specs.NodeSource.{NodeSource}
 use Rattle.sizes.specs.Sizes.{segment_size_allowed, offset_allowed, area, slot_place, segment_level, segment_position}
 use Rattle.entries.specs.Entry.{commitment_in, offset_in, size_in, is_kind}
 use Rattle.entries.specs.declared.EntryKind.{EntryKind}
+use Rattle.entries.specs.declared.Fields.{Fields}
 use Rattle.lent.specs.LentDeal.{LentDeal, deal_size}
-use Rattle.index.specs.declared.Row.{Row}
 
 -- the 64 bytes at a place, and those in slot i
 abbrev pub entry_at : List ℕ → ℕ → List ℕ
@@ -37,11 +37,22 @@ abbrev pub kept_at : LentDeal → ℕ → Bool
 kept_at deal i = kept deal.nodes (deal_size deal) (slot_at deal.bytes i)
 
 -- a row says what stands in a slot: commitment, offset and size. A slot without a standing entry is free
+pub record Row : Type 0 where
+  pub stands : Bool
+  pub commitment : List ℕ
+  pub offset : ℕ
+  pub size : ℕ
+
 abbrev pub free : Row
 free = record { stands = false; commitment = replicate 32 0; offset = 0; size = 0 }
 
 abbrev pub holds : List ℕ → ℕ → ℕ → Row
 holds commitment offset size = record { stands = true; commitment = commitment; offset = offset; size = size }
+
+-- the row that the code's fields of an entry are, where one stands
+abbrev pub row_as : Option Fields → Row
+row_as None = free
+row_as (Some fields) = holds fields.commitment fields.offset fields.size
 
 -- the row of an entry
 unfoldable pub row_of : ℕ → List ℕ → Row

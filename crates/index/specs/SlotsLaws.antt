@@ -1,6 +1,5 @@
 -- What standing and kept entries are, and what an all-zero slot is not.
-use Rattle.std.specs.Prelude.{◌≡◌, refl, Bool, false, ◌&&◌, ℕ, zero, suc, ◌+◌, ◌^◌, ◌<◌, List, ◌++◌, length, get_or}
-use Rattle.std.specs.Prelude.{replicate, eqb}
+use Rattle.std.specs.Prelude.{◌≡◌, refl, Bool, false, ◌&&◌, ℕ, zero, suc, ◌+◌, ◌^◌, ◌<◌, List, ◌++◌, length, get_or, replicate, eqb}
 use Rattle.std.proofs.Math.Path.{sym, ap}
 use Rattle.std.proofs.Common.{ap₂, ◌∙◌, arith}
 use Rattle.std.proofs.Math.Bool.{true}
@@ -12,16 +11,13 @@ use Rattle.node.specs.Node.{node_hash_clear}
 use Rattle.merkle.specs.NodeSource.{NodeSource, IsTree}
 use Rattle.stray.specs.StrayBits.{clear_node}
 use Rattle.stray.specs.StrayBitsLaws.{clear_node_lem}
-use Rattle.sizes.specs.Sizes.{segment_size_allowed, offset_allowed, deal_level}
-use Rattle.sizes.specs.Sizes.{segment_level, segment_path_levels, segment_position}
+use Rattle.sizes.specs.Sizes.{segment_size_allowed, offset_allowed, deal_level, segment_level, segment_path_levels, segment_position}
 use Rattle.sizes.specs.SizesLaws.{DealSize, segment_size, segment_place}
-use Rattle.entries.specs.Entry.{entry_of, commitment_in, offset_in, size_in, checksum_right, kind_of, kind_number}
-use Rattle.entries.specs.Entry.{is_kind}
+use Rattle.entries.specs.Entry.{entry_of, commitment_in, offset_in, size_in, checksum_right, kind_of, kind_number, is_kind}
 use Rattle.entries.specs.EntryLaws.{made_right, commitment_back, offset_back, size_back}
 use Rattle.entries.specs.KindLaws.{zero_size}
 use Rattle.entries.specs.declared.EntryKind.{EntryKind}
-use Rattle.index.specs.Slots.{standing, node_over, kept, free, holds, row_of, kept_row, row_offset}
-use Rattle.index.specs.declared.Row.{Row}
+use Rattle.index.specs.Slots.{standing, node_over, kept, free, holds, row_of, kept_row, row_offset, Row}
 
 and_false : (b : Bool) → (b && false) ≡ false
 and_false true = refl

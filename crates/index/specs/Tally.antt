@@ -1,5 +1,7 @@
 -- The tally of a deal's index (document 02, (ii)): how many slots are blank, damaged and valid.
-use Rattle.std.specs.Prelude.{ℕ, List, length}
+use Rattle.std.specs.Prelude.{ℕ, List, length, Result}
+use Rattle.rules.specs.declared.Refusal.{Refusal}
+use Rattle.rules.specs.Answers.{answered}
 use Rattle.rules.specs.Refusals.{first_refusal, unless_refused}
 use Rattle.rules.specs.Search.{count}
 use Rattle.sizes.specs.Sizes.{entry_count}
@@ -7,7 +9,14 @@ use Rattle.entries.specs.Entry.{is_kind}
 use Rattle.entries.specs.declared.EntryKind.{EntryKind}
 use Rattle.lent.specs.LentDeal.{lent_deal, deal_rules}
 use Rattle.index.specs.Slots.{slot_at}
-use Rattle.index.specs.declared.Tallied.{Tallied}
+use Rattle.index.specs.declared.Tallied as T
+
+-- a code, and the three counts
+pub record Tallied : Type 0 where
+  pub code : ℕ
+  pub blank : ℕ
+  pub damaged : ℕ
+  pub valid : ℕ
 
 -- the number of slots of a kind
 unfoldable pub count_of : EntryKind → List ℕ → ℕ
@@ -25,6 +34,13 @@ counts_of deal =
       damaged = count_of EntryKind.Damaged deal;
       valid = count_of EntryKind.Valid deal;
     }
+
+-- the answer that a result stands for
+abbrev pub tallied_as : Result T.Tallied Refusal → Tallied
+tallied_as =
+    answered
+    (λ counts. record { code = 0; blank = counts.blank; damaged = counts.damaged; valid = counts.valid })
+    refused
 
 -- 2, 11, then the three counts
 unfoldable pub tally_answer : List ℕ → Tallied

@@ -5,8 +5,7 @@ use Rattle.rules.specs.Choice.{choose}
 use Rattle.octets.specs.Equality.{same_bytes}
 use Rattle.merkle.specs.NodeSource.{NodeSource}
 use Rattle.sizes.specs.Sizes.{segment_level, segment_position}
-use Rattle.index.specs.Slots.{entry_at, free, row_of}
-use Rattle.index.specs.declared.Row.{Row}
+use Rattle.index.specs.Slots.{entry_at, free, row_of, Row}
 
 -- the row of the entry at a place, where it stands and names this commitment
 abbrev pub naming_row : List ℕ → List ℕ → ℕ → Row

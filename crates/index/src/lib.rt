@@ -1,4 +1,5 @@
-// The index of a lent deal: its slots, finding a segment, and the tally of its slots.
+// The index of a lent deal: its slots, finding a segment, and the tally of its slots. What stands in a slot are the
+// fields of its entry.
 #![tactic(auto)]
 
 mod finding; // finding.rt: finding a segment by its commitment
@@ -9,30 +10,25 @@ pub use finding::{find, find_numbers};
 pub use slots::{area_of, kept_at, segment_node, standing_at};
 pub use tallying::tally;
 
-// A row: what stands in a slot; zeros where nothing does.
-#[derive(Drop)]
-#[derive(Clone, Copy)]
-pub struct Row {
-    pub stands: bool,
-    pub commitment: [u8; 32],
-    pub offset: u64,
-    pub size: u64,
-}
-
-// Where a segment was found; zeros on a refusal.
-#[derive(Drop)]
+// Where a segment was found: its offset and size, and the place of its entry.
+#[derive(Clone, Copy, Debug, PartialEq, Eq, Drop)]
 pub struct FoundSegment {
-    pub code: u8,
     pub offset: u64,
     pub size: u64,
     pub place: u64,
 }
 
-// How many slots are blank, damaged and valid; zeros on a refusal.
-#[derive(Drop)]
+// How many slots are blank, damaged and valid.
+#[derive(Clone, Copy, Debug, PartialEq, Eq, Drop)]
 pub struct Tallied {
-    pub code: u8,
     pub blank: u64,
     pub damaged: u64,
     pub valid: u64,
+}
+
+// The area of a segment: where it starts, and how many bytes it takes up.
+#[derive(Clone, Copy, PartialEq, Eq, Drop)]
+pub(crate) struct Area {
+    pub offset: u64,
+    pub bytes: u64,
 }

@@ -1,6 +1,6 @@
 -- A deal that is lent, with the source of its nodes, and the refusals that routines over a lent deal start with
 -- (document 01, "Codes and their order"; document 02, request (vii)).
-use Rattle.std.specs.Prelude.{Bool, true, ℕ, ◌-◌, List, [], ◌∷◌, length, eqb}
+use Rattle.std.specs.Prelude.{Bool, true, ℕ, ◌-◌, List, [], ◌∷◌, length, eqb, Option, Some, None}
 use Rattle.rules.specs.Choice.{choose}
 use Rattle.rules.specs.Refusals.{Rule, rule, first_refusal}
 use Rattle.stray.specs.StrayBits.{no_stray_bits}
@@ -15,15 +15,25 @@ pub record LentDeal : Type 0 where
   pub nodes : NodeSource
   pub tree_sized : Bool
 
--- a deal with a tree beside it or without one: with one the nodes are taken as they stand, the inner ones in its
--- D - 32 bytes; without one they are worked out from the deal's bytes
+-- the source of its nodes: with a tree beside it the nodes are taken as they stand, the inner ones in its D - 32 bytes;
+-- without one they are worked out from the deal's bytes
+abbrev pub nodes_of : List ℕ → Option (List ℕ) → NodeSource
+nodes_of bytes (Some tree) = tree_nodes bytes tree
+nodes_of bytes None = node_at bytes
+
+-- whether a tree has the length that a deal of a size asks; so it has where none is lent
+abbrev pub tree_fits : ℕ → Option (List ℕ) → Bool
+tree_fits size (Some tree) = eqb (length tree) (size - 32)
+tree_fits size None = true
+
+-- a deal with a tree beside it or without one
+abbrev pub lent_of : List ℕ → Option (List ℕ) → LentDeal
+lent_of bytes tree =
+    record { bytes = bytes; nodes = nodes_of bytes tree; tree_sized = tree_fits (length bytes) tree }
+
+-- the same by a flag
 abbrev pub lent_with : Bool → List ℕ → List ℕ → LentDeal
-lent_with has_tree bytes tree =
-    record {
-      bytes = bytes;
-      nodes = choose has_tree (tree_nodes bytes tree) (node_at bytes);
-      tree_sized = choose has_tree (eqb (length tree) (length bytes - 32)) true;
-    }
+lent_with has_tree bytes tree = lent_of bytes (choose has_tree (Some tree) None)
 
 -- the deal alone
 abbrev pub lent_deal : List ℕ → LentDeal

@@ -1,6 +1,7 @@
 pub mod LentDeal
 pub mod LentDealLaws
 pub mod Usable
+pub mod Seen
 pub mod PathNodes
 pub mod UsableLaws
 pub mod FilledTree

@@ -1,7 +1,6 @@
 -- Where the nodes of a lent deal may be looked up.
-use Rattle.std.specs.Prelude.{◌≡◌, Bool, true, false, ℕ, ◌+◌, ◌-◌, ◌*◌, ◌^◌, ◌≤◌, ◌<◌, List, length, eqb}
+use Rattle.std.specs.Prelude.{◌≡◌, true, ℕ, ◌+◌, ◌-◌, ◌*◌, ◌^◌, ◌≤◌, ◌<◌, List, length, eqb, Option, Some, None}
 use Rattle.std.proofs.Common.{sym, ap, ap₂, ◌∙◌, le_trans, le_of_eq, arith}
-use Rattle.rules.specs.Choice.{choose}
 use Rattle.merkle.specs.TreeLaws.{within, node_at_length}
 use Rattle.sizes.specs.Sizes.{lent_size_allowed, deal_level}
 use Rattle.sizes.specs.SizesLaws.{LentSize, lent_size}
@@ -10,7 +9,7 @@ use Rattle.paths.specs.NodesSized.{NodesSized}
 use Rattle.tree.specs.Place.{NodeInTree}
 use Rattle.tree.specs.TreeNodes.{SizedFor}
 use Rattle.tree.specs.TreeNodesLaws.{sized_of_test, node_length}
-use Rattle.lent.specs.LentDeal.{LentDeal, deal_size, lent_with, tree_deal}
+use Rattle.lent.specs.LentDeal.{LentDeal, deal_size, lent_of, tree_deal}
 use Rattle.lent.specs.Usable.{Usable}
 
 module _ {deal : LentDeal} (u : Usable deal) where
@@ -46,22 +45,21 @@ tree_sized_lem bytes tree u =
     sized_of_test bytes tree (omega arith) u.tree_sized_lem
 
 -- only the two lengths are asked
-pub usable_same : (has_tree : Bool) (bytes tree new_bytes new_tree : List ℕ) → length new_bytes ≡ length bytes
-    → length new_tree ≡ length tree → Usable (lent_with has_tree bytes tree)
-    → Usable (lent_with has_tree new_bytes new_tree)
-usable_same has_tree bytes tree new_bytes new_tree e f u =
+pub usable_same : (bytes tree new_bytes new_tree : List ℕ) → length new_bytes ≡ length bytes
+    → length new_tree ≡ length tree → Usable (tree_deal bytes tree) → Usable (tree_deal new_bytes new_tree)
+usable_same bytes tree new_bytes new_tree e f u =
     record {
       size_allowed = ap lent_size_allowed e ∙ u.size_allowed;
-      tree_sized_lem = ap₂ (λ (n d : ℕ). choose has_tree (eqb n (d - 32)) true) f e ∙ u.tree_sized_lem;
+      tree_sized_lem = ap₂ (λ (n d : ℕ). eqb n (d - 32)) f e ∙ u.tree_sized_lem;
     }
 
 -- every node has 32 bytes, with a tree as it stands or without one
-pub nodes_sized : (has_tree : Bool) (bytes tree : List ℕ) → Usable (lent_with has_tree bytes tree)
-    → NodesSized (lent_with has_tree bytes tree).nodes (deal_level (length bytes))
-nodes_sized true bytes tree u =
+pub nodes_sized : (bytes : List ℕ) (tree : Option (List ℕ)) → Usable (lent_of bytes tree)
+    → NodesSized (lent_of bytes tree).nodes (deal_level (length bytes))
+nodes_sized bytes (Some tree) u =
     record {
       sized = λ start w. node_length bytes tree (tree_sized_lem bytes tree u) start.level start.position
           (node_in_tree u start w);
     }
-nodes_sized false bytes tree u =
+nodes_sized bytes None u =
     record { sized = λ start w. node_at_length start.level start.position bytes (node_room u start w) }

@@ -4,242 +4,212 @@ ghost use Rattle.octets.specs.Splice.{splice};
 ghost use Rattle.sizes.specs.Sizes.{deal_level};
 ghost use Rattle.paths.specs.Start.{path_start, InTree};
 ghost use Rattle.paths.specs.Siblings.{sibling_of, siblings};
-ghost use Rattle.lent.specs.LentDeal.{lent_with};
-ghost use Rattle.lent.specs.Usable.{Usable};
+ghost use Rattle.lent.specs.Seen.{seen};
 ghost use Rattle.lent.specs.PathNodes.{IsNode};
 
-use crate::PathNode;
-use crate::nodes::{node_above, node_in};
+use crate::{Lent, PathNode};
 
-// The node above a node of a level and its sibling, with `levels` levels above it.
-fn above(
-    deal: &[u8],
-    tree: &[u8],
-    has_tree: bool,
-    levels: usize,
-    level: usize,
-    x: PathNode,
-    sibling: [u8; 32],
-) -> PathNode
-    requires usable { Usable (lent_with has_tree deal.now tree.now) }
-    requires in_tree { InTree (deal_level (length deal.now)) (path_start levels (level + 1) (x.position / 2)) }
-    requires node { IsNode (lent_with has_tree deal.now tree.now).nodes level x }
-    requires sibling_value { sibling ≡ (lent_with has_tree deal.now tree.now).nodes level (sibling_of x.position) }
-    ensures { IsNode (lent_with has_tree deal.now tree.now).nodes (level + 1) result
-        × (result.position ≡ x.position / 2) }
-{
-    let node = x.node;
-    let pair = paths::pair(x.position as u64, node, sibling);
-    let position = x.position / 2;
-    let parent = node_above(deal, tree, has_tree, levels, level, position, pair);
-    PathNode {
-        position,
-        node: parent,
+impl<'a> Lent<'a> {
+    // The node above a node of a level and its sibling, with `levels` levels above it.
+    fn above(
+        &self,
+        levels: usize,
+        level: usize,
+        x: PathNode,
+        sibling: [u8; 32],
+    ) -> PathNode
+        requires in_tree { InTree (deal_level (length self.now.bytes.now)) (path_start levels (level + 1) (x.position / 2)) }
+        requires node { IsNode (seen self.now).nodes level x }
+        requires sibling_value { sibling ≡ (seen self.now).nodes level (sibling_of x.position) }
+        ensures { IsNode (seen self.now).nodes (level + 1) result
+            × (result.position ≡ x.position / 2) }
+    {
+        let node = x.node;
+        let pair = paths::pair(x.position as u64, node, sibling);
+        let position = x.position / 2;
+        let parent = self.node_above(levels, level, position, pair);
+        PathNode {
+            position,
+            node: parent,
+        }
     }
-}
 
-// The sibling of the node at a position of a level, with `levels` levels above it. Where it is the node of another path
-// on that level, which is in hand, it need not be worked out.
-fn sibling_beside(
-    deal: &[u8],
-    tree: &[u8],
-    has_tree: bool,
-    levels: usize,
-    level: usize,
-    position: usize,
-    other: PathNode,
-) -> [u8; 32]
-    requires usable { Usable (lent_with has_tree deal.now tree.now) }
-    requires in_tree { InTree (deal_level (length deal.now)) (path_start levels level (sibling_of position)) }
-    requires node { IsNode (lent_with has_tree deal.now tree.now).nodes level other }
-    ensures { result
-        ≡ (lent_with has_tree deal.now tree.now).nodes level (sibling_of position) }
-{
-    let sibling = paths::sibling_of(position);
-    if sibling == other.position {
-        return other.node;
+    // The sibling of the node at a position of a level, with `levels` levels above it. Where it is the node of another path
+    // on that level, which is in hand, it need not be worked out.
+    fn sibling_beside(
+        &self,
+        levels: usize,
+        level: usize,
+        position: usize,
+        other: PathNode,
+    ) -> [u8; 32]
+        requires in_tree { InTree (deal_level (length self.now.bytes.now)) (path_start levels level (sibling_of position)) }
+        requires node { IsNode (seen self.now).nodes level other }
+        ensures { result
+            ≡ (seen self.now).nodes level (sibling_of position) }
+    {
+        let sibling = paths::sibling_of(position);
+        if sibling == other.position {
+            return other.node;
+        }
+        self.node_in(levels, level, sibling)
     }
-    node_in(deal, tree, has_tree, levels, level, sibling)
-}
 
-// The same, with the sibling of the other path's node in hand too: it is this one's where the paths have met.
-fn second_sibling(
-    deal: &[u8],
-    tree: &[u8],
-    has_tree: bool,
-    levels: usize,
-    level: usize,
-    position: usize,
-    other: PathNode,
-    other_sibling: [u8; 32],
-) -> [u8; 32]
-    requires usable { Usable (lent_with has_tree deal.now tree.now) }
-    requires in_tree { InTree (deal_level (length deal.now)) (path_start levels level (sibling_of position)) }
-    requires node { IsNode (lent_with has_tree deal.now tree.now).nodes level other }
-    requires other_sibling_value { other_sibling
-        ≡ (lent_with has_tree deal.now tree.now).nodes level (sibling_of other.position) }
-    ensures { result
-        ≡ (lent_with has_tree deal.now tree.now).nodes level (sibling_of position) }
-{
-    if position == other.position {
-        return other_sibling;
+    // The same, with the sibling of the other path's node in hand too: it is this one's where the paths have met.
+    fn second_sibling(
+        &self,
+        levels: usize,
+        level: usize,
+        position: usize,
+        other: PathNode,
+        other_sibling: [u8; 32],
+    ) -> [u8; 32]
+        requires in_tree { InTree (deal_level (length self.now.bytes.now)) (path_start levels level (sibling_of position)) }
+        requires node { IsNode (seen self.now).nodes level other }
+        requires other_sibling_value { other_sibling
+            ≡ (seen self.now).nodes level (sibling_of other.position) }
+        ensures { result
+            ≡ (seen self.now).nodes level (sibling_of position) }
+    {
+        if position == other.position {
+            return other_sibling;
+        }
+        self.sibling_beside(levels, level, position, other)
     }
-    sibling_beside(deal, tree, has_tree, levels, level, position, other)
-}
 
-// Writes the first `count` siblings of the Merkle path of a node of a level, with `levels` levels above it, into `out`
-// from a place on, and answers the node that they lead to.
-fn write_below(
-    deal: &[u8],
-    tree: &[u8],
-    has_tree: bool,
-    levels: usize,
-    level: usize,
-    node: PathNode,
-    count: usize,
-    out: &mut [u8],
-    at: usize,
-) -> PathNode
-    requires usable { Usable (lent_with has_tree deal.now tree.now) }
-    requires in_tree { InTree (deal_level (length deal.now)) (path_start levels level node.position) }
-    requires node { IsNode (lent_with has_tree deal.now tree.now).nodes level node }
-    requires fits { (count ≤ levels) × (at + 32 * levels ≤ length out.old) }
-    ensures { IsNode (lent_with has_tree deal.now tree.now).nodes (level + count) result
-        × InTree (deal_level (length deal.now)) (path_start (levels - count) (level + count) result.position)
-        × (splice out.old at
-        (siblings (lent_with has_tree deal.now tree.now).nodes levels level node.position)
-        ≡ splice out.new (at + 32 * count)
-        (siblings (lent_with has_tree deal.now tree.now).nodes (levels - count) (level + count)
-        result.position)) }
-{
-    let mut x = node;
-    let mut i: usize = 0;
-    while i < count {
-        let left = levels - i;
-        let sibling = node_in(
-            deal,
-            tree,
-            has_tree,
-            left,
-            level + i,
-            paths::sibling_of(x.position),
+    // Writes the first `count` siblings of the Merkle path of a node of a level, with `levels` levels above it, into `out`
+    // from a place on, and answers the node that they lead to.
+    fn write_below(
+        &self,
+        levels: usize,
+        level: usize,
+        node: PathNode,
+        count: usize,
+        out: &mut [u8],
+        at: usize,
+    ) -> PathNode
+        requires in_tree { InTree (deal_level (length self.now.bytes.now)) (path_start levels level node.position) }
+        requires node { IsNode (seen self.now).nodes level node }
+        requires fits { (count ≤ levels) × (at + 32 * levels ≤ length out.old) }
+        ensures { IsNode (seen self.now).nodes (level + count) result
+            × InTree (deal_level (length self.now.bytes.now)) (path_start (levels - count) (level + count) result.position)
+            × (splice out.old at
+            (siblings (seen self.now).nodes levels level node.position)
+            ≡ splice out.new (at + 32 * count)
+            (siblings (seen self.now).nodes (levels - count) (level + count)
+            result.position)) }
+    {
+        let mut x = node;
+        let mut i: usize = 0;
+        while i < count {
+            let left = levels - i;
+            let sibling = self.node_in(left,
+                level + i,
+                paths::sibling_of(x.position),
+            );
+            octets::put_array(out, at + 32 * i, sibling);
+            let next = self.above(left - 1, level + i, x, sibling);
+            x = next;
+            i += 1;
+        }
+        x
+    }
+
+    // Writes the Merkle paths of two nodes of a level, with `levels` levels above it, into `out`, each from a place on, and
+    // answers the deal's top node, which both lead to. Just below the node where the paths meet each one's sibling is the
+    // node that the other leads to, and from there on they have every sibling in common.
+    fn write_both(
+        &self,
+        levels: usize,
+        level: usize,
+        first: PathNode,
+        second: PathNode,
+        out: &mut [u8],
+        at: usize,
+        second_at: usize,
+    ) -> [u8; 32]
+        requires first_in_tree { InTree (deal_level (length self.now.bytes.now)) (path_start levels level first.position) }
+        requires second_in_tree { InTree (deal_level (length self.now.bytes.now)) (path_start levels level second.position) }
+        requires first_node { IsNode (seen self.now).nodes level first }
+        requires second_node { IsNode (seen self.now).nodes level second }
+        requires fits { (at + 32 * levels ≤ second_at) × (second_at + 32 * levels ≤ length out.old) }
+        ensures { (result
+            ≡ (seen self.now).nodes (deal_level (length self.now.bytes.now)) 0)
+            × (out.new ≡ splice (splice out.old at
+            (siblings (seen self.now).nodes levels level first.position))
+            second_at
+            (siblings (seen self.now).nodes levels level
+            second.position)) }
+    {
+        let mut x = first;
+        let mut y = second;
+        let mut i: usize = 0;
+        while i < levels {
+            let left = levels - i;
+            let here = level + i;
+            let sibling = self.sibling_beside(left, here, x.position, y);
+            let other = self.second_sibling(left, here, y.position, x, sibling);
+            octets::put_array(out, at + 32 * i, sibling);
+            octets::put_array(out, second_at + 32 * i, other);
+            let next = self.above(left - 1, here, x, sibling);
+            let second_next = self.above(left - 1, here, y, other);
+            x = next;
+            y = second_next;
+            i += 1;
+        }
+        x.node
+    }
+
+    // Writes the deal's own Merkle paths of a segment, whose node is in hand, and of an entry into `out`, each from a place
+    // on, and answers the deal's commitment. Without a tree the bytes outside the segment are hashed once, and those of the
+    // segment not at all.
+    pub fn write_paths(
+        &self,
+        level: usize,
+        segment: PathNode,
+        entry_position: usize,
+        out: &mut [u8],
+        at: usize,
+        entry_at: usize,
+    ) -> [u8; 32]
+        requires level_nonzero { (0 < level) × InTree (deal_level (length self.now.bytes.now))
+            (path_start (deal_level (length self.now.bytes.now) - level) level segment.position) }
+        requires node { IsNode (seen self.now).nodes level segment }
+        requires in_tree { InTree (deal_level (length self.now.bytes.now))
+            (path_start (deal_level (length self.now.bytes.now) - 1) 1 entry_position) }
+        requires level_bound { (at + 32 * (deal_level (length self.now.bytes.now) - level) ≤ entry_at)
+            × (entry_at + 32 * (deal_level (length self.now.bytes.now) - 1) ≤ length out.old) }
+        ensures { (result
+            ≡ (seen self.now).nodes (deal_level (length self.now.bytes.now)) 0)
+            × (out.new ≡ splice (splice out.old at
+            (siblings (seen self.now).nodes
+            (deal_level (length self.now.bytes.now) - level) level segment.position))
+            entry_at
+            (siblings (seen self.now).nodes
+            (deal_level (length self.now.bytes.now) - 1) 1 entry_position)) }
+    {
+        let top = sizes::deal_level(self.bytes.len() as u64);
+        let node = self.node_in(top - 1, 1, entry_position);
+        let entry = PathNode {
+            position: entry_position,
+            node,
+        };
+        let below = level - 1;
+        let met = self.write_below(top - 1,
+            1,
+            entry,
+            below,
+            out,
+            entry_at,
         );
-        octets::put_array(out, at + 32 * i, sibling);
-        let next = above(deal, tree, has_tree, left - 1, level + i, x, sibling);
-        x = next;
-        i += 1;
+        let second_at = entry_at + 32 * below;
+        self.write_both(top - level,
+            level,
+            segment,
+            met,
+            out,
+            at,
+            second_at,
+        )
     }
-    x
-}
-
-// Writes the Merkle paths of two nodes of a level, with `levels` levels above it, into `out`, each from a place on, and
-// answers the deal's top node, which both lead to. Just below the node where the paths meet each one's sibling is the
-// node that the other leads to, and from there on they have every sibling in common.
-fn write_both(
-    deal: &[u8],
-    tree: &[u8],
-    has_tree: bool,
-    levels: usize,
-    level: usize,
-    first: PathNode,
-    second: PathNode,
-    out: &mut [u8],
-    at: usize,
-    second_at: usize,
-) -> [u8; 32]
-    requires usable { Usable (lent_with has_tree deal.now tree.now) }
-    requires first_in_tree { InTree (deal_level (length deal.now)) (path_start levels level first.position) }
-    requires second_in_tree { InTree (deal_level (length deal.now)) (path_start levels level second.position) }
-    requires first_node { IsNode (lent_with has_tree deal.now tree.now).nodes level first }
-    requires second_node { IsNode (lent_with has_tree deal.now tree.now).nodes level second }
-    requires fits { (at + 32 * levels ≤ second_at) × (second_at + 32 * levels ≤ length out.old) }
-    ensures { (result
-        ≡ (lent_with has_tree deal.now tree.now).nodes (deal_level (length deal.now)) 0)
-        × (out.new ≡ splice (splice out.old at
-        (siblings (lent_with has_tree deal.now tree.now).nodes levels level first.position))
-        second_at
-        (siblings (lent_with has_tree deal.now tree.now).nodes levels level
-        second.position)) }
-{
-    let mut x = first;
-    let mut y = second;
-    let mut i: usize = 0;
-    while i < levels {
-        let left = levels - i;
-        let here = level + i;
-        let sibling = sibling_beside(deal, tree, has_tree, left, here, x.position, y);
-        let other = second_sibling(deal, tree, has_tree, left, here, y.position, x, sibling);
-        octets::put_array(out, at + 32 * i, sibling);
-        octets::put_array(out, second_at + 32 * i, other);
-        let next = above(deal, tree, has_tree, left - 1, here, x, sibling);
-        let second_next = above(deal, tree, has_tree, left - 1, here, y, other);
-        x = next;
-        y = second_next;
-        i += 1;
-    }
-    x.node
-}
-
-// Writes the deal's own Merkle paths of a segment, whose node is in hand, and of an entry into `out`, each from a place
-// on, and answers the deal's commitment. Without a tree the bytes outside the segment are hashed once, and those of the
-// segment not at all.
-pub fn write_paths(
-    deal: &[u8],
-    tree: &[u8],
-    has_tree: bool,
-    level: usize,
-    segment: PathNode,
-    entry_position: usize,
-    out: &mut [u8],
-    at: usize,
-    entry_at: usize,
-) -> [u8; 32]
-    requires usable { Usable (lent_with has_tree deal.now tree.now) }
-    requires level_nonzero { (0 < level) × InTree (deal_level (length deal.now))
-        (path_start (deal_level (length deal.now) - level) level segment.position) }
-    requires node { IsNode (lent_with has_tree deal.now tree.now).nodes level segment }
-    requires in_tree { InTree (deal_level (length deal.now))
-        (path_start (deal_level (length deal.now) - 1) 1 entry_position) }
-    requires level_bound { (at + 32 * (deal_level (length deal.now) - level) ≤ entry_at)
-        × (entry_at + 32 * (deal_level (length deal.now) - 1) ≤ length out.old) }
-    ensures { (result
-        ≡ (lent_with has_tree deal.now tree.now).nodes (deal_level (length deal.now)) 0)
-        × (out.new ≡ splice (splice out.old at
-        (siblings (lent_with has_tree deal.now tree.now).nodes
-        (deal_level (length deal.now) - level) level segment.position))
-        entry_at
-        (siblings (lent_with has_tree deal.now tree.now).nodes
-        (deal_level (length deal.now) - 1) 1 entry_position)) }
-{
-    let top = sizes::deal_level(deal.len() as u64);
-    let node = node_in(deal, tree, has_tree, top - 1, 1, entry_position);
-    let entry = PathNode {
-        position: entry_position,
-        node,
-    };
-    let below = level - 1;
-    let met = write_below(
-        deal,
-        tree,
-        has_tree,
-        top - 1,
-        1,
-        entry,
-        below,
-        out,
-        entry_at,
-    );
-    let second_at = entry_at + 32 * below;
-    write_both(
-        deal,
-        tree,
-        has_tree,
-        top - level,
-        level,
-        segment,
-        met,
-        out,
-        at,
-        second_at,
-    )
 }

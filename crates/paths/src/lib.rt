@@ -3,13 +3,12 @@
 
 ghost use Rattle.std.specs.Prelude.{◌≡◌, ◌/◌, length};
 ghost use Rattle.paths.specs.Path.{pair_of, path_root};
-ghost use Rattle.paths.specs.Compare.{compared_above, compared_up};
+ghost use Rattle.paths.specs.Compare.{seen_as, compared_above, compared_up};
 ghost use Rattle.paths.specs.Siblings.{sibling_of};
 
-// The two strings at the first difference of two paths, from the top; zeros where there is none.
-#[derive(Drop)]
-pub struct Compared {
-    pub differs: bool,
+// The two strings at the first difference of two paths, from the top.
+#[derive(Clone, Copy, Debug, PartialEq, Eq, Drop)]
+pub struct Difference {
     pub left: [u8; 64],
     pub right: [u8; 64],
 }
@@ -29,66 +28,51 @@ pub fn pair(position: u64, node: [u8; 32], sibling: [u8; 32]) -> [u8; 64]
 pub fn path_root(node: [u8; 32], position: u64, path: &[u8]) -> [u8; 32]
     ensures { result ≡ path_root (length path.now / 32) node position path.now }
 {
-    let levels = path.len() / 32;
     let mut running = node;
     let mut p = position;
-    let mut i: usize = 0;
-    while i < levels {
+    for i in 0..path.len() / 32 {
         let sibling = octets::array_at(path, i * 32);
-        let string = pair(p, running, sibling);
-        let parent = node::node_hash(string);
-        running = parent;
-        p = p / 2;
-        i += 1;
+        running = node::node_hash(pair(p, running, sibling));
+        p /= 2;
     }
     running
 }
 
 // What is seen with one more pair of strings above: a difference here hides those below.
-pub fn compare_above(seen: Compared, left: [u8; 64], right: [u8; 64]) -> Compared
-    ensures { result ≡ compared_above seen left right }
+pub fn compare_above(below: Option<Difference>, left: [u8; 64], right: [u8; 64]) -> Option<Difference>
+    ensures { seen_as result ≡ compared_above (seen_as below) left right }
 {
     if left == right {
-        return seen;
+        return below;
     }
-    Compared {
-        differs: true,
-        left,
-        right,
-    }
+    Some(Difference { left, right })
 }
 
 // Compares the strings of two paths, from nodes x and y at one position. They are met from the bottom up, so the last
-// difference is the first from the top. `seen` is the difference of what stands below.
+// difference is the first from the top. `below` is the difference of what stands below.
 pub fn compare_paths(
     position: u64,
     x: [u8; 32],
     left: &[u8],
     y: [u8; 32],
     right: &[u8],
-    seen: Compared,
-) -> Compared
+    below: Option<Difference>,
+) -> Option<Difference>
     requires { length left.now ≡ length right.now }
-    ensures { result
-        ≡ compared_up (length left.now / 32) position x left.now y right.now seen }
+    ensures { seen_as result
+        ≡ compared_up (length left.now / 32) position x left.now y right.now (seen_as below) }
 {
-    let levels = left.len() / 32;
     let mut p = position;
     let mut a = x;
     let mut b = y;
-    let mut last = seen;
-    let mut i: usize = 0;
-    while i < levels {
+    let mut last = below;
+    for i in 0..left.len() / 32 {
         let left_string = pair(p, a, octets::array_at(left, i * 32));
         let right_string = pair(p, b, octets::array_at(right, i * 32));
-        let above = compare_above(last, left_string, right_string);
-        let left_parent = node::node_hash(left_string);
-        let right_parent = node::node_hash(right_string);
-        last = above;
-        a = left_parent;
-        b = right_parent;
-        p = p / 2;
-        i += 1;
+        last = compare_above(last, left_string, right_string);
+        a = node::node_hash(left_string);
+        b = node::node_hash(right_string);
+        p /= 2;
     }
     last
 }

@@ -9,8 +9,7 @@ use lib.ListN.{length, get_or, set}
 use lib.Seq.{get_or-set_same, get_or-set_other}
 use Rattle.rules.specs.Choice.{choose}
 use Rattle.sizes.specs.Sizes.{area, slot_place}
-use Rattle.index.specs.Slots.{entry_at, slot_at, row_of, row_at}
-use Rattle.index.specs.declared.Row.{Row}
+use Rattle.index.specs.Slots.{entry_at, slot_at, row_of, row_at, Row}
 use Rattle.index.specs.SlotsLaws.{row_offset_lem}
 use Rattle.room.specs.Room.{Range, range, SameBelow, ranges_in}
 use Rattle.ranges.specs.Ranges.{ranges_of}

@@ -1,7 +1,6 @@
 -- Which bytes the slots of a deal take up: those of their standing entries' areas, and none where they are free.
 use Rattle.std.specs.Prelude.{ℕ, List}
-use Rattle.index.specs.Slots.{row_at, row_offset, row_area}
-use Rattle.index.specs.declared.Row.{Row}
+use Rattle.index.specs.Slots.{row_at, row_offset, row_area, Row}
 use Rattle.room.specs.Room.{Range, range}
 
 abbrev pub row_range : Row → Range

@@ -3,7 +3,7 @@ use mathlib.Core.Path.{◌≡◌, refl, sym, ap, ◌∙◌}
 use mathlib.Core.Bool.{true, false}
 use Prim.Native.Nat.{ℕ, zero, suc}
 use Rattle.rules.specs.Refusals.{unless_refused}
-use Rattle.paths.specs.declared.Compared.{Compared}
+use Rattle.paths.specs.Compare.{Compared}
 use Rattle.settle.specs.SettleLaws.{settled_from, or_compared}
 use Rattle.settle.specs.declared.Settled.{Settled}
 

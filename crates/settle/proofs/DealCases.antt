@@ -9,11 +9,10 @@ use Rattle.node.specs.Node.{node_hash}
 use Rattle.paths.specs.SiblingsLaws.{pairs_length}
 use Rattle.paths.specs.PathLaws.{strings_length}
 use Rattle.paths.specs.Difference.{first_difference}
-use Rattle.paths.specs.Compare.{compared}
+use Rattle.paths.specs.Compare.{compared, Compared}
 use Rattle.paths.specs.CompareOwn.{compared_with_own}
 use Rattle.paths.proofs.CompareOwnLaws.{own_up}
 use Rattle.paths.specs.DealStarts.{segment_start, entry_start}
-use Rattle.paths.specs.declared.Compared.{Compared}
 use Rattle.sizes.specs.Sizes.{lent_size_allowed, entry_path_levels, segment_path_levels}
 use Rattle.index.specs.Slots.{entry_at}
 use Rattle.record.specs.Form.{Fields}
@@ -25,8 +24,7 @@ use Rattle.lent.specs.LentDeal.{LentDeal, deal_size, deal_refusal}
 use Rattle.lent.specs.LentDealLaws.{refusal_none}
 use Rattle.builder.specs.Build.{terms_of}
 use Rattle.builder.specs.BuildLaws.{InDeal, in_deal}
-use Rattle.settle.specs.Settle.{not_settled, entry_strings, segment_strings, deal_entry_strings, deal_segment_strings}
-use Rattle.settle.specs.Settle.{settle_with_deal}
+use Rattle.settle.specs.Settle.{not_settled, entry_strings, segment_strings, deal_entry_strings, deal_segment_strings, settle_with_deal}
 use Rattle.settle.specs.SettleLaws.{settled_from, or_compared, settled_parts}
 use Rattle.settle.specs.AcceptedRecord.{AcceptedRecord}
 use Rattle.settle.specs.AcceptedRecordLaws.{parses, accepted}

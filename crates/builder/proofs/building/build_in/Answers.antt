@@ -7,12 +7,11 @@ use native.Mathlib.Omega.{arith}
 use borrow.Author.Tests.{not-true, not-false}
 use Rattle.sizes.specs.Sizes.{place_allowed}
 use Rattle.sizes.specs.SizesLaws.{entry_place}
-use Rattle.index.specs.declared.Row.{Row}
+use Rattle.index.specs.Slots.{Row}
 use Rattle.lent.specs.LentDeal.{deal_size, deal_refusal, lent_with}
 use Rattle.lent.specs.LentDealLaws.{usable}
 use Rattle.lent.specs.UsableLaws.{usable_size, nodes_sized}
-use Rattle.builder.proofs.Answers.{Asked, Passed, KeptHere, entry_read, kept_here, deal_refused, place_refused}
-use Rattle.builder.proofs.Answers.{entry_refused, output_short, record_answered}
+use Rattle.builder.proofs.Answers.{Asked, Passed, KeptHere, entry_read, kept_here, deal_refused, place_refused, entry_refused, output_short, record_answered}
 use Rattle.builder.proofs.building.build_in.Goals as goal
 
 module _ (has_tree : Bool) (bytes tree : List ℕ) (number place : ℕ) (out : List ℕ) where

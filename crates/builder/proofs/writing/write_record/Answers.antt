@@ -8,13 +8,12 @@ use lib.ListN.{length}
 use Rattle.fields.specs.WrittenLaws.{wrote_field}
 use Rattle.sizes.specs.Sizes.{segment_level, segment_position}
 use Rattle.record.specs.Form.{table_row}
-use Rattle.index.specs.declared.Row.{Row}
+use Rattle.index.specs.Slots.{Row}
 use Rattle.lent.specs.LentDeal.{lent_with}
 use Rattle.lent.specs.Usable.{Usable}
 use Rattle.lent.specs.UsableLaws.{nodes_sized}
 use Rattle.builder.specs.BuildLaws.{InDeal, entry_start_lem}
-use Rattle.builder.proofs.RecordWritten.{WorkedOut, segment_inside, fields_room}
-use Rattle.builder.proofs.RecordWritten.{wrote_number, wrote_paths, record_written}
+use Rattle.builder.proofs.RecordWritten.{WorkedOut, segment_inside, fields_room, wrote_number, wrote_paths, record_written}
 use Rattle.builder.proofs.writing.write_record.Goals as goal
 
 -- the level and the position

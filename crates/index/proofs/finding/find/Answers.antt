@@ -3,7 +3,7 @@ use native.Mathlib.Omega.{arith}
 use borrow.Author.Rules.{rules}
 use Prim.Native.Nat.{◌+◌}
 use Rattle.lent.specs.LentDeal.{lent_deal}
-use Rattle.index.specs.declared.FoundSegment.{FoundSegment}
+use Rattle.index.specs.Find.{FoundSegment}
 use Rattle.index.proofs.View.{answer_within, view_is, view_size}
 use Rattle.index.proofs.finding.find.Goals as goal
 

@@ -6,8 +6,7 @@ use borrow.Author.Rules.{rules}
 use lib.ListN.{length, take, drop}
 use Rattle.octets.specs.SpliceLaws.{part_range}
 use Rattle.sizes.specs.SizesLaws.{lent_size}
-use Rattle.index.specs.Slots.{entry_at, row_of}
-use Rattle.index.specs.declared.Row.{Row}
+use Rattle.index.specs.Slots.{entry_at, row_of, Row}
 use Rattle.index.proofs.ValidKind.{is_valid, not_valid}
 use Rattle.index.proofs.SlotAnswers.{row_not_valid, row_size_refused, row_offset_refused, row_stands}
 use Rattle.index.proofs.slots.standing_at.Goals as goal

@@ -4,15 +4,14 @@ use mathlib.Core.List.{List}
 use Prim.Native.Nat.{ℕ}
 use lib.ListN.{length}
 use Rattle.octets.specs.Bytes.{bytes_of_slice}
-use Rattle.paths.specs.declared.Compared.{Compared}
+use Rattle.paths.specs.Compare.{Compared}
 use Rattle.sizes.specs.Sizes.{entry_position}
 use Rattle.record.specs.Form.{Fields}
 use Rattle.record.specs.Check.{entry_for}
 use Rattle.record.specs.ParsedRecordLaws.{fields_at}
 use Rattle.settle.specs.AcceptedRecordLaws.{within}
 use Rattle.settle.specs.Comparing.{entries_compared, segments_compared}
-use Rattle.settle.proofs.RecordsCases.{other_place, entry_paths, area_there, entries_differ}
-use Rattle.settle.proofs.RecordsCases.{segment_paths, entries_same}
+use Rattle.settle.proofs.RecordsCases.{other_place, entry_paths, area_there, entries_differ, segment_paths, entries_same}
 use Rattle.settle.proofs.records.settle_accepted.Goals as goal
 
 -- what was found, by the fields of the two records

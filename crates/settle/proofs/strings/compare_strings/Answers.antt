@@ -1,8 +1,7 @@
 use mathlib.Core.Path.{sym, ap, ◌∙◌}
 use mathlib.Core.List.{[]}
-use Rattle.paths.specs.Compare.{compared_above}
+use Rattle.paths.specs.Compare.{compared_above, Compared}
 use Rattle.paths.proofs.CompareLaws.{compared_more}
-use Rattle.paths.specs.declared.Compared.{Compared}
 use Rattle.settle.proofs.strings.compare_strings.Goals as goal
 
 pub returns : goal.returns
