@@ -8,6 +8,7 @@ ghost use Rattle.audit.specs.Audit.{stands_at, slot_state, slot_states, audit_co
 ghost use Rattle.audit.specs.Gathered.{Gathered};
 
 use entries::EntryKind;
+use lent::Lent;
 use room::Ranges;
 
 // The state of an entry that stands in slot i, whose bytes are those of its range: 3 where they overlap those of a
@@ -21,10 +22,13 @@ fn standing_state(deal: &[u8], place: usize, ranges: Ranges, i: usize) -> u8
     let None = room::lowest_overlap(ranges, i, ranges.offsets[i], ranges.areas[i]) else {
         return 3;
     };
-    let row = index::kept_at(deal, deal, false, place);
-    if !row.stands {
+    let lent = Lent {
+        bytes: deal,
+        tree: None,
+    };
+    let Some(_) = index::kept_at(&lent, place) else {
         return 4;
-    }
+    };
     5
 }
 
@@ -70,9 +74,8 @@ pub fn audit(deal: &[u8], states: &mut [u8]) -> u8
     ensures value { result ≡ audit_code deal.now states.old }
     ensures states_after { states.new ≡ audited_states deal.now states.old }
 {
-    let code = lent::refusal(deal);
-    if code != 0 {
-        return code;
+    if let Err(refusal) = Lent::new(deal, None) {
+        return refusal.code();
     }
     let slots = sizes::entry_count(deal.len() as u64) as usize;
     if states.len() < slots {

@@ -81,8 +81,10 @@ fn renew_written(deal: &[u8], tree: &mut [u8], has_tree: bool, size: u64, offset
         tree.old }
 {
     let area = sizes::area(size) as usize;
-    lent::renew_tree(deal, tree, has_tree, offset as usize, area);
-    lent::renew_tree(deal, tree, has_tree, place as usize, 64);
+    if has_tree {
+        lent::renew_tree(deal, tree, offset as usize, area);
+        lent::renew_tree(deal, tree, place as usize, 64);
+    }
 }
 
 // Books a segment in a lent deal for a house, with a tree beside the deal or without one.

@@ -11,6 +11,7 @@ ghost use Rattle.houses.specs.Houses.{table_sized};
 ghost use Rattle.booking.specs.Write.{segment_commitment};
 ghost use Rattle.booking.specs.Booking.{keeps_segment, lowest_keeping};
 
+use lent::Lent;
 use room::Ranges;
 
 // The node that an entry of the segment's size has to name to be kept with the segment's bytes: with a tree beside the
@@ -33,7 +34,11 @@ fn area_node(
         commitment }
 {
     if has_tree {
-        return index::segment_node(deal, tree, has_tree, offset, size);
+        let lent = Lent {
+            bytes: deal,
+            tree: Some(tree),
+        };
+        return index::segment_node(&lent, offset, size);
     }
     commitment
 }

@@ -33,7 +33,7 @@ pub(crate) fn first_refusal(
     if !stray::no_stray_bits(segment) {
         return 11;
     }
-    if !lent::tree_sized(deal.len(), tree, has_tree) {
+    if !lent::tree_sized(deal.len(), if has_tree { Some(tree) } else { None }) {
         return 12;
     }
     0

@@ -1,10 +1,11 @@
 // Building the record for the kept entry at a place of a lent deal, with a tree beside it or without one.
-ghost use Rattle.std.specs.Prelude.{◌≡◌};
-ghost use Rattle.lent.specs.LentDeal.{lent_with, lent_deal, tree_deal};
+ghost use Rattle.std.specs.Prelude.{◌≡◌, option_map};
+ghost use Rattle.lent.specs.LentDeal.{lent_of, lent_deal, tree_deal};
 ghost use Rattle.builder.specs.Build.{build_answer, build_output};
 
 use crate::BuildAnswer;
 use crate::writing::{record_length, write_record};
+use lent::Lent;
 
 // The refusal of a record.
 fn refused(code: u8) -> BuildAnswer
@@ -16,35 +17,33 @@ fn refused(code: u8) -> BuildAnswer
 // Building over a lent deal with a tree beside it or without one.
 fn build_in(
     deal: &[u8],
-    tree: &[u8],
-    has_tree: bool,
+    tree: Option<&[u8]>,
     number: u64,
     place: u64,
     out: &mut [u8],
 ) -> BuildAnswer
     ensures { (result
-        ≡ build_answer (lent_with has_tree deal.now tree.now) number place out.old)
+        ≡ build_answer (lent_of deal.now (option_map (λ t. t.now) tree.entry)) number place out.old)
         × (out.new
-        ≡ build_output (lent_with has_tree deal.now tree.now) number place
+        ≡ build_output (lent_of deal.now (option_map (λ t. t.now) tree.entry)) number place
         out.old) }
 {
-    let refusal = lent::refusal_with(deal, tree, has_tree);
-    if refusal != 0 {
-        return refused(refusal);
-    }
+    let lent = match Lent::new(deal, tree) {
+        Ok(lent) => lent,
+        Err(refusal) => return refused(refusal.code()),
+    };
     let deal_size = deal.len() as u64;
     if !sizes::place_allowed(deal_size, place) {
         return refused(6);
     }
-    let entry = index::kept_at(deal, tree, has_tree, place as usize);
-    if !entry.stands {
+    let Some(entry) = index::kept_at(&lent, place as usize) else {
         return refused(16);
-    }
+    };
     let length = record_length(deal_size, entry.size);
     if out.len() < length {
         return refused(12);
     }
-    write_record(deal, tree, has_tree, number, entry, place, out);
+    write_record(&lent, number, entry, place, out);
     BuildAnswer { code: 0, length }
 }
 
@@ -56,7 +55,7 @@ pub fn build(deal: &[u8], number: u64, place: u64, out: &mut [u8]) -> BuildAnswe
     ensures { (result ≡ build_answer (lent_deal deal.now) number place out.old)
         × (out.new ≡ build_output (lent_deal deal.now) number place out.old) }
 {
-    build_in(deal, deal, false, number, place, out)
+    build_in(deal, None, number, place, out)
 }
 
 // The same with the tree beside the deal: every inner node is taken as it stands there, the node that the test for kept
@@ -73,5 +72,5 @@ pub fn build_with_tree(
         × (out.new
         ≡ build_output (tree_deal deal.now tree.now) number place out.old) }
 {
-    build_in(deal, tree, true, number, place, out)
+    build_in(deal, Some(tree), number, place, out)
 }

@@ -6,15 +6,14 @@ ghost use Rattle.paths.specs.Start.{path_start, InTree};
 ghost use Rattle.paths.specs.Siblings.{siblings};
 ghost use Rattle.sizes.specs.Sizes.{deal_level, segment_level, segment_position};
 ghost use Rattle.sizes.specs.SizesLaws.{LentSize, SegmentSize};
-ghost use Rattle.lent.specs.LentDeal.{lent_with};
-ghost use Rattle.lent.specs.Usable.{Usable};
+ghost use Rattle.lent.specs.Seen.{seen};
 ghost use Rattle.lent.specs.PathNodes.{IsNode};
 ghost use Rattle.record.specs.Form.{table_row, record_length};
 ghost use Rattle.builder.specs.BuildLaws.{InDeal};
 ghost use Rattle.builder.specs.Encode.{record_for};
 
-use index::Row;
-use lent::PathNode;
+use entries::Fields;
+use lent::{Lent, PathNode};
 
 // The length of a record in a lent deal of d bytes, for a segment of a size.
 pub(crate) fn record_length(d: u64, size: u64) -> usize
@@ -32,44 +31,37 @@ pub(crate) fn record_length(d: u64, size: u64) -> usize
 fn put_paths(
     out: &mut [u8],
     at: usize,
-    deal: &[u8],
-    tree: &[u8],
-    has_tree: bool,
+    deal: &Lent,
     level: usize,
     segment: PathNode,
     entry_position: usize,
 ) -> usize
-    requires usable { Usable (lent_with has_tree deal.now tree.now) }
-    requires level_nonzero { (0 < level) × InTree (deal_level (length deal.now))
-        (path_start (deal_level (length deal.now) - level) level segment.position) }
-    requires node { IsNode (lent_with has_tree deal.now tree.now).nodes level segment }
-    requires in_tree { InTree (deal_level (length deal.now))
-        (path_start (deal_level (length deal.now) - 1) 1 entry_position) }
-    requires deal_in_bounds { at + 6 + 32 * (deal_level (length deal.now) - level) + 32 * (deal_level (length deal.now) - 1)
+    requires level_nonzero { (0 < level) × InTree (deal_level (length deal.now.bytes.now))
+        (path_start (deal_level (length deal.now.bytes.now) - level) level segment.position) }
+    requires node { IsNode (seen deal.now).nodes level segment }
+    requires in_tree { InTree (deal_level (length deal.now.bytes.now))
+        (path_start (deal_level (length deal.now.bytes.now) - 1) 1 entry_position) }
+    requires deal_in_bounds { at + 6 + 32 * (deal_level (length deal.now.bytes.now) - level) + 32 * (deal_level (length deal.now.bytes.now) - 1)
         ≤ length out.old }
-    ensures { (result ≡ at + (3 + 32 * (deal_level (length deal.now) - level))
-        + (3 + 32 * (deal_level (length deal.now) - 1)))
+    ensures { (result ≡ at + (3 + 32 * (deal_level (length deal.now.bytes.now) - level))
+        + (3 + 32 * (deal_level (length deal.now.bytes.now) - 1)))
         × (out.new ≡ splice (splice out.old at
         (put_field (table_row 4).tag
-        (siblings (lent_with has_tree deal.now tree.now).nodes
-        (deal_level (length deal.now) - level) level segment.position) []))
-        (at + (3 + 32 * (deal_level (length deal.now) - level)))
+        (siblings (seen deal.now).nodes
+        (deal_level (length deal.now.bytes.now) - level) level segment.position) []))
+        (at + (3 + 32 * (deal_level (length deal.now.bytes.now) - level)))
         (put_field (table_row 5).tag
-        (siblings (lent_with has_tree deal.now tree.now).nodes
-        (deal_level (length deal.now) - 1) 1 entry_position) [])) }
+        (siblings (seen deal.now).nodes
+        (deal_level (length deal.now.bytes.now) - 1) 1 entry_position) [])) }
 {
-    let top = sizes::deal_level(deal.len() as u64);
+    let top = sizes::deal_level(deal.bytes.len() as u64);
     let size = 32 * (top - level);
     let row = record::row(record::SEGMENT_PATH);
     let content = fields::put_head(out, at, row.tag, size);
     let entry_row = record::row(record::ENTRY_PATH);
     let entry_size = 32 * (top - 1);
     let entry_content = fields::put_head(out, content + size, entry_row.tag, entry_size);
-    lent::write_paths(
-        deal,
-        tree,
-        has_tree,
-        level,
+    deal.write_paths(level,
         segment,
         entry_position,
         out,
@@ -82,22 +74,19 @@ fn put_paths(
 // Writes the record for the kept entry at a place of a lent deal with a number into the first bytes of `out`: the
 // fields of the table in its order, each where the one before it ends. Its commitment is the node over the segment.
 pub(crate) fn write_record(
-    deal: &[u8],
-    tree: &[u8],
-    has_tree: bool,
+    deal: &Lent,
     number: u64,
-    entry: Row,
+    entry: Fields,
     place: u64,
     out: &mut [u8],
 )
-    requires usable { Usable (lent_with has_tree deal.now tree.now) }
-    requires in_deal { InDeal (length deal.now) place entry.offset entry.size }
+    requires in_deal { InDeal (length deal.now.bytes.now) place entry.offset entry.size }
     requires commitment_value { entry.commitment
-        ≡ (lent_with has_tree deal.now tree.now).nodes (segment_level entry.size)
+        ≡ (seen deal.now).nodes (segment_level entry.size)
         (segment_position entry.offset entry.size) }
-    requires size_in_bounds { record_length (length deal.now) entry.size ≤ length out.old }
+    requires size_in_bounds { record_length (length deal.now.bytes.now) entry.size ≤ length out.old }
     ensures { out.new ≡ splice out.old 0
-        (record_for (lent_with has_tree deal.now tree.now) number entry.commitment
+        (record_for (seen deal.now) number entry.commitment
         entry.offset entry.size place) }
 {
     let level = sizes::segment_level(entry.size);
@@ -115,10 +104,7 @@ pub(crate) fn write_record(
     let at = put_paths(
         out,
         at,
-        deal,
-        tree,
-        has_tree,
-        level,
+        deal, level,
         segment,
         entry_position,
     );

@@ -6,6 +6,8 @@ ghost use Rattle.rules.specs.Choice.{choose};
 ghost use Rattle.lent.specs.LentDeal.{lent_with, lent_deal, tree_deal};
 ghost use Rattle.cancel.specs.Cancel.{cancel_code, cancelled_deal, cancelled_table, cancelled_tree};
 
+use lent::Lent;
+
 // Cancels a house's entry at a place of a lent deal, with a tree beside the deal or without one.
 fn cancel_in(
     deal: &mut [u8],
@@ -31,20 +33,23 @@ fn cancel_in(
     if not_housed != 0 {
         return not_housed;
     }
-    let refusal = lent::refusal_with(deal, tree, has_tree);
-    if refusal != 0 {
-        return refusal;
+    if let Err(refusal) = Lent::new(deal, if has_tree { Some(tree) } else { None }) {
+        return refusal.code();
     }
     let deal_size = deal.len() as u64;
     if !sizes::place_allowed(deal_size, place) {
         return 6;
     }
-    let entry = index::standing_at(deal, place as usize);
-    if !entry.stands || !houses::owns(deal_size, table, house, place) {
+    let Some(_) = index::standing_at(deal, place as usize) else {
+        return 16;
+    };
+    if !houses::owns(deal_size, table, house, place) {
         return 16;
     }
     octets::put_array(deal, place as usize, [0u8; 64]);
-    lent::renew_tree(deal, tree, has_tree, place as usize, 64);
+    if has_tree {
+        lent::renew_tree(deal, tree, place as usize, 64);
+    }
     houses::put_owner(deal_size, table, place, 0);
     0
 }

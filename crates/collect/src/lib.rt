@@ -64,7 +64,7 @@ fn refusal(
     if !stray::no_stray_bits(deal) {
         return 11;
     }
-    if !lent::tree_sized(second.len(), tree, has_tree) {
+    if !lent::tree_sized(second.len(), if has_tree { Some(tree) } else { None }) {
         return 12;
     }
     let ranges = ranges::gather(deal);

@@ -28,13 +28,11 @@ fn write_entry(deal: &[u8], new: &mut [u8], ranges: Ranges, slots: usize, j: usi
 {
     let deal_size = deal.len() as u64;
     let place = sizes::slot_place(deal_size, j as u64);
-    let row = index::standing_at(deal, place as usize);
-    if !row.stands {
+    let Some(row) = index::standing_at(deal, place as usize) else {
         return;
-    }
+    };
     let to = packing::move_of(ranges, slots, j);
-    let commitment = row.commitment;
-    let entry = entries::entry_of(commitment, to.offset, row.size);
+    let entry = entries::entry_of(row.commitment, to.offset, row.size);
     let at = sizes::slot_place(deal_size, to.slot);
     octets::put_array(new, at as usize, entry);
 }

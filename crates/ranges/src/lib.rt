@@ -21,7 +21,10 @@ pub fn gather(deal: &[u8]) -> Ranges
     while i < slots {
         let place = sizes::slot_place(deal_size, i as u64);
         let entry = index::standing_at(deal, place as usize);
-        offsets[i] = entry.offset;
+        offsets[i] = match entry {
+            Some(entry) => entry.offset,
+            None => 0,
+        };
         areas[i] = index::area_of(entry);
         i += 1;
     }

@@ -31,7 +31,7 @@ fn settle_accepted(first: &[u8], x: ParsedRecord, second: &[u8], y: ParsedRecord
         entry_for(y),
         path_in(second, y.entry_path, y.entry_path_length),
     );
-    if found.differs {
+    if let Some(_) = found {
         return settled_from(found);
     }
     let commitment = x.commitment;

@@ -1,13 +1,13 @@
 // The strings of an entry and along two paths from one position, compared, and the answer that follows.
 ghost use Rattle.std.specs.Prelude.{◌≡◌, [], ◌∷◌, length};
 ghost use Rattle.paths.specs.Difference.{first_difference};
-ghost use Rattle.paths.specs.Compare.{compared};
+ghost use Rattle.paths.specs.Compare.{compared, seen_as};
 ghost use Rattle.settle.specs.Settle.{not_settled};
 ghost use Rattle.settle.specs.SettleLaws.{settled_from};
 ghost use Rattle.settle.specs.Comparing.{entries_compared, segments_compared};
 
 use crate::Settled;
-use paths::Compared;
+use paths::Difference;
 
 // A refusal, and with code 0 the answer where nothing differs.
 pub(crate) fn not_settled(code: u8) -> Settled
@@ -21,37 +21,24 @@ pub(crate) fn not_settled(code: u8) -> Settled
 }
 
 // What comparing found, as an answer.
-pub(crate) fn settled_from(found: Compared) -> Settled
-    ensures { result ≡ settled_from found }
+pub(crate) fn settled_from(found: Option<Difference>) -> Settled
+    ensures { result ≡ settled_from (seen_as found) }
 {
-    if found.differs {
-        let left = found.left;
-        let right = found.right;
-        return Settled {
+    match found {
+        Some(strings) => Settled {
             code: 17,
-            left,
-            right,
-        };
-    }
-    not_settled(0)
-}
-
-// Where no strings are to be compared there is no difference.
-pub(crate) fn no_difference() -> Compared
-    ensures { result ≡ compared (first_difference [] []) }
-{
-    Compared {
-        differs: false,
-        left: [0u8; 64],
-        right: [0u8; 64],
+            left: strings.left,
+            right: strings.right,
+        },
+        None => not_settled(0),
     }
 }
 
 // Compares two strings alone.
-pub(crate) fn compare_strings(left: [u8; 64], right: [u8; 64]) -> Compared
-    ensures { result ≡ compared (first_difference (left ∷ []) (right ∷ [])) }
+pub(crate) fn compare_strings(left: [u8; 64], right: [u8; 64]) -> Option<Difference>
+    ensures { seen_as result ≡ compared (first_difference (left ∷ []) (right ∷ [])) }
 {
-    paths::compare_above(no_difference(), left, right)
+    paths::compare_above(None, left, right)
 }
 
 // Compares the strings of two entry paths from one position, and below them the entries themselves.
@@ -61,14 +48,14 @@ pub(crate) fn compare_entries(
     left_path: &[u8],
     right: [u8; 64],
     right_path: &[u8],
-) -> Compared
+) -> Option<Difference>
     requires { length left_path.now ≡ length right_path.now }
-    ensures { result ≡ entries_compared position left left_path.now right right_path.now }
+    ensures { seen_as result ≡ entries_compared position left left_path.now right right_path.now }
 {
-    let seen = compare_strings(left, right);
+    let below = compare_strings(left, right);
     let left_node = node::node_hash(left);
     let right_node = node::node_hash(right);
-    paths::compare_paths(position, left_node, left_path, right_node, right_path, seen)
+    paths::compare_paths(position, left_node, left_path, right_node, right_path, below)
 }
 
 // Compares the strings of two segment paths from one position.
@@ -78,10 +65,9 @@ pub(crate) fn compare_segments(
     left_path: &[u8],
     right: [u8; 32],
     right_path: &[u8],
-) -> Compared
+) -> Option<Difference>
     requires { length left_path.now ≡ length right_path.now }
-    ensures { result ≡ segments_compared position left left_path.now right right_path.now }
+    ensures { seen_as result ≡ segments_compared position left left_path.now right right_path.now }
 {
-    let seen = no_difference();
-    paths::compare_paths(position, left, left_path, right, right_path, seen)
+    paths::compare_paths(position, left, left_path, right, right_path, None)
 }

@@ -1,10 +1,11 @@
 // Settling a record with a deal, with a tree beside it or without one.
-ghost use Rattle.std.specs.Prelude.{◌≡◌, true, length};
+ghost use Rattle.std.specs.Prelude.{◌≡◌, true, length, option_map};
 ghost use Rattle.sizes.specs.Sizes.{deal_size_allowed, segment_size_allowed, offset_allowed, place_allowed};
 ghost use Rattle.sizes.specs.Sizes.{segment_level, segment_position};
 ghost use Rattle.record.specs.ParsedRecordLaws.{fields_at};
-ghost use Rattle.lent.specs.LentDeal.{lent_with, lent_deal, tree_deal, deal_refusal};
-ghost use Rattle.lent.specs.Usable.{Usable};
+ghost use Rattle.lent.specs.LentDeal.{lent_of, lent_deal, tree_deal, deal_refusal};
+ghost use Rattle.lent.specs.Seen.{seen};
+ghost use Rattle.paths.specs.Compare.{seen_as};
 ghost use Rattle.builder.specs.Build.{deal_commitment, terms_of, segment_path_of, entry_path_of};
 ghost use Rattle.builder.specs.BuildLaws.{InDeal};
 ghost use Rattle.settle.specs.Settle.{settle_with_deal};
@@ -14,9 +15,9 @@ ghost use Rattle.settle.specs.Comparing.{entry_with_deal, segment_with_deal};
 
 use crate::Settled;
 use crate::parsed::{entry_for, path_in};
-use crate::strings::{compare_strings, no_difference, not_settled, settled_from};
-use lent::PathNode;
-use paths::Compared;
+use crate::strings::{compare_strings, not_settled, settled_from};
+use lent::{Lent, PathNode};
+use paths::Difference;
 use record::ParsedRecord;
 
 // A lent deal has at most 2^19 nodes of 32 bytes: the path of an entry, from level 1 up, has at most 18 nodes, and that
@@ -60,23 +61,20 @@ fn allowed_offset(d: u64, offset: u64, size: u64) -> u64
 // Writes the deal's own paths for a segment, whose node is in hand, and for an entry place into `out`: the segment's
 // from 0 on, and the entry's behind it. The answer is the deal's commitment.
 fn write_own(
-    deal: &[u8],
-    tree: &[u8],
-    has_tree: bool,
+    deal: &Lent,
     offset: u64,
     size: u64,
     node: [u8; 32],
     place: u64,
     out: &mut [u8],
 ) -> [u8; 32]
-    requires usable { Usable (lent_with has_tree deal.now tree.now) }
-    requires in_deal { InDeal (length deal.now) place offset size }
+    requires in_deal { InDeal (length deal.now.bytes.now) place offset size }
     requires node_value { node
-        ≡ (lent_with has_tree deal.now tree.now).nodes (segment_level size) (segment_position offset size) }
+        ≡ (seen deal.now).nodes (segment_level size) (segment_position offset size) }
     requires out_len { length out.old ≡ 1120 }
-    ensures { (result ≡ deal_commitment (lent_with has_tree deal.now tree.now))
+    ensures { (result ≡ deal_commitment (seen deal.now))
         × (out.new
-        ≡ own_paths (lent_with has_tree deal.now tree.now) offset size place
+        ≡ own_paths (seen deal.now) offset size place
         out.old) }
 {
     let level = sizes::segment_level(size);
@@ -84,13 +82,9 @@ fn write_own(
         position: sizes::segment_position(offset, size) as usize,
         node,
     };
-    let end = 32 * (sizes::deal_level(deal.len() as u64) - level);
+    let end = 32 * (sizes::deal_level(deal.bytes.len() as u64) - level);
     let entry_position = (place / 64) as usize;
-    lent::write_paths(
-        deal,
-        tree,
-        has_tree,
-        level,
+    deal.write_paths(level,
         segment,
         entry_position,
         out,
@@ -102,114 +96,101 @@ fn write_own(
 // Compares the entry strings of an accepted record with those of the deal: the 64 bytes at the entry place, and the
 // pairs of nodes above. The deal's own entry path at that place is in hand.
 fn compare_deal_entry(
-    deal: &[u8],
-    tree: &[u8],
-    has_tree: bool,
+    deal: &Lent,
     own_path: &[u8],
     record: &[u8],
     x: ParsedRecord,
-) -> Compared
-    requires { (deal_refusal (lent_with has_tree deal.now tree.now) ≡ 0)
-        × AcceptedRecord (terms_of (lent_with has_tree deal.now tree.now) x.number) «record».now x
-        × (own_path.now ≡ entry_path_of (lent_with has_tree deal.now tree.now) x.place) }
-    ensures { result
-        ≡ entry_with_deal (lent_with has_tree deal.now tree.now)
+) -> Option<Difference>
+    requires { (deal_refusal (seen deal.now) ≡ 0)
+        × AcceptedRecord (terms_of (seen deal.now) x.number) «record».now x
+        × (own_path.now ≡ entry_path_of (seen deal.now) x.place) }
+    ensures { seen_as result
+        ≡ entry_with_deal (seen deal.now)
         (fields_at «record».now x) }
 {
     let place = x.place as usize;
     let entry = entry_for(x);
-    let own_entry = octets::array_at(deal, place);
-    let seen = compare_strings(entry, own_entry);
+    let own_entry = octets::array_at(deal.bytes, place);
+    let below = compare_strings(entry, own_entry);
     let entry_path = path_in(record, x.entry_path, x.entry_path_length);
     let node = node::node_hash(entry);
     let levels = entry_path.len() / 32;
-    let own_node = lent::node_in(deal, tree, has_tree, levels, 1, place / 64);
-    lent::compare_with_own(
-        deal,
-        tree,
-        has_tree,
-        1,
+    let own_node = deal.node_in(levels, 1, place / 64);
+    deal.compare_with_own(1,
         place / 64,
         own_node,
         own_path,
         node,
         entry_path,
-        seen,
+        below,
     )
 }
 
 // Compares the segment strings of an accepted record with those of the deal: the pairs of nodes above the segment. The
 // deal's own node over the segment is in hand, and its segment path.
 fn compare_deal_segment(
-    deal: &[u8],
-    tree: &[u8],
-    has_tree: bool,
+    deal: &Lent,
     own_node: [u8; 32],
     own_path: &[u8],
     record: &[u8],
     x: ParsedRecord,
-) -> Compared
-    requires { (deal_refusal (lent_with has_tree deal.now tree.now) ≡ 0)
-        × AcceptedRecord (terms_of (lent_with has_tree deal.now tree.now) x.number) «record».now x
+) -> Option<Difference>
+    requires { (deal_refusal (seen deal.now) ≡ 0)
+        × AcceptedRecord (terms_of (seen deal.now) x.number) «record».now x
         × (own_node
-        ≡ (lent_with has_tree deal.now tree.now).nodes (segment_level x.size)
+        ≡ (seen deal.now).nodes (segment_level x.size)
         (segment_position x.offset x.size))
         × (own_path.now
-        ≡ segment_path_of (lent_with has_tree deal.now tree.now) x.offset x.size) }
-    ensures { result
-        ≡ segment_with_deal (lent_with has_tree deal.now tree.now)
+        ≡ segment_path_of (seen deal.now) x.offset x.size) }
+    ensures { seen_as result
+        ≡ segment_with_deal (seen deal.now)
         (fields_at «record».now x) }
 {
     let level = sizes::segment_level(x.size);
     let position = sizes::segment_position(x.offset, x.size) as usize;
     let commitment = x.commitment;
     let segment_path = path_in(record, x.segment_path, x.segment_path_length);
-    let seen = no_difference();
-    lent::compare_with_own(
-        deal,
-        tree,
-        has_tree,
-        level,
+    deal.compare_with_own(level,
         position,
         own_node,
         own_path,
         commitment,
         segment_path,
-        seen,
+        None,
     )
 }
 
 // Settling over a lent deal with a tree beside it or without one. The deal's own two paths are written in one pass;
 // they lead to the commitment, and for an accepted record they are the ones to compare.
-fn settle_in(deal: &[u8], tree: &[u8], has_tree: bool, number: u64, record: &[u8]) -> Settled
+fn settle_in(deal: &[u8], tree: Option<&[u8]>, number: u64, record: &[u8]) -> Settled
     ensures { result
-        ≡ settle_with_deal (lent_with has_tree deal.now tree.now) number
+        ≡ settle_with_deal (lent_of deal.now (option_map (λ t. t.now) tree.entry)) number
         «record».now }
 {
-    let refusal = lent::refusal_with(deal, tree, has_tree);
-    if refusal != 0 {
-        return not_settled(refusal);
-    }
+    let lent = match Lent::new(deal, tree) {
+        Ok(lent) => lent,
+        Err(refusal) => return not_settled(refusal.code()),
+    };
     let d = deal.len() as u64;
     let x = record::parse(record);
     let place = allowed_place(d, x.place);
     let size = allowed_size(d, x.size);
     let offset = allowed_offset(d, x.offset, size);
-    let node = index::segment_node(deal, tree, has_tree, offset, size);
+    let node = index::segment_node(&lent, offset, size);
     let mut own = [0u8; LONGEST_PATHS];
-    let commitment = write_own(deal, tree, has_tree, offset, size, node, place, &mut own);
+    let commitment = write_own(&lent, offset, size, node, place, &mut own);
     let refusal = record::check(&commitment, d, number, record);
     if refusal != 0 {
         return not_settled(refusal);
     }
     let middle = x.segment_path_length;
     let end = middle + x.entry_path_length;
-    let found = compare_deal_entry(deal, tree, has_tree, &own[middle..end], record, x);
-    if found.differs {
+    let found = compare_deal_entry(&lent, &own[middle..end], record, x);
+    if let Some(_) = found {
         return settled_from(found);
     }
     let segment_path = &own[..middle];
-    settled_from(compare_deal_segment(deal, tree, has_tree, node, segment_path, record, x))
+    settled_from(compare_deal_segment(&lent, node, segment_path, record, x))
 }
 
 // Settles a record with a deal: 2 for a deal size that is not allowed, 11 for a deal with stray bits, the refusal of
@@ -218,7 +199,7 @@ fn settle_in(deal: &[u8], tree: &[u8], has_tree: bool, number: u64, record: &[u8
 pub fn settle_with_deal(deal: &[u8], number: u64, record: &[u8]) -> Settled
     ensures { result ≡ settle_with_deal (lent_deal deal.now) number «record».now }
 {
-    settle_in(deal, deal, false, number, record)
+    settle_in(deal, None, number, record)
 }
 
 // The same with the tree beside the deal: every inner node is taken as it stands there, the deal's commitment, which is
@@ -227,5 +208,5 @@ pub fn settle_with_tree(deal: &[u8], tree: &[u8], number: u64, record: &[u8]) ->
     ensures { result
         ≡ settle_with_deal (tree_deal deal.now tree.now) number «record».now }
 {
-    settle_in(deal, tree, true, number, record)
+    settle_in(deal, Some(tree), number, record)
 }

@@ -2,8 +2,9 @@
 ghost use Rattle.std.specs.Prelude.{◌≤◌};
 
 use crate::show;
-use entries::EntryKind;
-use paths::Compared;
+use entries::{Fields, ReadEntry};
+use index::{FoundSegment, Tallied};
+use paths::Difference;
 use playback::Verdict;
 use room::Booked;
 use rules::Refusal;
@@ -89,29 +90,38 @@ fn index_numbers(rt: &impl Print, size: u64) -> io::Result<()> {
 
 fn make_entry(rt: &impl Print, commitment: &[u8], offset: u64, size: u64) -> io::Result<()> {
     let made = entries::make_entry(commitment, offset, size);
-    let entry = made.entry;
-    show::code(rt, made.code)?;
-    show::bytes(rt, &entry)
+    show::code(rt, refusal_of(&made))?;
+    show::bytes(rt, &made.unwrap_or([0u8; 64]))
 }
 
 fn read_entry(rt: &impl Print, bytes: &[u8]) -> io::Result<()> {
-    let entry = entries::read_entry(bytes);
-    let commitment = entry.commitment;
-    let kind = entry.kind;
-    show::code(rt, entry.code)?;
-    match kind {
-        EntryKind::Blank => show::number(rt, 0)?,
-        EntryKind::Damaged => show::number(rt, 1)?,
-        EntryKind::Valid => show::number(rt, 2)?,
-    }
-    show::bytes(rt, &commitment)?;
-    show::number(rt, entry.offset)?;
-    show::number(rt, entry.size)
+    let read = entries::read_entry(bytes);
+    show::code(rt, refusal_of(&read))?;
+    let none = Fields {
+        commitment: [0u8; 32],
+        offset: 0,
+        size: 0,
+    };
+    let (kind, fields) = match read {
+        Ok(ReadEntry::Blank) => (0, none),
+        Ok(ReadEntry::Damaged) => (1, none),
+        Ok(ReadEntry::Valid(fields)) => (2, fields),
+        Err(_) => (0, none),
+    };
+    show::number(rt, kind)?;
+    show::bytes(rt, &fields.commitment)?;
+    show::number(rt, fields.offset)?;
+    show::number(rt, fields.size)
 }
 
 fn tally(rt: &impl Print, deal: &[u8]) -> io::Result<()> {
     let tallied = index::tally(deal);
-    show::code(rt, tallied.code)?;
+    show::code(rt, refusal_of(&tallied))?;
+    let tallied = tallied.unwrap_or(Tallied {
+        blank: 0,
+        damaged: 0,
+        valid: 0,
+    });
     show::number(rt, tallied.blank)?;
     show::number(rt, tallied.damaged)?;
     show::number(rt, tallied.valid)
@@ -150,7 +160,12 @@ fn playback(rt: &impl Print, log: &[u8], size: u64) -> io::Result<()> {
 fn find(rt: &impl Print, deal: &[u8], commitment: &[u8]) -> io::Result<()> {
     let found = index::find_numbers(deal, commitment);
     let view = index::find(deal, commitment);
-    show::code(rt, found.code)?;
+    show::code(rt, refusal_of(&found))?;
+    let found = found.unwrap_or(FoundSegment {
+        offset: 0,
+        size: 0,
+        place: 0,
+    });
     show::number(rt, found.offset)?;
     show::number(rt, found.size)?;
     show::number(rt, found.place)?;
@@ -259,7 +274,7 @@ fn collect_with_tree(
 }
 
 fn fill_tree(rt: &impl Print, deal: &[u8], tree: &mut [u8]) -> io::Result<()> {
-    show::code(rt, lent::fill_tree(deal, tree))?;
+    show::code(rt, rules::code_of(lent::fill_tree(deal, tree)))?;
     show::digest(rt, tree)
 }
 
@@ -321,21 +336,14 @@ fn compare(rt: &impl Print, position: u64, a: &[u8], b: &[u8]) -> io::Result<()>
     }
     let x = octets::array_at(a, 0);
     let y = octets::array_at(b, 0);
-    let seen = Compared {
-        differs: false,
+    let found = paths::compare_paths(position, x, &a[32..], y, &b[32..], None);
+    show::code(rt, if found.is_some() { 17 } else { 0 })?;
+    let strings = found.unwrap_or(Difference {
         left: [0u8; 64],
         right: [0u8; 64],
-    };
-    let found = paths::compare_paths(position, x, &a[32..], y, &b[32..], seen);
-    let left = found.left;
-    let right = found.right;
-    if found.differs {
-        show::code(rt, 17)?;
-    } else {
-        show::code(rt, 0)?;
-    }
-    show::bytes(rt, &left)?;
-    show::bytes(rt, &right)
+    });
+    show::bytes(rt, &strings.left)?;
+    show::bytes(rt, &strings.right)
 }
 
 // The fields in turn from place 0, and the first place that is no field.

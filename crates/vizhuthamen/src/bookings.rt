@@ -88,7 +88,7 @@ pub extern "C" fn vz_tree_fill(deal: &[u8], tree: &mut [u8]) -> u32
     ensures value { result ≡ deal_refusal (tree_deal deal.now tree.old) }
     ensures tree_after { tree.new ≡ filled_tree deal.now tree.old }
 {
-    lent::fill_tree(deal, tree) as u32
+    rules::code_of(lent::fill_tree(deal, tree)) as u32
 }
 
 // Writes the nodes over the pairs of `below` into `above`: a row of a tree, or a part of one, from the row below it.

@@ -6,8 +6,6 @@ ghost use Rattle.index.specs.Find.{find_numbers};
 ghost use Rattle.audit.specs.Audit.{audit_code, audited_states};
 ghost use Rattle.vizhuthamen.specs.Export.{lent_output};
 
-use crate::output::write_three;
-
 // The state of every slot of a deal.
 #[unsafe(no_mangle)]
 pub extern "C" fn vz_audit(deal: &[u8], states: &mut [u8]) -> u32
@@ -26,17 +24,15 @@ pub extern "C" fn vz_tally(deal: &[u8], blank: &mut u64, damaged: &mut u64, vali
         ≡ lent_output result (tally_answer deal.now).damaged damaged.old }
     ensures valid_after { valid.new ≡ lent_output result (tally_answer deal.now).valid valid.old }
 {
-    let answer = index::tally(deal);
-    write_three(
-        answer.code == 0,
-        answer.blank,
-        answer.damaged,
-        answer.valid,
-        blank,
-        damaged,
-        valid,
-    );
-    answer.code as u32
+    match index::tally(deal) {
+        Ok(tallied) => {
+            *blank = tallied.blank;
+            *damaged = tallied.damaged;
+            *valid = tallied.valid;
+            0
+        }
+        Err(refusal) => refusal.code() as u32,
+    }
 }
 
 // Where a segment with this commitment is kept in a deal.
@@ -59,15 +55,13 @@ pub extern "C" fn vz_find(
         ≡ lent_output result (find_numbers (lent_deal deal.now) commitment.now).place
         place.old }
 {
-    let answer = index::find_numbers(deal, commitment);
-    write_three(
-        answer.code == 0,
-        answer.offset,
-        answer.size,
-        answer.place,
-        offset,
-        size,
-        place,
-    );
-    answer.code as u32
+    match index::find_numbers(deal, commitment) {
+        Ok(found) => {
+            *offset = found.offset;
+            *size = found.size;
+            *place = found.place;
+            0
+        }
+        Err(refusal) => refusal.code() as u32,
+    }
 }

@@ -4,8 +4,8 @@ ghost use Rattle.sizes.specs.Numbers.{index_numbers};
 ghost use Rattle.entries.specs.Entry.{kind_number, made_entry, read_entry};
 ghost use Rattle.vizhuthamen.specs.Export.{lent_code, lent_output};
 
-use crate::numbers::kind_number;
-use crate::output::{WRONG_LENGTH, write_64_bytes, write_entry, write_u64};
+use crate::output::WRONG_LENGTH;
+use entries::{Fields, ReadEntry};
 
 // The number of index entries and the index start for a deal size.
 #[unsafe(no_mangle)]
@@ -24,6 +24,13 @@ pub extern "C" fn vz_index_numbers(size: u64, entries: &mut u64, start: &mut u64
     }
 }
 
+// What is said of the fields of an entry that is not valid.
+const NO_FIELDS: Fields = Fields {
+    commitment: [0; 32],
+    offset: 0,
+    size: 0,
+};
+
 // The entry for a commitment and two numbers.
 #[unsafe(no_mangle)]
 pub extern "C" fn vz_make_entry(commitment: &[u8], offset: u64, size: u64, entry: &mut [u8]) -> u32
@@ -34,10 +41,13 @@ pub extern "C" fn vz_make_entry(commitment: &[u8], offset: u64, size: u64, entry
     if entry.len() != 64 {
         return WRONG_LENGTH;
     }
-    let answer = entries::make_entry(commitment, offset, size);
-    let bytes = answer.entry;
-    write_64_bytes(answer.code == 0, bytes, entry);
-    answer.code as u32
+    match entries::make_entry(commitment, offset, size) {
+        Ok(made) => {
+            octets::put(entry, 0, &made);
+            0
+        }
+        Err(refusal) => refusal.code() as u32,
+    }
 }
 
 // What the bytes of an entry say.
@@ -61,19 +71,18 @@ pub extern "C" fn vz_read_entry(
     if commitment.len() != 32 {
         return WRONG_LENGTH;
     }
-    let answer = entries::read_entry(entry);
-    let entry_kind = answer.kind;
-    let bytes = answer.commitment;
-    write_entry(
-        answer.code == 0,
-        kind_number(entry_kind),
-        bytes,
-        answer.offset,
-        answer.size,
-        kind,
-        commitment,
-        offset,
-        size,
-    );
-    answer.code as u32
+    let read = match entries::read_entry(entry) {
+        Ok(read) => read,
+        Err(refusal) => return refusal.code() as u32,
+    };
+    let (number, fields) = match read {
+        ReadEntry::Blank => (0, NO_FIELDS),
+        ReadEntry::Damaged => (1, NO_FIELDS),
+        ReadEntry::Valid(fields) => (2, fields),
+    };
+    *kind = number;
+    octets::put(commitment, 0, &fields.commitment);
+    *offset = fields.offset;
+    *size = fields.size;
+    0
 }

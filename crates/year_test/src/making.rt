@@ -152,7 +152,7 @@ fn fill(deal: &[u8], tree: &mut [u8], needed: bool) {
     if !needed {
         return;
     }
-    lent::fill_tree(deal, tree);
+    let _ = lent::fill_tree(deal, tree);
 }
 
 // Makes a call; its answer. A tree that is not the deal's own is filled before the call has it in hand.

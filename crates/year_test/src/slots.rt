@@ -2,6 +2,7 @@
 ghost use Rattle.std.specs.Prelude.{◌<◌};
 
 use crate::parts::part;
+use entries::ReadEntry;
 
 // How many slots the deals here have.
 pub(crate) const SLOTS: usize = 4;
@@ -44,14 +45,17 @@ fn slot_of(deal: &[u8], i: usize, state: u8, owner: u8) -> Slot
 {
     let start = sizes::index_numbers(deal.len() as u64).map_or(0, |numbers| numbers.start);
     let place = start.wrapping_add(64 * (i as u64));
-    let entry = entries::read_entry(part(deal, place, 64));
+    let (offset, size) = match entries::read_entry(part(deal, place, 64)) {
+        Ok(ReadEntry::Valid(fields)) => (fields.offset, fields.size),
+        _ => (0, 0),
+    };
     Slot {
         place,
         stands: OVERLAPPING <= state,
         kept: state == KEPT,
         owner,
-        offset: entry.offset,
-        size: entry.size,
+        offset,
+        size,
     }
 }
 
