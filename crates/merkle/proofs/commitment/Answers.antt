@@ -13,38 +13,35 @@ use Rattle.merkle.proofs.commitment.Goals as goal
 passed : {test said : Bool} → said ≡ test → said ≡ true → test ≡ true
 passed e h = sym e ∙ h
 
-pub returns-then-not-is_power_between_usize : goal.returns-then-not-is_power_between_usize
-returns-then-not-is_power_between_usize c =
-    c.refused.ensures
-    ∙ sym
-    (size_refused _ (sym c.is_power_between_usize.ensures ∙ c.if-not-is_power_between_usize.true))
+pub returns-then-not-is_power_between : goal.returns-then-not-is_power_between
+returns-then-not-is_power_between c =
+    sym (size_refused _ (sym c.is_power_between.ensures ∙ c.if-not-is_power_between.true))
 
 pub returns-then-not-no_stray_bits : goal.returns-then-not-no_stray_bits
 returns-then-not-no_stray_bits c =
-    c.refused-then-not-no_stray_bits.ensures
-    ∙ sym
-    (stray_refused _ (passed c.is_power_between_usize.ensures c.if-not-is_power_between_usize.false)
+    sym
+    (stray_refused _ (passed c.is_power_between.ensures c.if-not-is_power_between.false)
     (sym c.no_stray_bits.ensures ∙ c.if-not-no_stray_bits.true))
 
 pub overflow_sub-height : goal.overflow_sub-height
 overflow_sub-height c =
     let run = c.args.run.now in
-    simp c.log2_usize.ensures
+    simp c.log2.ensures
     (height_five 32 (2 ^ 24) (length run) (omega arith) (omega arith)
-    (passed c.is_power_between_usize.ensures c.if-not-is_power_between_usize.false))
+    (passed c.is_power_between.ensures c.if-not-is_power_between.false))
 
-pub root-node-requires : goal.root-node-requires
-root-node-requires c =
+pub root-requires : goal.root-requires
+root-requires c =
     let run = c.args.run.now in
-    simp c.log2_usize.ensures
+    simp c.log2.ensures
     (tree_sized_lem 32 (2 ^ 24) (length run) (omega arith) (omega arith)
-    (passed c.is_power_between_usize.ensures c.if-not-is_power_between_usize.false))
+    (passed c.is_power_between.ensures c.if-not-is_power_between.false))
 
 pub returns : goal.returns
 returns c =
     let run = c.args.run.now in
-    let node = c.root-node.ensures ∙ ap (λ (n : ℕ). commitment_of (n - 5) run) c.log2_usize.ensures in
+    let node = c.root.ensures ∙ ap (λ (n : ℕ). commitment_of (n - 5) run) c.log2.ensures in
     ap (λ (v : List ℕ). record { code = 0; node = v }) node
     ∙ sym
-    (accepted run (passed c.is_power_between_usize.ensures c.if-not-is_power_between_usize.false)
+    (accepted run (passed c.is_power_between.ensures c.if-not-is_power_between.false)
     (passed c.no_stray_bits.ensures c.if-not-no_stray_bits.false))

@@ -61,7 +61,7 @@ returns-clause-path_after t c =
     let run = a.run.now in
     let half : ℕ = a.size / 2 in
     path_of_halves a.height a.size c.requires.0 c.if-height-eq0.false run a.path.now
-    c.lane_roots_with_path-right.new.path c.put_node.new.d c.node_of_lane.result
+    c.lane_roots_with_path-right.new.path c.put_array.new.d c.node_of_lane.result
     (a.at + 15 * a.step) (a.at + half + 15 * a.step)
     (omega arith) (omega arith) (omega arith)
     c.lane_roots_with_path-right.ensures.path_after
@@ -70,4 +70,4 @@ returns-clause-path_after t c =
     (commitment_bytes (a.height - 1) (part run (a.at + 15 * a.step) half)
     (bytes_part run (a.at + 15 * a.step) half (bytes_of_slice run c.type_inv.run)))
     (c.lane_roots-left.ensures 15 (omega arith)))
-    c.put_node.ensures.0
+    c.put_array.ensures.0

@@ -34,7 +34,7 @@ level_above-requires t c =
 pub over_lanes-requires : goal.over_lanes-requires
 over_lanes-requires t c =
     let up = lanes_above c.args.count c.args.levels c.requires.0 c.requires.1 c.if-levels-eq0.false in
-    (omega arith, (up.2, omega arith, omega (arith, c.put_node.auto.d)))
+    (omega arith, (up.2, omega arith, omega (arith, c.put_array.auto.d)))
 
 pub returns : goal.returns
 returns t c =
@@ -42,12 +42,12 @@ returns t c =
     let up = lanes_above a.count a.levels c.requires.0 c.requires.1 c.if-levels-eq0.false in
     λ x held.
     let last = held (a.count - 2) (omega arith) in
-    over_more x a.path.now c.put_node.new.d c.over_lanes.new.path c.node_of_lane-2.result
+    over_more x a.path.now c.put_array.new.d c.over_lanes.new.path c.node_of_lane-2.result
     c.over_lanes.result a.levels a.height c.if-levels-eq0.false (omega (arith, c.requires.2))
-    c.put_node.ensures.1
+    c.put_array.ensures.1
     (c.node_of_lane-2.ensures ∙ held_node a.nodes (x (a.count - 2)) (a.count - 2) last.1 last.0
     ∙ ap (λ (m : ℕ). x (m - 2)) c.requires.0)
-    c.put_node.ensures.0
+    c.put_array.ensures.0
     (c.over_lanes.ensures (pairs_of x)
     (λ l b. (
       c.level_above.ensures x (λ i g. (held i (omega arith)).0) l b,

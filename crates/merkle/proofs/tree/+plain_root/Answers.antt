@@ -6,7 +6,7 @@ use Rattle.merkle.proofs.tree.+plain_root.Goals as goal
 
 pub returns-then-height-eq0 : goal.returns-then-height-eq0
 returns-then-height-eq0 t c =
-    c.node_at.ensures
+    c.array_at.ensures
     ∙ one_node c.args.height c.args.size c.requires.0 c.if-height-eq0.true c.args.run.now c.args.at
 
 pub plain_root-left-requires : goal.plain_root-left-requires
