@@ -11,16 +11,6 @@ use Rattle.octets.specs.SpliceLaws.{part_length, part_range, splice_whole, splic
 use Rattle.stream.specs.declared.Stream.{Stream}
 use Rattle.stream.specs.Packed.{packed_length, packed}
 
-pub waiting_read : (bytes waiting : List ℕ) → length bytes ≡ packed_length
-    → waiting ≡ splice (replicate 1024 0) 0 (take (length bytes - 48) (drop 48 bytes)) → waiting ≡ part bytes 48 1024
-waiting_read bytes waiting l e =
-    let n : length bytes - 48 ≡ 48 + 1024 - 48 = omega arith in
-    let p : take (length bytes - 48) (drop 48 bytes) ≡ part bytes 48 1024 =
-    ap (λ (k : ℕ). take k (drop 48 bytes)) n ∙ part_range bytes 48 1024 in
-    e
-    ∙ ap (splice (replicate 1024 0) 0) p
-    ∙ splice_whole (replicate 1024 0) (part bytes 48 1024) (sym (part_length bytes 48 1024 (omega arith)))
-
 pub packed_written : (s : Stream) (before one two three four : List ℕ) → length before ≡ packed_length
     → length s.partial ≡ 32 → length s.waiting ≡ 1024
     → one ≡ splice before 0 (bytes_of 8 s.count)

@@ -50,7 +50,8 @@ impl Stream {
     fn take_within_node(&mut self, bytes: &[u8]) -> Result<(), Refusal>
         requires no_code { (self.old.code ≡ 0) × (self.old.count + length bytes.now ≤ largest) }
         requires bytes_nonzero { (0 < length bytes.now) × (self.old.count % 32 + length bytes.now ≤ 32) }
-        ensures { take_piece self.old bytes.now ≡ unless_failed result self.new }
+        ensures state_after { take_piece self.old bytes.now ≡ unless_failed result self.new }
+        ensures code_stays { self.new.code ≡ self.old.code }
     {
         octets::put(&mut self.partial, (self.count % 32) as usize, bytes);
         self.count += bytes.len() as u64;
@@ -68,7 +69,8 @@ impl Stream {
     fn take_block(&mut self, block: &[u8]) -> Result<(), Refusal>
         requires no_code { (self.old.code ≡ 0) × (self.old.count + length block.now ≤ largest) }
         requires block { Block self.old.count (length block.now) }
-        ensures { take_piece self.old block.now ≡ unless_failed result self.new }
+        ensures state_after { take_piece self.old block.now ≡ unless_failed result self.new }
+        ensures code_stays { self.new.code ≡ self.old.code }
     {
         if !stray::no_stray_bits(block) {
             return Err(Refusal::StrayBits);
@@ -85,7 +87,8 @@ impl Stream {
     // Takes the next part of a piece. StrayBits: a node that it makes whole has stray bits.
     fn take_part(&mut self, bytes: &[u8]) -> Result<(), Refusal>
         requires { (self.old.code ≡ 0) × Part self.old.count (length bytes.now) }
-        ensures { take_piece self.old bytes.now ≡ unless_failed result self.new }
+        ensures state_after { take_piece self.old bytes.now ≡ unless_failed result self.new }
+        ensures code_stays { self.new.code ≡ self.old.code }
     {
         if bytes.len() <= 32 {
             return self.take_within_node(bytes);
