@@ -1,7 +1,7 @@
 -- The fields that the reader hands out (document 01, "The record": "Fields are read in turn, each answer being the
 -- field with the next place, or else
 -- the refusal", and "a reader that holds the lent record hands out the same fields").
-use Rattle.std.specs.Prelude.{ℕ, zero, suc, ◌-◌, List, [], ◌∷◌, eqb, length, drop}
+use Rattle.std.specs.Prelude.{ℕ, zero, suc, List, [], ◌∷◌, eqb, length, drop}
 use Rattle.std.specs.Borrow.{Bor}
 use Rattle.rules.specs.Choice.{choose}
 use Rattle.octets.specs.Splice.{part}
@@ -22,11 +22,6 @@ next_place Refused at = at
 unfoldable pub place_after : ℕ → List ℕ → ℕ → ℕ
 place_after zero r at = at
 place_after (suc n) r at = place_after n r (next_place (field_at r at) at)
-
--- how many fields are left to pass after one: one less, and none after the refusal
-abbrev pub left_after : Field → ℕ → ℕ
-left_after (Content tag start n next) left = left - 1
-left_after Refused left = 0
 
 -- the reader of a lent record, at a place
 abbrev pub reader_at : Bor (List ℕ) → ℕ → RecordReader

@@ -11,13 +11,10 @@ const LEAST_STRAY: u8 = 64;
 pub fn no_stray_bits(run: &[u8]) -> bool
     ensures { result ≡ no_stray_bits run.now }
 {
-    let n = run.len() / 32;
-    let mut i = 0;
-    while i < n {
+    for i in 0..run.len() / 32 {
         if LEAST_STRAY <= run[i * 32 + 31] {
             return false;
         }
-        i += 1;
     }
     true
 }

@@ -1,15 +1,23 @@
--- A turn passes one field, or none is left to pass.
-use Rattle.std.proofs.Common.{◌≡◌, ℕ, zero, suc, ◌-◌, List, refl, sym, ap, ◌∙◌, arith}
-use Rattle.fields.specs.FieldAt.{field_at}
-use Rattle.fields.specs.FieldAt.{Field}
-use Rattle.fields.specs.FieldAt.{Content, Refused}
-use Rattle.reader.specs.Reader.{next_place, place_after, left_after}
+-- A turn passes one field, or meets the refusal, which is then each later field.
+use Rattle.std.proofs.Common.{◌≡◌, ℕ, zero, suc, ◌+◌, ◌-◌, ◌≤◌, ◌<◌, List, refl, sym, ap, ◌∙◌, arith}
+use Rattle.std.proofs.Math.Nat.{sub-zero}
+use Rattle.rules.specs.AnswerLaws.{answer_passed_on}
+use Rattle.fields.specs.FieldAt.{Field, Content, Refused, content, field_at}
+use Rattle.reader.specs.Reader.{next_place, place_after}
 use Rattle.reader.proofs.field.Goals as goal
 
 -- no field is left to pass
-none_left : (left : ℕ) (r : List ℕ) (at : ℕ) → left ≡ 0 → place_after left r at ≡ at
+none_left : (number counter : ℕ) (r : List ℕ) (at : ℕ) → number ≤ counter → place_after (number - counter) r at ≡ at
 unfolding place_after
-none_left left r at h = ap (λ (n : ℕ). place_after n r at) h
+none_left number counter r at h = let z : number - counter ≡ 0 = omega arith in ap (λ (n : ℕ). place_after n r at) z
+
+-- one field is passed
+one_passed : (number counter : ℕ) (r : List ℕ) (at : ℕ) → counter < number
+    → place_after (number - (counter + 1)) r (next_place (field_at r at) at) ≡ place_after (number - counter) r at
+unfolding place_after
+one_passed number counter r at h =
+    let s : suc (number - (counter + 1)) ≡ number - counter = omega arith in
+    ap (λ (n : ℕ). place_after n r at) s
 
 -- after the refusal every field is that refusal
 stays_refused : (n : ℕ) (r : List ℕ) (at : ℕ) → field_at r at ≡ Refused → place_after n r at ≡ at
@@ -17,32 +25,37 @@ unfolding place_after
 stays_refused zero r at e = refl
 stays_refused (suc n) r at e = ap (λ (x : Field). place_after n r (next_place x at)) e ∙ stays_refused n r at e
 
--- one field is passed, or it is the refusal
-one_passed : (left : ℕ) (r : List ℕ) (at : ℕ) (f : Field) → f ≡ field_at r at → (left ≡ 0 → ⊥)
-    → place_after (left_after f left) r (next_place (field_at r at) at) ≡ place_after left r at
-unfolding place_after
-one_passed zero r at f e h = absurd (h refl)
-one_passed (suc n) r at (Content tag start m next) e h =
-    let k : suc n - 1 ≡ n = omega arith in
-    ap (λ (i : ℕ). place_after i r (next_place (field_at r at) at)) k
-one_passed (suc n) r at Refused e h =
-    let z : next_place (field_at r at) at ≡ at = ap (λ (x : Field). next_place x at) (sym e) in
-    sym (stays_refused n r (next_place (field_at r at) at) (ap (field_at r) z ∙ sym e))
+pub loop-init : goal.loop-init
+loop-init c =
+    let a = c.args in
+    let e = c.new-reader.ensures in
+    rw e (refl, ap (λ (n : ℕ). place_after n a.bytes.now 0) (sub-zero a.number))
 
-pub returns-then-left-eq0 : goal.returns-then-left-eq0
-returns-then-left-eq0 c =
-    let l = c.loop-left in
-    let r = c.args.bytes.now in
-    rw l.invariant.0 at c.next_field-field.ensures.0
-    ∙ ap (field_at r) (sym (none_left l.left r l.reader.place c.if-left-eq0.true) ∙ l.invariant.1)
+pub returns-in_err-next_field : goal.returns-in_err-next_field
+returns-in_err-next_field c =
+    let a = c.args in
+    let l = c.loop in
+    let e = c.in_err-next_field.ensures.0 in
+    let f : field_at a.bytes.now l.reader.place ≡ Refused = sym (rw l.invariant.0 at e) in
+    answer_passed_on c.from_residual.result c.in_err-next_field.field-0.0 content (λ code. Refused) c.from_residual.ensures.1
+    ∙ sym f
+    ∙ ap (field_at a.bytes.now)
+    (sym (stays_refused (a.number - l.counter) a.bytes.now l.reader.place f) ∙ l.invariant.1)
 
-pub loop-left-preserved : goal.loop-left-preserved
-loop-left-preserved c =
-    let l = c.loop-left in
-    let r = c.args.bytes.now in
-    let f = rw l.invariant.0 at c.next_field-field.ensures.0 in
-    let m = c.next_field-field.ensures.1 in (
+pub loop-preserved : goal.loop-preserved
+loop-preserved c =
+    let a = c.args in
+    let l = c.loop in
+    let m = c.in_ok-next_field.ensures.1 in (
       rw m l.invariant.0,
-      rw (m, l.invariant.0, c.left_after-rest.ensures)
-          (one_passed l.left r l.reader.place c.next_field-field.result f c.if-left-eq0.false ∙ l.invariant.1),
+      rw (m, l.invariant.0)
+          (one_passed a.number l.counter a.bytes.now l.reader.place c.loop-test.true ∙ l.invariant.1),
     )
+
+pub returns : goal.returns
+returns c =
+    let a = c.args in
+    let l = c.loop in
+    rw l.invariant.0 at c.next_field-2.ensures.0
+    ∙ ap (field_at a.bytes.now)
+    (sym (none_left a.number l.counter a.bytes.now l.reader.place (omega arith)) ∙ l.invariant.1)

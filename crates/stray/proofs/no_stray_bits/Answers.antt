@@ -8,20 +8,20 @@ use Rattle.stray.specs.StrayBitsLaws.{walk_more, walk_stop, walk_end}
 use Rattle.stray.proofs.no_stray_bits.Goals as goal
 
 pub loop-i-init : goal.loop-i-init
-loop-i-init c = (omega arith, simp sub-zero)
+loop-i-init c = simp sub-zero
 
 pub returns-then-run-i-ge-LEAST_STRAY : goal.returns-then-run-i-ge-LEAST_STRAY
 returns-then-run-i-ge-LEAST_STRAY c =
     let run = c.args.run.now in
-    sym (c.loop-i.invariant.1 ∙ walk_stop run (length run / 32) c.loop-i.i (omega arith) (omega arith))
+    sym (c.loop-i.invariant ∙ walk_stop run (length run / 32) c.loop-i.i (omega arith) (omega arith))
 
 pub loop-i-preserved : goal.loop-i-preserved
 loop-i-preserved c =
     let run = c.args.run.now in
     let clear : get_or run (c.loop-i.i * 32 + 31) 0 < 64 = c.if-run-i-ge-LEAST_STRAY.false in
-    (omega arith, c.loop-i.invariant.1 ∙ walk_more run (length run / 32) c.loop-i.i (omega arith) clear)
+    c.loop-i.invariant ∙ walk_more run (length run / 32) c.loop-i.i (omega arith) clear
 
 pub returns : goal.returns
 returns c =
     let run = c.args.run.now in
-    sym (c.loop-i.invariant.1 ∙ walk_end run (length run / 32) c.loop-i.i (omega arith))
+    sym (c.loop-i.invariant ∙ walk_end run (length run / 32) c.loop-i.i (omega arith))
