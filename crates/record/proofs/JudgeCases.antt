@@ -14,10 +14,10 @@ use Rattle.sizes.specs.Sizes.{segment_size_allowed, offset_allowed, place_allowe
 use Rattle.sizes.specs.Sizes.{entry_path_levels, segment_position}
 use Rattle.record.specs.Form.{Fields, fields, parsed}
 use Rattle.record.specs.Check.{deal_terms, segment_path_root, entry_path_root, paths_sized, paths_clear, judgement}
-use Rattle.record.specs.declared.ParsedRecord.{ParsedRecord}
+use Rattle.record.specs.declared.ParsedRecord.{ParsedRecord as Read}
 use Rattle.record.proofs.Tests.{clear, stray, sized, leads}
 
-module _ (commitment : List ℕ) (d number : ℕ) (x : ParsedRecord) (u v : List ℕ) where
+module _ (commitment : List ℕ) (d number : ℕ) (x : Read) (u v : List ℕ) where
   -- the fields that are judged, with the two paths, and their code
   abbrev pub judged : Fields
   judged = fields x.commitment x.offset x.size x.place u v x.number

@@ -2,4 +2,4 @@
 pub mod Tests
 pub mod CheckCases
 pub mod JudgeCases
-pub mod ParseLoop
+pub mod ParseCases

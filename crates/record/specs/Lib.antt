@@ -1,6 +1,7 @@
 pub mod Form
 pub mod FieldsOf
 pub mod ParsedRecord
+pub mod Answers
 pub mod Check
 pub mod FormLaws
 pub mod ParsedRecordLaws

@@ -4,7 +4,19 @@ use Rattle.octets.specs.LittleEndian.{number_of}
 use Rattle.octets.specs.Splice.{part}
 use Rattle.fields.specs.Spans.{Spans, spans, misplaced, spans_from}
 use Rattle.record.specs.Form.{layout}
-use Rattle.record.specs.declared.ParsedRecord.{ParsedRecord}
+
+-- what parsing answers: a code, and with 0 a record's fields, its paths by their places and lengths
+pub record ParsedRecord : Type 0 where
+  pub code : ℕ
+  pub commitment : List ℕ
+  pub offset : ℕ
+  pub size : ℕ
+  pub place : ℕ
+  pub segment_path : ℕ
+  pub segment_path_length : ℕ
+  pub entry_path : ℕ
+  pub entry_path_length : ℕ
+  pub number : ℕ
 
 -- with a refusal every number is 0, and the commitment 32 zero bytes
 abbrev pub unread : ℕ → ParsedRecord

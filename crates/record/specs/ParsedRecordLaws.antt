@@ -10,8 +10,7 @@ use Rattle.fields.specs.Spans.{Spans, spans, misplaced, spans_from, parts_of, co
 use Rattle.fields.specs.SpansLaws.{contents_spans, span_lies, spans_counted, parts_at}
 use Rattle.record.specs.Form.{layout, table_row, Fields, fields, parsed, broken, fields_in, parse}
 use Rattle.record.specs.FieldsOf.{parsed_fields, fields_of}
-use Rattle.record.specs.ParsedRecord.{read_at, parsed_record}
-use Rattle.record.specs.declared.ParsedRecord.{ParsedRecord}
+use Rattle.record.specs.ParsedRecord.{ParsedRecord, read_at, parsed_record}
 
 -- the fields that an answer names in a record
 abbrev pub fields_at : List ℕ → ParsedRecord → Fields

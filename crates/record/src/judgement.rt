@@ -1,14 +1,17 @@
 // The judgement over the fields of a well-formed record.
 ghost use Rattle.std.specs.Prelude.{◌≡◌, true, ◌&&◌, ◌*◌, ◌/◌, eqb, length};
 ghost use Rattle.octets.specs.Equality.{same_bytes};
+ghost use Rattle.rules.specs.Answers.{code_of};
 ghost use Rattle.rules.specs.Refusals.{first_refusal};
 ghost use Rattle.stray.specs.StrayBits.{no_stray_bits};
 ghost use Rattle.paths.specs.Path.{path_root};
 ghost use Rattle.sizes.specs.Sizes.{deal_size_allowed, segment_size_allowed, segment_path_levels, entry_path_levels};
-ghost use Rattle.record.specs.Form.{fields, parsed};
+ghost use Rattle.record.specs.Form.{parsed};
+ghost use Rattle.record.specs.Answers.{read_fields};
 ghost use Rattle.record.specs.Check.{deal_terms, judgement};
 
 use crate::ParsedRecord;
+use rules::Refusal;
 
 // Whether the paths have the lengths that the record table asks: 32 times log2 (D / A), where A is the area that the
 // segment takes, and 32 times log2 (D / 64).
@@ -38,49 +41,44 @@ fn leads_to(commitment: &[u8], node: [u8; 32], position: u64, path: &[u8]) -> bo
     root.as_slice() == commitment
 }
 
-// The code of the fields of a well-formed record: 21, 4 to 8 as numbered, 19, 9, 10.
+// The judgement over the fields of a well-formed record: 21, 4 to 8 as numbered, 19, 9, 10.
 pub(crate) fn judge(
     commitment: &[u8],
     d: u64,
     number: u64,
-    x: ParsedRecord,
-    segment_path: &[u8],
-    entry_path: &[u8],
-) -> u8
+    x: ParsedRecord<'_>,
+) -> Result<(), Refusal>
     requires { deal_size_allowed d ≡ true }
-    ensures { result ≡ first_refusal (judgement (deal_terms commitment.now d number)
-        (parsed (fields x.commitment x.offset x.size x.place segment_path.now
-        entry_path.now x.number))) }
+    ensures { code_of result ≡ first_refusal (judgement (deal_terms commitment.now d number) (parsed (read_fields x))) }
 {
     if x.number != number {
-        return 21;
+        return Err(Refusal::DealNumber);
     }
     if !sizes::segment_size_allowed(d, x.size) {
-        return 4;
+        return Err(Refusal::SegmentSize);
     }
     if !sizes::offset_allowed(d, x.offset, x.size) {
-        return 5;
+        return Err(Refusal::Offset);
     }
     if !sizes::place_allowed(d, x.place) {
-        return 6;
+        return Err(Refusal::Place);
     }
-    if !paths_sized(d, x.size, segment_path.len(), entry_path.len()) {
-        return 7;
+    if !paths_sized(d, x.size, x.segment_path.len(), x.entry_path.len()) {
+        return Err(Refusal::PathLength);
     }
-    let segment = x.commitment;
-    if segment[31] >= 64 {
-        return 8;
+    if x.commitment[31] >= 64 {
+        return Err(Refusal::CommitmentBits);
     }
-    if !paths_clear(segment_path, entry_path) {
-        return 19;
+    if !paths_clear(x.segment_path, x.entry_path) {
+        return Err(Refusal::PathBits);
     }
     let position = sizes::segment_position(x.offset, x.size);
-    if !leads_to(commitment, segment, position, segment_path) {
-        return 9;
+    if !leads_to(commitment, x.commitment, position, x.segment_path) {
+        return Err(Refusal::SegmentPath);
     }
-    let entry = entries::entry_of(segment, x.offset, x.size);
-    if !leads_to(commitment, node::node_hash(entry), x.place / 64, entry_path) {
-        return 10;
+    let entry = entries::entry_of(x.commitment, x.offset, x.size);
+    if !leads_to(commitment, node::node_hash(entry), x.place / 64, x.entry_path) {
+        return Err(Refusal::EntryPath);
     }
-    0
+    Ok(())
 }

@@ -5,56 +5,58 @@ mod form; // form.rt: the fields of a record, from its bytes alone
 mod judgement; // judgement.rt: the judgement over the fields, codes 21, 4 to 10 and 19
 mod layout; // layout.rt: the table of a record's fields
 
-ghost use Rattle.std.specs.Prelude.{◌≡◌};
+ghost use Rattle.std.specs.Prelude.{◌≡◌, IfOk};
+ghost use Rattle.rules.specs.Answers.{code_of};
+ghost use Rattle.record.specs.Form.{parse, parsed};
+ghost use Rattle.record.specs.Answers.{read_fields};
 ghost use Rattle.record.specs.Check.{deal_terms, check_of};
 
 pub use form::parse;
 pub use layout::{
-    COMMITMENT, ENTRY_PATH, FIXED_LENGTH, NUMBER, OFFSET, PLACE, SEGMENT_PATH, SIZE, row,
+    COMMITMENT, ENTRY_PATH, FIXED_LENGTH, NUMBER, OFFSET, PLACE, SEGMENT_PATH, SIZE,
 };
+use rules::Refusal;
 
-// The fields of a record: code 0, its commitment and numbers, and where its paths stand in it; for bytes that are no
-// record code 3, and zeros.
-#[derive(Drop)]
+// The fields of a record: its commitment and numbers, and its paths, which are parts of the record itself.
 #[derive(Clone, Copy)]
-pub struct ParsedRecord {
-    pub code: u8,
+pub struct ParsedRecord<'a> {
     pub commitment: [u8; 32],
     pub offset: u64,
     pub size: u64,
     pub place: u64,
-    pub segment_path: usize,
-    pub segment_path_length: usize,
-    pub entry_path: usize,
-    pub entry_path_length: usize,
+    pub segment_path: &'a [u8],
+    pub entry_path: &'a [u8],
     pub number: u64,
 }
 
-// The code of the check of a record against a deal's commitment, size and number: 1 to 3 as numbered, 21, 4 to 8 as
-// numbered, 19, 9, 10; 0 for a record that is accepted.
-pub fn check(commitment: &[u8], size: u64, number: u64, record: &[u8]) -> u8
-    ensures { result ≡ check_of (deal_terms commitment.now size number) «record».now }
+// The fields of a record that is accepted against a deal's commitment, size and number; else the refusal: 1 to 3 as
+// numbered, 21, 4 to 8 as numbered, 19, 9, 10.
+pub fn accepted<'a>(
+    commitment: &[u8],
+    size: u64,
+    number: u64,
+    record: &'a [u8],
+) -> Result<ParsedRecord<'a>, Refusal>
+    ensures code { code_of result ≡ check_of (deal_terms commitment.now size number) «record».now }
+    ensures fields { IfOk result (λ x. parse «record».now ≡ parsed (read_fields x)) }
 {
     if commitment.len() != 32 {
-        return 1;
+        return Err(Refusal::CommitmentLength);
     }
     if !sizes::deal_size_allowed(size) {
-        return 2;
+        return Err(Refusal::Size);
     }
-    let parsed = parse(record);
-    if parsed.code != 0 {
-        return parsed.code;
-    }
-    let segment_path = parsed.segment_path;
-    let segment_path_end = segment_path + parsed.segment_path_length;
-    let entry_path = parsed.entry_path;
-    let entry_path_end = entry_path + parsed.entry_path_length;
-    judgement::judge(
-        commitment,
-        size,
-        number,
-        parsed,
-        &record[segment_path..segment_path_end],
-        &record[entry_path..entry_path_end],
-    )
+    let Ok(fields) = parse(record) else {
+        return Err(Refusal::Form);
+    };
+    judgement::judge(commitment, size, number, fields)?;
+    Ok(fields)
+}
+
+// The check of a record against a deal's commitment, size and number, with the same refusals.
+pub fn check(commitment: &[u8], size: u64, number: u64, record: &[u8]) -> Result<(), Refusal>
+    ensures { code_of result ≡ check_of (deal_terms commitment.now size number) «record».now }
+{
+    accepted(commitment, size, number, record)?;
+    Ok(())
 }

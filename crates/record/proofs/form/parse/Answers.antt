@@ -1,58 +1,94 @@
--- Row by row: what was read so far, and what is left of the table.
-use mathlib.Core.Path.{refl, sym, ap, ◌∙◌}
-use Prim.Native.Nat.{ℕ, ◌+◌}
+-- A field that is not there is a refusal; with all there and nothing after them the answer has their contents.
+use mathlib.Core.Path.{refl}
 use native.Mathlib.Omega.{arith}
-use mathlib.Core.List.{List}
-use lib.ListN.{length, replicate, length-set}
-use Rattle.fields.specs.FieldAt.{field_for}
-use Rattle.fields.specs.declared.FieldRule.{FieldRule}
-use Rattle.record.specs.Form.{layout}
-use Rattle.record.specs.ParsedRecord.{read_at, parsed_record}
-use Rattle.record.proofs.ParseLoop.{no_rows, next_row, no_row, more_after, all_rows}
+use Rattle.std.proofs.lemmas.Result.{err_from_is_err_and}
+use Rattle.record.proofs.ParseCases.{passed_on, not_there, then_not, refused_code, no_record, one_more, placed, record_there}
 use Rattle.record.proofs.form.parse.Goals as goal
 
-pub loop-i-init : goal.loop-i-init
-loop-i-init c = let zeros : List ℕ = replicate (length layout) 0 in
-    (omega arith, refl, refl, no_rows c.args.record.now zeros zeros)
+pub returns-in_err-commitment : goal.returns-in_err-commitment
+returns-in_err-commitment c =
+    let r = c.args.record.now in
+    let p = err_from_is_err_and c.from_residual.result c.from_residual.ensures.1 in
+    let n = passed_on r p.1 p.2 (refused_code r _ _ c.in_err-commitment.ensures.0 c.in_err-commitment.ensures.1) (not_there r _ _ _ c.in_err-commitment.ensures.0) in
+    record { places = n.0; contents = n.1 }
 
-pub returns-in_default : goal.returns-in_default
-returns-in_default c =
-    let l = c.loop-i in
-    no_row c.args.record.now l.starts l.lengths l.at l.i
-    c.unread_with.ensures l.invariant.3 c.loop-i-test.true
-    (sym (c.in_default.ensures.0
-    ∙ ap (λ (row : FieldRule). field_for row c.args.record.now l.at) c.row.ensures))
+pub returns-in_err-offset : goal.returns-in_err-offset
+returns-in_err-offset c =
+    let r = c.args.record.now in
+    let p = err_from_is_err_and c.from_residual-in_err-offset.result c.from_residual-in_err-offset.ensures.1 in
+    let n = passed_on r p.1 p.2 (refused_code r _ _ c.in_err-offset.ensures.0 c.in_err-offset.ensures.1) (then_not r _ _ _ c.in_ok-commitment.ensures.0 (not_there r _ _ _ c.in_err-offset.ensures.0)) in
+    record { places = n.0; contents = n.1 }
 
-pub loop-i-preserved : goal.loop-i-preserved
-loop-i-preserved c =
-    let l = c.loop-i in
-    let r = c.args.record.now in (
-      omega arith,
-      simp length-set l.invariant.1,
-      simp length-set l.invariant.2,
-      next_row r l.starts l.lengths l.at l.i (l.i + 1) l.invariant.3 (omega arith) c.loop-i-test.true
-          l.invariant.1 l.invariant.2
-          (sym (c.in-Content.ensures.0 ∙ ap (λ (row : FieldRule). field_for row r l.at) c.row.ensures)),
-    )
+pub returns-in_err-size : goal.returns-in_err-size
+returns-in_err-size c =
+    let r = c.args.record.now in
+    let p = err_from_is_err_and c.from_residual-in_err-size.result c.from_residual-in_err-size.ensures.1 in
+    let n = passed_on r p.1 p.2 (refused_code r _ _ c.in_err-size.ensures.0 c.in_err-size.ensures.1) (then_not r _ _ _ c.in_ok-commitment.ensures.0 (then_not r _ _ _ c.in_ok-offset.ensures.0 (not_there r _ _ _ c.in_err-size.ensures.0))) in
+    record { places = n.0; contents = n.1 }
 
-pub returns-then-at-record : goal.returns-then-at-record
-returns-then-at-record c =
-    let l = c.loop-i in
-    more_after c.args.record.now l.starts l.lengths l.at l.i l.invariant.3
-    (omega arith) c.unread_with-then-at-record.ensures c.if-at-record.true
+pub returns-in_err-place : goal.returns-in_err-place
+returns-in_err-place c =
+    let r = c.args.record.now in
+    let p = err_from_is_err_and c.from_residual-in_err-place.result c.from_residual-in_err-place.ensures.1 in
+    let n = passed_on r p.1 p.2 (refused_code r _ _ c.in_err-place.ensures.0 c.in_err-place.ensures.1) (then_not r _ _ _ c.in_ok-commitment.ensures.0 (then_not r _ _ _ c.in_ok-offset.ensures.0 (then_not r _ _ _ c.in_ok-size.ensures.0 (not_there r _ _ _ c.in_err-place.ensures.0)))) in
+    record { places = n.0; contents = n.1 }
 
--- all rows were read, and nothing is after them
-pub read_at-requires : goal.read_at-requires
-read_at-requires c =
-    let l = c.loop-i in
-    all_rows c.args.record.now l.starts l.lengths l.at l.i
-    l.invariant.3 (omega arith) l.invariant.1 l.invariant.2 c.if-at-record.false
+pub returns-in_err-segment_path : goal.returns-in_err-segment_path
+returns-in_err-segment_path c =
+    let r = c.args.record.now in
+    let p = err_from_is_err_and c.from_residual-in_err-segment_path.result c.from_residual-in_err-segment_path.ensures.1 in
+    let n = passed_on r p.1 p.2 (refused_code r _ _ c.in_err-segment_path.ensures.0 c.in_err-segment_path.ensures.1) (then_not r _ _ _ c.in_ok-commitment.ensures.0 (then_not r _ _ _ c.in_ok-offset.ensures.0 (then_not r _ _ _ c.in_ok-size.ensures.0 (then_not r _ _ _ c.in_ok-place.ensures.0 (not_there r _ _ _ c.in_err-segment_path.ensures.0))))) in
+    record { places = n.0; contents = n.1 }
+
+pub returns-in_err-entry_path : goal.returns-in_err-entry_path
+returns-in_err-entry_path c =
+    let r = c.args.record.now in
+    let p = err_from_is_err_and c.from_residual-in_err-entry_path.result c.from_residual-in_err-entry_path.ensures.1 in
+    let n = passed_on r p.1 p.2 (refused_code r _ _ c.in_err-entry_path.ensures.0 c.in_err-entry_path.ensures.1) (then_not r _ _ _ c.in_ok-commitment.ensures.0 (then_not r _ _ _ c.in_ok-offset.ensures.0 (then_not r _ _ _ c.in_ok-size.ensures.0 (then_not r _ _ _ c.in_ok-place.ensures.0 (then_not r _ _ _ c.in_ok-segment_path.ensures.0 (not_there r _ _ _ c.in_err-entry_path.ensures.0)))))) in
+    record { places = n.0; contents = n.1 }
+
+pub returns-in_err-number : goal.returns-in_err-number
+returns-in_err-number c =
+    let r = c.args.record.now in
+    let p = err_from_is_err_and c.from_residual-in_err-number.result c.from_residual-in_err-number.ensures.1 in
+    let n = passed_on r p.1 p.2 (refused_code r _ _ c.in_err-number.ensures.0 c.in_err-number.ensures.1) (then_not r _ _ _ c.in_ok-commitment.ensures.0 (then_not r _ _ _ c.in_ok-offset.ensures.0 (then_not r _ _ _ c.in_ok-size.ensures.0 (then_not r _ _ _ c.in_ok-place.ensures.0 (then_not r _ _ _ c.in_ok-segment_path.ensures.0 (then_not r _ _ _ c.in_ok-entry_path.ensures.0 (not_there r _ _ _ c.in_err-number.ensures.0))))))) in
+    record { places = n.0; contents = n.1 }
+
+pub returns-then-number-record : goal.returns-then-number-record
+returns-then-number-record c =
+    let r = c.args.record.now in
+    let n = no_record r refl (one_more r c.in_ok-commitment.ensures.0 c.in_ok-offset.ensures.0 c.in_ok-size.ensures.0 c.in_ok-place.ensures.0 c.in_ok-segment_path.ensures.0 c.in_ok-entry_path.ensures.0 c.in_ok-number.ensures.0 c.if-number-record.true) in
+    record { places = n.0; contents = n.1 }
+
+pub array_at-requires : goal.array_at-requires
+array_at-requires c = (omega arith, (placed c.args.record.now c.in_ok-commitment.ensures.0 c.in_ok-offset.ensures.0 c.in_ok-size.ensures.0 c.in_ok-place.ensures.0 c.in_ok-segment_path.ensures.0 c.in_ok-entry_path.ensures.0 c.in_ok-number.ensures.0).commitment_within)
+
+pub read_u64-requires : goal.read_u64-requires
+read_u64-requires c = (placed c.args.record.now c.in_ok-commitment.ensures.0 c.in_ok-offset.ensures.0 c.in_ok-size.ensures.0 c.in_ok-place.ensures.0 c.in_ok-segment_path.ensures.0 c.in_ok-entry_path.ensures.0 c.in_ok-number.ensures.0).offset_within
+
+pub read_u64-requires-2 : goal.read_u64-requires-2
+read_u64-requires-2 c = (placed c.args.record.now c.in_ok-commitment.ensures.0 c.in_ok-offset.ensures.0 c.in_ok-size.ensures.0 c.in_ok-place.ensures.0 c.in_ok-segment_path.ensures.0 c.in_ok-entry_path.ensures.0 c.in_ok-number.ensures.0).size_within
+
+pub read_u64-requires-3 : goal.read_u64-requires-3
+read_u64-requires-3 c = (placed c.args.record.now c.in_ok-commitment.ensures.0 c.in_ok-offset.ensures.0 c.in_ok-size.ensures.0 c.in_ok-place.ensures.0 c.in_ok-segment_path.ensures.0 c.in_ok-entry_path.ensures.0 c.in_ok-number.ensures.0).place_within
+
+pub read_u64-requires-4 : goal.read_u64-requires-4
+read_u64-requires-4 c = (placed c.args.record.now c.in_ok-commitment.ensures.0 c.in_ok-offset.ensures.0 c.in_ok-size.ensures.0 c.in_ok-place.ensures.0 c.in_ok-segment_path.ensures.0 c.in_ok-entry_path.ensures.0 c.in_ok-number.ensures.0).number_within
+
+pub slice_bounds-result-count : goal.slice_bounds-result-count
+slice_bounds-result-count c = let p = placed c.args.record.now c.in_ok-commitment.ensures.0 c.in_ok-offset.ensures.0 c.in_ok-size.ensures.0 c.in_ok-place.ensures.0 c.in_ok-segment_path.ensures.0 c.in_ok-entry_path.ensures.0 c.in_ok-number.ensures.0 in omega arith
+
+pub slice_bounds-result-start : goal.slice_bounds-result-start
+slice_bounds-result-start c = let p = placed c.args.record.now c.in_ok-commitment.ensures.0 c.in_ok-offset.ensures.0 c.in_ok-size.ensures.0 c.in_ok-place.ensures.0 c.in_ok-segment_path.ensures.0 c.in_ok-entry_path.ensures.0 c.in_ok-number.ensures.0 in omega arith
+
+pub slice_bounds-result-count-2 : goal.slice_bounds-result-count-2
+slice_bounds-result-count-2 c = let p = placed c.args.record.now c.in_ok-commitment.ensures.0 c.in_ok-offset.ensures.0 c.in_ok-size.ensures.0 c.in_ok-place.ensures.0 c.in_ok-segment_path.ensures.0 c.in_ok-entry_path.ensures.0 c.in_ok-number.ensures.0 in omega arith
+
+pub slice_bounds-result-start-2 : goal.slice_bounds-result-start-2
+slice_bounds-result-start-2 c = let p = placed c.args.record.now c.in_ok-commitment.ensures.0 c.in_ok-offset.ensures.0 c.in_ok-size.ensures.0 c.in_ok-place.ensures.0 c.in_ok-segment_path.ensures.0 c.in_ok-entry_path.ensures.0 c.in_ok-number.ensures.0 in omega arith
 
 pub returns : goal.returns
-unfolding parsed_record
 returns c =
-    let l = c.loop-i in
-    c.read_at.ensures
-    ∙ sym (ap (read_at c.args.record.now)
-    (all_rows c.args.record.now l.starts l.lengths l.at l.i
-    l.invariant.3 (omega arith) l.invariant.1 l.invariant.2 c.if-at-record.false))
+    let p = record_there c.args.record.now c.in_ok-commitment.ensures.0 c.in_ok-offset.ensures.0 c.in_ok-size.ensures.0 c.in_ok-place.ensures.0 c.in_ok-segment_path.ensures.0 c.in_ok-entry_path.ensures.0 c.in_ok-number.ensures.0 c.if-number-record.false c.array_at.ensures c.read_u64.ensures
+    c.read_u64-2.ensures c.read_u64-3.ensures refl refl c.read_u64-4.ensures in
+    record { places = p.0; contents = p.1 }
