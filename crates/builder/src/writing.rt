@@ -56,9 +56,9 @@ fn put_paths(
 {
     let top = sizes::deal_level(deal.bytes.len() as u64);
     let size = 32 * (top - level);
-    let row = record::row(record::SEGMENT_PATH);
+    let row = record::SEGMENT_PATH;
     let content = fields::put_head(out, at, row.tag, size);
-    let entry_row = record::row(record::ENTRY_PATH);
+    let entry_row = record::ENTRY_PATH;
     let entry_size = 32 * (top - 1);
     let entry_content = fields::put_head(out, content + size, entry_row.tag, entry_size);
     deal.write_paths(level,
@@ -93,10 +93,10 @@ pub(crate) fn write_record(
     let position = sizes::segment_position(entry.offset, entry.size) as usize;
     let entry_position = (place / 64) as usize;
     let commitment = entry.commitment;
-    let at = fields::put_field(out, 0, record::row(record::COMMITMENT), commitment);
-    let at = fields::put_field(out, at, record::row(record::OFFSET), entry.offset.to_le_bytes());
-    let at = fields::put_field(out, at, record::row(record::SIZE), entry.size.to_le_bytes());
-    let at = fields::put_field(out, at, record::row(record::PLACE), place.to_le_bytes());
+    let at = fields::put_field(out, 0, record::COMMITMENT, commitment);
+    let at = fields::put_field(out, at, record::OFFSET, entry.offset.to_le_bytes());
+    let at = fields::put_field(out, at, record::SIZE, entry.size.to_le_bytes());
+    let at = fields::put_field(out, at, record::PLACE, place.to_le_bytes());
     let segment = PathNode {
         position,
         node: commitment,
@@ -108,5 +108,5 @@ pub(crate) fn write_record(
         segment,
         entry_position,
     );
-    fields::put_field(out, at, record::row(record::NUMBER), number.to_le_bytes());
+    fields::put_field(out, at, record::NUMBER, number.to_le_bytes());
 }

@@ -12,6 +12,6 @@ fn main(rt: HostRuntime) -> io::Result<()> {
     // one byte more than the longest input that is checked: a longer one gets 3, whatever comes after
     let mut input = [0u8; 4145];
     let length = intake::read_full(&mut rt.reader(), &mut input)?;
-    let code = check_input::check_input(&input[..length]);
+    let code = rules::code_of(check_input::check_input(&input[..length]));
     println!(rt; "{}", wide(code))
 }

@@ -1,20 +1,14 @@
 -- The ways through the check, one law for each answer of the code.
-use mathlib.Core.Path.{◌≡◌, sym, ap, ◌∙◌}
+use mathlib.Core.Path.{◌≡◌, ◌∙◌}
 use mathlib.Core.Bool.{true, false}
 use Prim.Native.Nat.{ℕ}
-use native.Mathlib.Omega.{arith}
 use mathlib.Core.List.{List}
 use lib.ListN.{length}
 use borrow.Author.Tests.{eq-eqb, ne_eqb}
 use Rattle.rules.specs.Refusals.{first_refusal}
 use Rattle.sizes.specs.Sizes.{deal_size_allowed}
 use Rattle.record.specs.Form.{Fields, parsed, broken, parse}
-use Rattle.record.specs.ParsedRecord.{ParsedRecord, unread, parsed_record}
-use Rattle.record.specs.ParsedRecordLaws.{record_read, not_read}
 use Rattle.record.specs.Check.{deal_terms, judgement, check_of}
-
-never : {A : Type 0} {x : Fields} → broken ≡ parsed x → A
-never e = let z : ◌≡◌ {A = ℕ} 0 1 = cc in absurd (omega arith)
 
 module _ (commitment : List ℕ) (d number : ℕ) (r : List ℕ) where
   pub wrong_commitment : (length commitment ≡ 32 → ⊥) → 1 ≡ check_of (deal_terms commitment d number) r
@@ -27,13 +21,9 @@ module _ (commitment : List ℕ) (d number : ℕ) (r : List ℕ) where
     wrong_deal_size e = rw (eq-eqb (length commitment) 32 l, e)
 
     module _ (s : deal_size_allowed d ≡ true) where
-      pub malformed : {code : ℕ} → unread code ≡ parsed_record r → broken ≡ parse r
-          → code ≡ check_of (deal_terms commitment d number) r
-      unfolding check_of parsed_record
-      malformed {code} e h =
-          let u : code ≡ (parsed_record r).code = ap (λ (x : ParsedRecord). x.code) e in
-          let m = not_read r (λ z. let p = record_read r z in let q : broken ≡ parsed _ = h ∙ p in never q) in
-          u ∙ m.0 ∙ rw (eq-eqb (length commitment) 32 l, s, ← h)
+      pub malformed : broken ≡ parse r → 3 ≡ check_of (deal_terms commitment d number) r
+      unfolding check_of
+      malformed h = rw (eq-eqb (length commitment) 32 l, s, ← h)
 
       pub well_formed_lem : {answer : ℕ} {x : Fields} → parsed x ≡ parse r
           → answer ≡ first_refusal (judgement (deal_terms commitment d number) (parsed x))

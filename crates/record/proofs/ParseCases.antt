@@ -66,9 +66,9 @@ module _ (r : List ℕ) where
       (ap unread c ∙ sym u, sym (not_read r (λ z. absurd (omega (arith, ap (λ (y : ParsedRecord). y.code) p)))).1)
 
   -- the refusal of a field, passed on
-  pub passed_on : {x : Result Read Refusal} {e e' : Refusal} → x ≡ Err e' → e' ≡ e → number e ≡ 3
-      → spans_from layout r 0 ≡ misplaced → (record_answer x ≡ parsed_record r) × (parsed_of x ≡ parse r)
-  passed_on {x} {e} {e'} p q c m = rw (p, q) (no_record c m)
+  pub no_field : {x : Result Read Refusal} {e : Refusal} → x ≡ Err e → number e ≡ 3 → spans_from layout r 0 ≡ misplaced
+      → (record_answer x ≡ parsed_record r) × (parsed_of x ≡ parse r)
+  no_field {x} {e} p c m = rw p (no_record c m)
 
   -- all fields, one behind another
   module _ {t0 s0 n0 x0 t1 s1 n1 x1 t2 s2 n2 x2 t3 s3 n3 x3 t4 s4 n4 x4 t5 s5 n5 x5 t6 s6 n6 x6 : ℕ}
@@ -133,12 +133,34 @@ module _ (r : List ℕ) where
           size_within = omega (arith, f2.next_is, f2.within);
           place_within = omega (arith, f3.next_is, f3.within);
           number_within = omega (arith, f6.next_is, f6.within);
-          segment_path_at = omega (arith, f0.next_is, f1.next_is, f2.next_is, f3.next_is, f0.start_is, f1.start_is,
-          f2.start_is, f3.start_is, f4.start_is);
+          segment_path_at = omega (
+            arith,
+            f0.next_is,
+            f1.next_is,
+            f2.next_is,
+            f3.next_is,
+            f0.start_is,
+            f1.start_is,
+            f2.start_is,
+            f3.start_is,
+            f4.start_is,
+          );
           segment_path_end = f4.next_is;
           segment_path_within = omega (arith, f4.next_is, f4.within);
-          entry_path_at = omega (arith, f0.next_is, f1.next_is, f2.next_is, f3.next_is, f0.start_is, f1.start_is,
-          f2.start_is, f3.start_is, f4.start_is, f4.next_is, f5.start_is);
+          entry_path_at = omega (
+            arith,
+            f0.next_is,
+            f1.next_is,
+            f2.next_is,
+            f3.next_is,
+            f0.start_is,
+            f1.start_is,
+            f2.start_is,
+            f3.start_is,
+            f4.start_is,
+            f4.next_is,
+            f5.start_is,
+          );
           entry_path_end = f5.next_is;
           entry_path_within = omega (arith, f5.next_is, f5.within);
         }
@@ -166,7 +188,7 @@ module _ (r : List ℕ) where
     record_there {commitment} {u} {v} {offset} {size} {place} {number} h ec eo es ep eu ev en =
         let p = placed in
         let q : parsed_record r ≡ read_at r
-            (spans (s0 ∷ s1 ∷ s2 ∷ s3 ∷ s4 ∷ s5 ∷ s6 ∷ []) (n0 ∷ n1 ∷ n2 ∷ n3 ∷ n4 ∷ n5 ∷ n6 ∷ [])) =
+        (spans (s0 ∷ s1 ∷ s2 ∷ s3 ∷ s4 ∷ s5 ∷ s6 ∷ []) (n0 ∷ n1 ∷ n2 ∷ n3 ∷ n4 ∷ n5 ∷ n6 ∷ [])) =
         ap (read_at r) (all_there h) in
         let c : commitment ≡ part r s0 n0 = ec ∙ ap (part r s0) (sym p.commitment_32) in
         let o : offset ≡ number_of (part r s1 n1) = eo ∙ ap (λ (k : ℕ). number_of (part r s1 k)) (sym p.offset_8) in

@@ -46,10 +46,10 @@ pub(crate) fn judge(
     commitment: &[u8],
     d: u64,
     number: u64,
-    x: ParsedRecord<'_>,
+    x: &ParsedRecord<'_>,
 ) -> Result<(), Refusal>
     requires { deal_size_allowed d ≡ true }
-    ensures { code_of result ≡ first_refusal (judgement (deal_terms commitment.now d number) (parsed (read_fields x))) }
+    ensures { code_of result ≡ first_refusal (judgement (deal_terms commitment.now d number) (parsed (read_fields x.now))) }
 {
     if x.number != number {
         return Err(Refusal::DealNumber);
@@ -77,7 +77,12 @@ pub(crate) fn judge(
         return Err(Refusal::SegmentPath);
     }
     let entry = entries::entry_of(x.commitment, x.offset, x.size);
-    if !leads_to(commitment, node::node_hash(entry), x.place / 64, x.entry_path) {
+    if !leads_to(
+        commitment,
+        node::node_hash(entry),
+        x.place / 64,
+        x.entry_path,
+    ) {
         return Err(Refusal::EntryPath);
     }
     Ok(())

@@ -12,9 +12,7 @@ ghost use Rattle.record.specs.Answers.{read_fields};
 ghost use Rattle.record.specs.Check.{deal_terms, check_of};
 
 pub use form::parse;
-pub use layout::{
-    COMMITMENT, ENTRY_PATH, FIXED_LENGTH, NUMBER, OFFSET, PLACE, SEGMENT_PATH, SIZE,
-};
+pub use layout::{COMMITMENT, ENTRY_PATH, FIXED_LENGTH, NUMBER, OFFSET, PLACE, SEGMENT_PATH, SIZE};
 use rules::Refusal;
 
 // The fields of a record: its commitment and numbers, and its paths, which are parts of the record itself.
@@ -49,7 +47,7 @@ pub fn accepted<'a>(
     let Ok(fields) = parse(record) else {
         return Err(Refusal::Form);
     };
-    judgement::judge(commitment, size, number, fields)?;
+    judgement::judge(commitment, size, number, &fields)?;
     Ok(fields)
 }
 

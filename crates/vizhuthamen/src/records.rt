@@ -55,7 +55,7 @@ pub extern "C" fn vz_build_with_tree(
 pub extern "C" fn vz_check(commitment: &[u8], size: u64, number: u64, record: &[u8]) -> u32
     ensures { result ≡ check_of (deal_terms commitment.now size number) «record».now }
 {
-    record::check(commitment, size, number, record) as u32
+    rules::code_of(record::check(commitment, size, number, record)) as u32
 }
 
 // The field at a place of a record.

@@ -114,7 +114,7 @@ fn accepted(deal: &[u8], number: u64, built: BuildAnswer, out: &[u8]) -> bool {
     }
     let commitment = merkle::commitment(deal).unwrap_or([0u8; 32]);
     let record = part(out, 0, built.length as u64);
-    record::check(&commitment, deal.len() as u64, number, record) == 0
+    record::check(&commitment, deal.len() as u64, number, record).is_ok()
 }
 
 // Whether building at an entry place gives a record that the check accepts.

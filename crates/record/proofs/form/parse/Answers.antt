@@ -1,57 +1,50 @@
 -- A field that is not there is a refusal; with all there and nothing after them the answer has their contents.
 use mathlib.Core.Path.{refl}
 use native.Mathlib.Omega.{arith}
-use Rattle.std.proofs.lemmas.Result.{err_from_is_err_and}
-use Rattle.record.proofs.ParseCases.{passed_on, not_there, then_not, refused_code, no_record, one_more, placed, record_there}
+use Rattle.rules.specs.AnswerLaws.{passed_on}
+use Rattle.record.proofs.ParseCases.{no_field, not_there, then_not, refused_code, no_record, one_more, placed, record_there}
 use Rattle.record.proofs.form.parse.Goals as goal
 
 pub returns-in_err-commitment : goal.returns-in_err-commitment
 returns-in_err-commitment c =
     let r = c.args.record.now in
-    let p = err_from_is_err_and c.from_residual.result c.from_residual.ensures.1 in
-    let n = passed_on r p.1 p.2 (refused_code r _ _ c.in_err-commitment.ensures.0 c.in_err-commitment.ensures.1) (not_there r _ _ _ c.in_err-commitment.ensures.0) in
+    let n = no_field r (passed_on _ _ c.from_residual.ensures.1) (refused_code r _ _ c.in_err-commitment.ensures.0 c.in_err-commitment.ensures.1) (not_there r _ _ _ c.in_err-commitment.ensures.0) in
     record { places = n.0; contents = n.1 }
 
 pub returns-in_err-offset : goal.returns-in_err-offset
 returns-in_err-offset c =
     let r = c.args.record.now in
-    let p = err_from_is_err_and c.from_residual-in_err-offset.result c.from_residual-in_err-offset.ensures.1 in
-    let n = passed_on r p.1 p.2 (refused_code r _ _ c.in_err-offset.ensures.0 c.in_err-offset.ensures.1) (then_not r _ _ _ c.in_ok-commitment.ensures.0 (not_there r _ _ _ c.in_err-offset.ensures.0)) in
+    let n = no_field r (passed_on _ _ c.from_residual-in_err-offset.ensures.1) (refused_code r _ _ c.in_err-offset.ensures.0 c.in_err-offset.ensures.1) (then_not r _ _ _ c.in_ok-commitment.ensures.0 (not_there r _ _ _ c.in_err-offset.ensures.0)) in
     record { places = n.0; contents = n.1 }
 
 pub returns-in_err-size : goal.returns-in_err-size
 returns-in_err-size c =
     let r = c.args.record.now in
-    let p = err_from_is_err_and c.from_residual-in_err-size.result c.from_residual-in_err-size.ensures.1 in
-    let n = passed_on r p.1 p.2 (refused_code r _ _ c.in_err-size.ensures.0 c.in_err-size.ensures.1) (then_not r _ _ _ c.in_ok-commitment.ensures.0 (then_not r _ _ _ c.in_ok-offset.ensures.0 (not_there r _ _ _ c.in_err-size.ensures.0))) in
+    let n = no_field r (passed_on _ _ c.from_residual-in_err-size.ensures.1) (refused_code r _ _ c.in_err-size.ensures.0 c.in_err-size.ensures.1) (then_not r _ _ _ c.in_ok-commitment.ensures.0 (then_not r _ _ _ c.in_ok-offset.ensures.0 (not_there r _ _ _ c.in_err-size.ensures.0))) in
     record { places = n.0; contents = n.1 }
 
 pub returns-in_err-place : goal.returns-in_err-place
 returns-in_err-place c =
     let r = c.args.record.now in
-    let p = err_from_is_err_and c.from_residual-in_err-place.result c.from_residual-in_err-place.ensures.1 in
-    let n = passed_on r p.1 p.2 (refused_code r _ _ c.in_err-place.ensures.0 c.in_err-place.ensures.1) (then_not r _ _ _ c.in_ok-commitment.ensures.0 (then_not r _ _ _ c.in_ok-offset.ensures.0 (then_not r _ _ _ c.in_ok-size.ensures.0 (not_there r _ _ _ c.in_err-place.ensures.0)))) in
+    let n = no_field r (passed_on _ _ c.from_residual-in_err-place.ensures.1) (refused_code r _ _ c.in_err-place.ensures.0 c.in_err-place.ensures.1) (then_not r _ _ _ c.in_ok-commitment.ensures.0 (then_not r _ _ _ c.in_ok-offset.ensures.0 (then_not r _ _ _ c.in_ok-size.ensures.0 (not_there r _ _ _ c.in_err-place.ensures.0)))) in
     record { places = n.0; contents = n.1 }
 
 pub returns-in_err-segment_path : goal.returns-in_err-segment_path
 returns-in_err-segment_path c =
     let r = c.args.record.now in
-    let p = err_from_is_err_and c.from_residual-in_err-segment_path.result c.from_residual-in_err-segment_path.ensures.1 in
-    let n = passed_on r p.1 p.2 (refused_code r _ _ c.in_err-segment_path.ensures.0 c.in_err-segment_path.ensures.1) (then_not r _ _ _ c.in_ok-commitment.ensures.0 (then_not r _ _ _ c.in_ok-offset.ensures.0 (then_not r _ _ _ c.in_ok-size.ensures.0 (then_not r _ _ _ c.in_ok-place.ensures.0 (not_there r _ _ _ c.in_err-segment_path.ensures.0))))) in
+    let n = no_field r (passed_on _ _ c.from_residual-in_err-segment_path.ensures.1) (refused_code r _ _ c.in_err-segment_path.ensures.0 c.in_err-segment_path.ensures.1) (then_not r _ _ _ c.in_ok-commitment.ensures.0 (then_not r _ _ _ c.in_ok-offset.ensures.0 (then_not r _ _ _ c.in_ok-size.ensures.0 (then_not r _ _ _ c.in_ok-place.ensures.0 (not_there r _ _ _ c.in_err-segment_path.ensures.0))))) in
     record { places = n.0; contents = n.1 }
 
 pub returns-in_err-entry_path : goal.returns-in_err-entry_path
 returns-in_err-entry_path c =
     let r = c.args.record.now in
-    let p = err_from_is_err_and c.from_residual-in_err-entry_path.result c.from_residual-in_err-entry_path.ensures.1 in
-    let n = passed_on r p.1 p.2 (refused_code r _ _ c.in_err-entry_path.ensures.0 c.in_err-entry_path.ensures.1) (then_not r _ _ _ c.in_ok-commitment.ensures.0 (then_not r _ _ _ c.in_ok-offset.ensures.0 (then_not r _ _ _ c.in_ok-size.ensures.0 (then_not r _ _ _ c.in_ok-place.ensures.0 (then_not r _ _ _ c.in_ok-segment_path.ensures.0 (not_there r _ _ _ c.in_err-entry_path.ensures.0)))))) in
+    let n = no_field r (passed_on _ _ c.from_residual-in_err-entry_path.ensures.1) (refused_code r _ _ c.in_err-entry_path.ensures.0 c.in_err-entry_path.ensures.1) (then_not r _ _ _ c.in_ok-commitment.ensures.0 (then_not r _ _ _ c.in_ok-offset.ensures.0 (then_not r _ _ _ c.in_ok-size.ensures.0 (then_not r _ _ _ c.in_ok-place.ensures.0 (then_not r _ _ _ c.in_ok-segment_path.ensures.0 (not_there r _ _ _ c.in_err-entry_path.ensures.0)))))) in
     record { places = n.0; contents = n.1 }
 
 pub returns-in_err-number : goal.returns-in_err-number
 returns-in_err-number c =
     let r = c.args.record.now in
-    let p = err_from_is_err_and c.from_residual-in_err-number.result c.from_residual-in_err-number.ensures.1 in
-    let n = passed_on r p.1 p.2 (refused_code r _ _ c.in_err-number.ensures.0 c.in_err-number.ensures.1) (then_not r _ _ _ c.in_ok-commitment.ensures.0 (then_not r _ _ _ c.in_ok-offset.ensures.0 (then_not r _ _ _ c.in_ok-size.ensures.0 (then_not r _ _ _ c.in_ok-place.ensures.0 (then_not r _ _ _ c.in_ok-segment_path.ensures.0 (then_not r _ _ _ c.in_ok-entry_path.ensures.0 (not_there r _ _ _ c.in_err-number.ensures.0))))))) in
+    let n = no_field r (passed_on _ _ c.from_residual-in_err-number.ensures.1) (refused_code r _ _ c.in_err-number.ensures.0 c.in_err-number.ensures.1) (then_not r _ _ _ c.in_ok-commitment.ensures.0 (then_not r _ _ _ c.in_ok-offset.ensures.0 (then_not r _ _ _ c.in_ok-size.ensures.0 (then_not r _ _ _ c.in_ok-place.ensures.0 (then_not r _ _ _ c.in_ok-segment_path.ensures.0 (then_not r _ _ _ c.in_ok-entry_path.ensures.0 (not_there r _ _ _ c.in_err-number.ensures.0))))))) in
     record { places = n.0; contents = n.1 }
 
 pub returns-then-number-record : goal.returns-then-number-record

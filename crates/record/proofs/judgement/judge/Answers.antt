@@ -9,13 +9,13 @@ use Rattle.record.proofs.judgement.judge.Goals as goal
 pub returns-then-x-number : goal.returns-then-x-number
 returns-then-x-number c =
     let a = c.args in
-    wrong_number a.commitment.now a.d a.number a.x a.x.segment_path.now a.x.entry_path.now
+    wrong_number a.commitment.now a.d a.number a.x.now a.x.now.segment_path.now a.x.now.entry_path.now
     c.if-x-number.true
 
 pub returns-then-not-segment_size_allowed : goal.returns-then-not-segment_size_allowed
 returns-then-not-segment_size_allowed c =
     let a = c.args in
-    wrong_size a.commitment.now a.d a.number a.x a.x.segment_path.now a.x.entry_path.now
+    wrong_size a.commitment.now a.d a.number a.x.now a.x.now.segment_path.now a.x.now.entry_path.now
     (omega arith) (failed c.segment_size_allowed.ensures c.if-not-segment_size_allowed.true)
 
 pub offset_allowed-requires : goal.offset_allowed-requires
@@ -24,14 +24,14 @@ offset_allowed-requires c = (c.requires, passed c.segment_size_allowed.ensures c
 pub returns-then-not-offset_allowed : goal.returns-then-not-offset_allowed
 returns-then-not-offset_allowed c =
     let a = c.args in
-    wrong_offset a.commitment.now a.d a.number a.x a.x.segment_path.now a.x.entry_path.now
+    wrong_offset a.commitment.now a.d a.number a.x.now a.x.now.segment_path.now a.x.now.entry_path.now
     (omega arith) (passed c.segment_size_allowed.ensures c.if-not-segment_size_allowed.false)
     (failed c.offset_allowed.ensures c.if-not-offset_allowed.true)
 
 pub returns-then-not-place_allowed : goal.returns-then-not-place_allowed
 returns-then-not-place_allowed c =
     let a = c.args in
-    wrong_place a.commitment.now a.d a.number a.x a.x.segment_path.now a.x.entry_path.now
+    wrong_place a.commitment.now a.d a.number a.x.now a.x.now.segment_path.now a.x.now.entry_path.now
     (omega arith) (passed c.segment_size_allowed.ensures c.if-not-segment_size_allowed.false)
     (passed c.offset_allowed.ensures c.if-not-offset_allowed.false)
     (failed c.place_allowed.ensures c.if-not-place_allowed.true)
@@ -42,7 +42,7 @@ paths_sized-requires c = (c.requires, passed c.segment_size_allowed.ensures c.if
 pub returns-then-not-paths_sized : goal.returns-then-not-paths_sized
 returns-then-not-paths_sized c =
     let a = c.args in
-    wrong_lengths a.commitment.now a.d a.number a.x a.x.segment_path.now a.x.entry_path.now
+    wrong_lengths a.commitment.now a.d a.number a.x.now a.x.now.segment_path.now a.x.now.entry_path.now
     (omega arith) (passed c.segment_size_allowed.ensures c.if-not-segment_size_allowed.false)
     (passed c.offset_allowed.ensures c.if-not-offset_allowed.false)
     (passed c.place_allowed.ensures c.if-not-place_allowed.false)
@@ -51,7 +51,7 @@ returns-then-not-paths_sized c =
 pub returns-then-x-ge64 : goal.returns-then-x-ge64
 returns-then-x-ge64 c =
     let a = c.args in
-    stray_commitment a.commitment.now a.d a.number a.x a.x.segment_path.now a.x.entry_path.now
+    stray_commitment a.commitment.now a.d a.number a.x.now a.x.now.segment_path.now a.x.now.entry_path.now
     (omega arith) (passed c.segment_size_allowed.ensures c.if-not-segment_size_allowed.false)
     (passed c.offset_allowed.ensures c.if-not-offset_allowed.false)
     (passed c.place_allowed.ensures c.if-not-place_allowed.false)
@@ -60,7 +60,7 @@ returns-then-x-ge64 c =
 pub returns-then-not-paths_clear : goal.returns-then-not-paths_clear
 returns-then-not-paths_clear c =
     let a = c.args in
-    stray_paths a.commitment.now a.d a.number a.x a.x.segment_path.now a.x.entry_path.now
+    stray_paths a.commitment.now a.d a.number a.x.now a.x.now.segment_path.now a.x.now.entry_path.now
     (omega arith) (passed c.segment_size_allowed.ensures c.if-not-segment_size_allowed.false)
     (passed c.offset_allowed.ensures c.if-not-offset_allowed.false)
     (passed c.place_allowed.ensures c.if-not-place_allowed.false)
@@ -70,14 +70,14 @@ returns-then-not-paths_clear c =
 pub segment_position-position-requires : goal.segment_position-position-requires
 segment_position-position-requires c =
     let a = c.args in
-    let z = segment_size a.d a.x.size (deal_size_lem a.d c.requires)
+    let z = segment_size a.d a.x.now.size (deal_size_lem a.d c.requires)
     (passed c.segment_size_allowed.ensures c.if-not-segment_size_allowed.false) in
     omega arith
 
 pub returns-then-not-leads_to : goal.returns-then-not-leads_to
 returns-then-not-leads_to c =
     let a = c.args in
-    segment_elsewhere a.commitment.now a.d a.number a.x a.x.segment_path.now a.x.entry_path.now
+    segment_elsewhere a.commitment.now a.d a.number a.x.now a.x.now.segment_path.now a.x.now.entry_path.now
     (omega arith) (passed c.segment_size_allowed.ensures c.if-not-segment_size_allowed.false)
     (passed c.offset_allowed.ensures c.if-not-offset_allowed.false)
     (passed c.place_allowed.ensures c.if-not-place_allowed.false)
@@ -88,7 +88,7 @@ returns-then-not-leads_to c =
 pub returns-then-not-leads_to-2 : goal.returns-then-not-leads_to-2
 returns-then-not-leads_to-2 c =
     let a = c.args in
-    entry_elsewhere a.commitment.now a.d a.number a.x a.x.segment_path.now a.x.entry_path.now
+    entry_elsewhere a.commitment.now a.d a.number a.x.now a.x.now.segment_path.now a.x.now.entry_path.now
     (omega arith) (passed c.segment_size_allowed.ensures c.if-not-segment_size_allowed.false)
     (passed c.offset_allowed.ensures c.if-not-offset_allowed.false)
     (passed c.place_allowed.ensures c.if-not-place_allowed.false)
@@ -100,7 +100,7 @@ returns-then-not-leads_to-2 c =
 pub returns : goal.returns
 returns c =
     let a = c.args in
-    accepted a.commitment.now a.d a.number a.x a.x.segment_path.now a.x.entry_path.now
+    accepted a.commitment.now a.d a.number a.x.now a.x.now.segment_path.now a.x.now.entry_path.now
     (omega arith) (passed c.segment_size_allowed.ensures c.if-not-segment_size_allowed.false)
     (passed c.offset_allowed.ensures c.if-not-offset_allowed.false)
     (passed c.place_allowed.ensures c.if-not-place_allowed.false)
