@@ -2,6 +2,7 @@
 use Rattle.std.proofs.Common.{◌≡◌, ℕ, ◌+◌, ◌*◌, ◌/◌, ◌%◌, ◌^◌, ◌<◌, ◌≤◌, Bool, true, false, ◌&&◌, eqb, ltb, List}
 use Rattle.std.proofs.Common.{length, get_or, sym, ap, ◌∙◌, ap₂, arith}
 use Rattle.octets.specs.Bytes.{Bytes}
+use Rattle.octets.specs.LittleEndianLaws.{each_byte}
 use Rattle.stray.specs.StrayBits.{no_stray_bits}
 use Rattle.fr32.specs.Padding.{segment_length, segment_nodes, data_of, padded, unpadded, only_raw_bits}
 use Rattle.fr32.specs.BitLaws.{byte_of_number}
@@ -9,19 +10,23 @@ use Rattle.fr32.specs.CapacityLaws.{rest_zero}
 use Rattle.fr32.specs.PaddingLaws.{padded_byte, padded_last_byte}
 use Rattle.fr32.specs.UnpaddingLaws.{raw_byte, raw_last_byte}
 
+-- a byte is below 256
+whole : (xs : List ℕ) (at : ℕ) → Bytes xs → {byte : ℕ} → byte ≡ get_or xs at 0 → byte % 256 ≡ get_or xs at 0
+whole xs at bytes e = let b = each_byte xs bytes at in omega arith
+
 -- where byte q of a segment starts in the data
 abbrev start_bit : ℕ → ℕ
 start_bit q = 254 * (q / 32) + 8 * (q % 32)
 
 module _ (raw : List ℕ) (q : ℕ) (bytes : Bytes raw) (within : q < segment_length (length raw))
     {low high byte : ℕ} (l : low ≡ get_or raw (start_bit q / 8) 0) (h : high ≡ get_or raw (start_bit q / 8 + 1) 0)
-    (b : byte ≡ (low + 256 * high) / 2 ^ (start_bit q % 8) % 256) where
+    (b : byte ≡ (low % 256 + 256 * high) / 2 ^ (start_bit q % 8) % 256) where
   place : 32 * (q / 32) + q % 32 ≡ q
   place = omega arith
 
   from_raw : byte
       ≡ (get_or raw (start_bit q / 8) 0 + 256 * get_or raw (start_bit q / 8 + 1) 0) / 2 ^ (start_bit q % 8) % 256
-  from_raw = b ∙ ap₂ (λ (x y : ℕ). (x + 256 * y) / 2 ^ (start_bit q % 8) % 256) l h
+  from_raw = b ∙ ap₂ (λ (x y : ℕ). (x + 256 * y) / 2 ^ (start_bit q % 8) % 256) (whole raw (start_bit q / 8) bytes l) h
 
   pub at_place : (q % 32 ≡ 31 → ⊥) → byte ≡ get_or (padded raw) q 0
   at_place n =
@@ -48,11 +53,11 @@ start_byte p = 32 * (8 * p / 254) + node_bit p / 8
 
 module _ (segment : List ℕ) (p : ℕ) (bytes : Bytes segment) {low high byte : ℕ}
     (l : low ≡ get_or segment (start_byte p) 0) (h : high ≡ get_or segment (start_byte p + 1) 0) where
-  pub within_node : byte ≡ (low + 256 * high) / 2 ^ (node_bit p % 8) % 256 → node_bit p < 248
+  pub within_node : byte ≡ (low % 256 + 256 * high) / 2 ^ (node_bit p % 8) % 256 → node_bit p < 248
       → byte ≡ data_of ((length segment + 31) / 32) segment / 2 ^ (8 * p) % 256
   within_node b n =
       b
-      ∙ ap₂ (λ (x y : ℕ). (x + 256 * y) / 2 ^ (node_bit p % 8) % 256) l h
+      ∙ ap₂ (λ (x y : ℕ). (x + 256 * y) / 2 ^ (node_bit p % 8) % 256) (whole segment (start_byte p) bytes l) h
       ∙ sym
       (raw_byte ((length segment + 31) / 32) segment bytes (omega arith) p
       (8 * p / 254) (node_bit p / 8) (node_bit p % 8) (omega arith) (omega arith) (omega arith))

@@ -1,64 +1,29 @@
--- Turns of the loops that write word after word from the start of the output, and byte after byte from a place on.
-use Rattle.std.proofs.Common.{◌≡◌, ℕ, suc, ◌+◌, ◌-◌, ◌*◌, ◌<◌, ◌≤◌, List, ◌++◌, length, get_or, take, drop, set, sym}
-use Rattle.std.proofs.Common.{ap, ◌∙◌, ap₂, arith, length-drop, take-append-drop, length-take-le, get_or-drop, take-add}
-use lib.Seq.{paste, paste-zero, paste-suc, take-length}
-use Rattle.octets.specs.LittleEndian.{bytes_of}
-use Rattle.octets.specs.LittleEndianLaws.{length_bytes_of}
+-- Turns of the loops that write a string part after part: words, and then bytes.
+use Rattle.std.proofs.Common.{◌≡◌, ℕ, suc, ◌+◌, ◌<◌, ◌≤◌, List, [], ◌∷◌, ◌++◌, length, get_or, take, drop, set, sym, ap, ◌∙◌}
+use Rattle.std.proofs.Common.{ap₂, arith, add-one, length-take-le, take-add}
+use lib.Seq.{append_snoc, set_split, drop-cons}
 use Rattle.octets.specs.Splice.{part, splice}
-use Rattle.octets.specs.SpliceLaws.{length_splice, splice_append}
+use Rattle.octets.specs.SpliceLaws.{splice_append}
 
-pub word_length : (now : List ℕ) (w word : ℕ) → 8 * w + 8 ≤ length now
-    → length (splice now (8 * w) (bytes_of 8 word)) ≡ length now
-word_length now w word h =
-    let l = length_bytes_of 8 word in length_splice now (8 * w) (bytes_of 8 word) (omega arith)
+-- a byte is a part of one byte
+pub byte_set : (d : List ℕ) (at b : ℕ) → at < length d → set d at b ≡ splice d at (b ∷ [])
+unfolding splice
+byte_set d at b h =
+    set_split d at b h
+    ∙ sym (append_snoc (take at d) b (drop (suc at) d))
+    ∙ ap (λ (n : ℕ). take at d ++ (b ∷ []) ++ drop n d) (sym (add-one at))
 
-module _ (output s : List ℕ) where
-  pub word_written : (now : List ℕ) (w word : ℕ) → now ≡ splice output 0 (take (8 * w) s)
-      → bytes_of 8 word ≡ part s (8 * w) 8 → 8 * w + 8 ≤ length s → length s ≤ length output
-      → splice now (8 * w) (bytes_of 8 word) ≡ splice output 0 (take (8 * (w + 1)) s)
-  unfolding part
-  word_written now w word e b h k =
-      let l : length (take (8 * w) s) ≡ 8 * w = length-take-le (8 * w) s (omega arith) in
-      let n : 8 * w + 8 ≡ 8 * (w + 1) = omega arith in
-      ap₂ (λ (d t : List ℕ). splice d (8 * w) t) e b
-      ∙ splice_append output 0 (8 * w) (take (8 * w) s) (take 8 (drop (8 * w) s)) (omega arith) (omega arith)
-      ∙ ap (splice output 0) (sym (take-add (8 * w) 8 s) ∙ ap (λ (i : ℕ). take i s) n)
+pub byte_part : (s : List ℕ) (q byte : ℕ) → q < length s → byte ≡ get_or s q 0 → byte ∷ [] ≡ part s q 1
+unfolding part
+byte_part s q byte h e = ap (λ (b : ℕ). b ∷ []) e ∙ sym (ap (take 1) (drop-cons s q 0 h))
 
-  pub none_written : (first : ℕ) → output ≡ paste output first (drop first s) (first - first)
-  none_written first =
-      let e : 0 ≡ first - first = omega arith in
-      paste-zero output first (drop first s) ∙ ap (paste output first (drop first s)) e
-
-  module _ (first : ℕ) (within : first ≤ length s) where
-    abbrev rest : List ℕ
-    rest = drop first s
-
-    left : length rest ≡ length s - first
-    left = length-drop first s
-
-    pub byte_written : (now : List ℕ) (q byte : ℕ) → now ≡ paste output first rest (q - first) → byte ≡ get_or s q 0
-        → first ≤ q → q < length output → q < length s → set now q byte ≡ paste output first rest (q + 1 - first)
-    byte_written now q byte e b f h k =
-        let l = left in
-        let place : first + (q - first) ≡ q = omega arith in
-        let n : suc (q - first) ≡ q + 1 - first = omega arith in
-        ap₂ (λ (d : List ℕ) (x : ℕ). set d q x) e
-        (b ∙ sym (get_or-drop first s (q - first) 0 ∙ ap (λ (j : ℕ). get_or s j 0) place))
-        ∙ ap (λ (j : ℕ). set (paste output first rest (q - first)) j (get_or rest (q - first) 0)) (sym place)
-        ∙ paste-suc output first rest (q - first) 0 (omega arith) (omega arith)
-        ∙ ap (paste output first rest) n
-
-    pub end_written : (q : ℕ) → q ≡ length s → paste output first rest (q - first) ≡ splice output first rest
-    unfolding splice
-    end_written q e =
-        let l = left in
-        let n : q - first ≡ length rest = omega arith in
-        ap (paste output first rest) n
-        ∙ ap (λ (t : List ℕ). take first output ++ t ++ drop (first + length rest) output) (take-length rest)
-
-    -- words, and then the rest
-    pub all_written : length s ≤ length output → splice (splice output 0 (take first s)) first rest ≡ splice output 0 s
-    all_written h =
-        let l : length (take first s) ≡ first = length-take-le first s within in
-        splice_append output 0 first (take first s) rest (omega arith) (omega arith)
-        ∙ ap (splice output 0) (take-append-drop first s)
+-- the first k bytes of s are written, and then the next m
+pub next_written : (output s now next : List ℕ) (k m : ℕ) → length s ≤ length output → k + m ≤ length s
+    → now ≡ splice output 0 (take k s) → next ≡ part s k m
+    → splice now k next ≡ splice output 0 (take (k + m) s)
+unfolding part
+next_written output s now next k m room within e b =
+    let l : length (take k s) ≡ k = length-take-le k s (omega arith) in
+    ap₂ (λ (d t : List ℕ). splice d k t) e b
+    ∙ splice_append output 0 k (take k s) (take m (drop k s)) (omega arith) (omega arith)
+    ∙ ap (splice output 0) (sym (take-add k m s))

@@ -13,3 +13,4 @@ pub mod AnswerLaws
 pub mod ThereAndBack
 pub mod InPieces
 pub mod FilledBlocks
+pub mod Writing

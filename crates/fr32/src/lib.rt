@@ -5,6 +5,7 @@ mod bits; // bits.rt: eight bits across two bytes
 mod padding; // padding.rt: raw bytes to a segment
 mod unpadding; // unpadding.rt: a segment to raw bytes
 mod words; // words.rt: sixty-four bits across two words
+mod writing; // writing.rt: a string written by its words and bytes
 
 ghost use Rattle.std.specs.Prelude.{◌≡◌, ◌≤◌};
 ghost use Rattle.fr32.specs.Padding.{raw_length_allowed, segment_length};

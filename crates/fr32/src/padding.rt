@@ -7,6 +7,7 @@ ghost use Rattle.fr32.specs.Answers.{written_answer, pad_answer, pad_output};
 
 use crate::bits::{across, byte_at};
 use crate::words::{LAST_WORD, across_words};
+use crate::writing::write;
 use crate::{raw_length_allowed, segment_length};
 use rules::Refusal;
 
@@ -19,7 +20,7 @@ fn segment_byte(raw: &[u8], q: usize) -> u8
     let bit = 254 * (q / 32) + 8 * place;
     let low = byte_at(raw, bit / 8);
     let high = byte_at(raw, bit / 8 + 1);
-    let byte = across(low, high, (bit % 8) as u16);
+    let byte = across::<256>(low, high, (bit % 8) as u16);
     if place == 31 {
         return byte % 64;
     }
@@ -43,45 +44,21 @@ fn segment_word(raw: &[u8], w: usize) -> u64
     word
 }
 
-// Writes the words of the segment that lie in whole nodes of raw bytes, all but the last, into the first bytes of
-// `output`, and answers the number of bytes written.
-fn write_segment_words(raw: &[u8], output: &mut [u8]) -> usize
-    requires { (length raw.now ≤ 8323072) × (segment_length (length raw.now) ≤ length output.old) }
-    ensures { (result ≤ segment_length (length raw.now))
-        × (output.new ≡ splice output.old 0 (take result (padded raw.now))) }
-{
-    let words = 4 * (4 * raw.len() / 127);
-    let mut w = 0;
-    while w + 1 < words {
-        let word = segment_word(raw, w);
-        octets::put_u64(output, 8 * w, word);
-        w += 1;
-    }
-    8 * w
-}
-
-// Writes the rest of the segment from byte `first` on.
-fn write_segment_rest(raw: &[u8], first: usize, output: &mut [u8])
-    requires { (length raw.now ≤ 8323072) × (first ≤ segment_length (length raw.now))
-        × (segment_length (length raw.now) ≤ length output.old) }
-    ensures { output.new
-        ≡ splice output.old first (drop first (padded raw.now)) }
-{
-    let n = segment_length(raw.len());
-    let mut q = first;
-    while q < n {
-        output[q] = segment_byte(raw, q);
-        q += 1;
-    }
-}
-
-// Writes the segment of raw bytes into the first bytes of `output`: by words, and what is left byte by byte.
+// Writes the segment of raw bytes into the first bytes of `output`: by the words that lie in whole nodes of raw bytes,
+// all but the last, and what is left byte by byte.
 fn write_segment(raw: &[u8], output: &mut [u8])
     requires { (length raw.now ≤ 8323072) × (segment_length (length raw.now) ≤ length output.old) }
     ensures { output.new ≡ splice output.old 0 (padded raw.now) }
 {
-    let first = write_segment_words(raw, output);
-    write_segment_rest(raw, first, output);
+    let n = segment_length(raw.len());
+    let words = 4 * (4 * raw.len() / 127);
+    write(
+        output,
+        n,
+        words.saturating_sub(1),
+        |w| segment_word(raw, w),
+        |q| segment_byte(raw, q),
+    );
 }
 
 // Writes the segment of raw bytes into the first bytes of `output`, and answers its length; the rest of `output` stays.

@@ -4,8 +4,9 @@ ghost use Rattle.octets.specs.Splice.{splice};
 ghost use Rattle.fr32.specs.Padding.{segment_length, data_of, unpadded, only_raw_bits};
 ghost use Rattle.fr32.specs.Answers.{written_answer, unpad_answer, unpad_output};
 
-use crate::bits::{across, across_nodes, byte_at};
+use crate::bits::{across, byte_at};
 use crate::words::{across_node_words, across_words};
+use crate::writing::write;
 use crate::{raw_length_allowed, segment_length};
 use rules::Refusal;
 
@@ -21,9 +22,9 @@ fn raw_byte(segment: &[u8], p: usize) -> u8
     let high = byte_at(segment, at + 1);
     let shift = (bit % 8) as u16;
     if bit < 248 {
-        return across(low, high, shift);
+        return across::<256>(low, high, shift);
     }
-    across_nodes(low, high, shift)
+    across::<64>(low, high, shift)
 }
 
 // Whether the segment has no other bits than those of n raw bytes: no stray bits, and zeros after the last raw bit,
@@ -53,44 +54,19 @@ fn raw_word(segment: &[u8], w: usize) -> u64
     across_node_words(low, high, shift)
 }
 
-// Writes the words of the n raw bytes of a segment, all but the last, into the first bytes of `output`, and answers the
-// number of bytes written.
-fn write_raw_words(n: usize, segment: &[u8], output: &mut [u8]) -> usize
-    requires { (n ≤ 8323072) × (length segment.now ≡ segment_length n) × (n ≤ length output.old) }
-    ensures { (result ≤ n)
-        × (output.new ≡ splice output.old 0 (take result (unpadded n segment.now))) }
-{
-    let words = n / 8;
-    let mut w = 0;
-    while w + 1 < words {
-        let word = raw_word(segment, w);
-        octets::put_u64(output, 8 * w, word);
-        w += 1;
-    }
-    8 * w
-}
-
-// Writes the rest of the n raw bytes from byte `first` on.
-fn write_raw_rest(n: usize, segment: &[u8], first: usize, output: &mut [u8])
-    requires { (n ≤ 8323072) × (length segment.now ≡ segment_length n) × (first ≤ n)
-        × (n ≤ length output.old) }
-    ensures { output.new
-        ≡ splice output.old first (drop first (unpadded n segment.now)) }
-{
-    let mut p = first;
-    while p < n {
-        output[p] = raw_byte(segment, p);
-        p += 1;
-    }
-}
-
-// Writes the n raw bytes of a segment into the first bytes of `output`: by words, and what is left byte by byte.
+// Writes the n raw bytes of a segment into the first bytes of `output`: by words, all but the last, and what is left
+// byte by byte.
 fn write_raw(n: usize, segment: &[u8], output: &mut [u8])
     requires { (n ≤ 8323072) × (length segment.now ≡ segment_length n) × (n ≤ length output.old) }
     ensures { output.new ≡ splice output.old 0 (unpadded n segment.now) }
 {
-    let first = write_raw_words(n, segment, output);
-    write_raw_rest(n, segment, first, output);
+    write(
+        output,
+        n,
+        (n / 8).saturating_sub(1),
+        |w| raw_word(segment, w),
+        |p| raw_byte(segment, p),
+    );
 }
 
 // Writes the raw bytes of a segment, as many as the caller names, into the first bytes of `output`, and answers their

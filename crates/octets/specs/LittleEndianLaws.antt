@@ -65,7 +65,7 @@ number_bound (suc n) (x ∷ xs) l h =
     let p = pow-suc 256 n in
     omega arith
 
-each_byte : (xs : List ℕ) → Bytes xs → (i : ℕ) → get_or xs i 0 < 256
+pub each_byte : (xs : List ℕ) → Bytes xs → (i : ℕ) → get_or xs i 0 < 256
 each_byte [] b i = omega arith
 each_byte (x ∷ xs) b zero = b.0
 each_byte (x ∷ xs) b (suc i) = each_byte xs b.1 i

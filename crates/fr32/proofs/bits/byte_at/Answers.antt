@@ -2,5 +2,5 @@ use Rattle.std.proofs.Common.{sym}
 use lib.ListN.{get_or-eq_default}
 use Rattle.fr32.proofs.bits.byte_at.Goals as goal
 
-pub returns : goal.returns
-returns c = sym (get_or-eq_default c.args.bytes.now 0 c.if-at-bytes.false)
+pub returns-else-at-bytes : goal.returns-else-at-bytes
+returns-else-at-bytes c = sym (get_or-eq_default c.args.bytes.now 0 c.if-at-bytes.false)

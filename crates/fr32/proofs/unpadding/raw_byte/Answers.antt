@@ -12,4 +12,4 @@ pub returns : goal.returns
 returns c =
     across_end c.args.segment.now c.args.p
     (bytes_of_slice c.args.segment.now c.type_inv.segment) c.byte_at-low.ensures
-    c.byte_at-high.ensures c.across_nodes.ensures c.if-bit-lt248.false
+    c.byte_at-high.ensures c.across-2.ensures c.if-bit-lt248.false

@@ -6,7 +6,7 @@ use Rattle.fr32.proofs.unpadding.unpad.Goals as goal
 pub returns-then-not-raw_length_allowed : goal.returns-then-not-raw_length_allowed
 returns-then-not-raw_length_allowed c =
     let a = c.args in
-    unpad_length_refused a.raw_length a.segment.now a.output.now c.refused.ensures
+    unpad_length_refused a.raw_length a.segment.now a.output.now refl
     (sym c.raw_length_allowed.ensures ∙ c.if-not-raw_length_allowed.true)
 
 pub segment_length-requires : goal.segment_length-requires
@@ -17,7 +17,7 @@ pub returns-then-segment-segment_length : goal.returns-then-segment-segment_leng
 returns-then-segment-segment_length c =
     let a = c.args in
     let allowed = sym c.raw_length_allowed.ensures ∙ c.if-not-raw_length_allowed.false in
-    segment_refused a.raw_length a.segment.now a.output.now allowed c.refused-then-segment-segment_length.ensures
+    segment_refused a.raw_length a.segment.now a.output.now allowed refl
     (λ e. c.if-segment-segment_length.true (e ∙ sym c.segment_length.ensures))
 
 pub only_raw_bits-requires : goal.only_raw_bits-requires
@@ -31,7 +31,7 @@ returns-then-not-only_raw_bits c =
     let a = c.args in
     let allowed = sym c.raw_length_allowed.ensures ∙ c.if-not-raw_length_allowed.false in
     let sized = c.if-segment-segment_length.false ∙ c.segment_length.ensures in
-    bits_refused a.raw_length a.segment.now a.output.now allowed sized c.refused-then-not-only_raw_bits.ensures
+    bits_refused a.raw_length a.segment.now a.output.now allowed sized refl
     (sym c.only_raw_bits.ensures ∙ c.if-not-only_raw_bits.true)
 
 pub returns-then-output-n : goal.returns-then-output-n
@@ -39,7 +39,7 @@ returns-then-output-n c =
     let a = c.args in
     let allowed = sym c.raw_length_allowed.ensures ∙ c.if-not-raw_length_allowed.false in
     let sized = c.if-segment-segment_length.false ∙ c.segment_length.ensures in
-    unpad_output_short a.raw_length a.segment.now a.output.now allowed sized c.refused-then-output-n.ensures
+    unpad_output_short a.raw_length a.segment.now a.output.now allowed sized refl
     (sym c.only_raw_bits.ensures ∙ c.if-not-only_raw_bits.false) c.if-output-n.true
 
 pub write_raw-requires : goal.write_raw-requires

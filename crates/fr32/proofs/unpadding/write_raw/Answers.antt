@@ -1,16 +1,15 @@
-use Rattle.std.proofs.Common.{ℕ, List, drop, ap, ◌∙◌, arith}
-use Rattle.octets.specs.Splice.{splice}
-use Rattle.fr32.specs.Padding.{unpadded}
+-- The words and the bytes that are worked out are those of the raw bytes.
+use Rattle.std.proofs.Common.{rules, ◌≡◌, ℕ, ◌+◌, ◌*◌, ◌/◌, ◌<◌, length, arith, ◌∙◌, sym}
+use Rattle.fr32.specs.Padding.{segment_length, unpadded}
 use Rattle.fr32.specs.UnpaddingLaws.{length_unpadded}
-use Rattle.fr32.proofs.WriteLoops.{all_written}
+use Rattle.fr32.proofs.ByteFormulas.{raw_place}
+use Rattle.fr32.proofs.WordFormulas.{words_inside, raw_word_place}
 use Rattle.fr32.proofs.unpadding.write_raw.Goals as goal
 
 pub returns : goal.returns
 returns c =
-    let raw = unpadded c.args.n c.args.segment.now in
-    let first = c.write_raw_words-first.result in
-    let known = length_unpadded c.args.n c.args.segment.now in
-    c.write_raw_rest.ensures
-    ∙ ap (λ (l : List ℕ). splice l first (drop first raw)) c.write_raw_words-first.ensures.1
-    ∙ all_written c.args.output.now raw first (omega (arith, c.write_raw_words-first.ensures.0))
-    (omega (arith, c.requires.2))
+    let segment = c.args.segment.now in
+    c.write.ensures (unpadded c.args.n segment) (length_unpadded c.args.n segment)
+    (λ w x h p.
+    raw_word_place c.args.n w segment c.requires.1 (omega (arith, h, c.saturating_sub.ensures)) (search rules))
+    (λ q x h p. raw_place c.args.n q segment c.requires.1 (search rules) h)
