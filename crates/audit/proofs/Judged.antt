@@ -19,7 +19,7 @@ use Rattle.index.specs.SlotsLaws.{answer_kept, answer_not_kept}
 use Rattle.index.specs.KeptRowsLaws.{slot_within}
 use Rattle.room.specs.Room.{Range, Bounded, ranges_in, fits}
 use Rattle.room.specs.RoomLaws.{slots_high, fits_cong}
-use Rattle.room.specs.declared.Ranges.{Ranges}
+use Rattle.room.specs.Room.{Range}
 use Rattle.ranges.specs.Ranges.{ranges_of}
 use Rattle.ranges.specs.RangesLaws.{gathered_bounded, range_empty, empty_free}
 use Rattle.packing.specs.Order.{overlaps_lower}
@@ -34,7 +34,7 @@ kind_at deal i place read kind p r k =
     let slot = part_range deal place 64 ∙ ap (entry_at deal) p in
     is_kind_lem (slot_at deal i) kind (sym (ap kind_of slot) ∙ sym r ∙ k)
 
-module _ {deal : List ℕ} {ranges : Ranges} (g : Gathered deal ranges) where
+module _ {deal : List ℕ} {ranges : List Range} (g : Gathered deal ranges) where
   lent : LentSize (length deal)
   lent = lent_size (length deal) g.lent
 

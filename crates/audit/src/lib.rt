@@ -9,17 +9,17 @@ ghost use Rattle.audit.specs.Gathered.{Gathered};
 
 use entries::EntryKind;
 use lent::Lent;
-use room::Ranges;
+use room::Range;
 
 // The state of an entry that stands in slot i, whose bytes are those of its range: 3 where they overlap those of a
 // lower slot, 4 where its commitment is not theirs, else 5. Only where they overlap none are they hashed, so that no
 // area is hashed twice.
-fn standing_state(deal: &[u8], place: usize, ranges: Ranges, i: usize) -> u8
-    requires gathered { Gathered deal.now ranges × (i < entry_count (length deal.now)) }
+fn standing_state(deal: &[u8], place: usize, ranges: &[Range; 128], i: usize) -> u8
+    requires gathered { Gathered deal.now ranges.now × (i < entry_count (length deal.now)) }
     requires place_value { (place ≡ slot_place (length deal.now) i) × (stands_at deal.now i ≡ true) }
     ensures { result ≡ slot_state deal.now i }
 {
-    let None = room::lowest_overlap(ranges, i, ranges.offsets[i], ranges.areas[i]) else {
+    let None = room::lowest_overlap(&ranges[..i], ranges[i]) else {
         return 3;
     };
     let lent = Lent {
@@ -34,8 +34,8 @@ fn standing_state(deal: &[u8], place: usize, ranges: Ranges, i: usize) -> u8
 
 // The state of slot i: 0 where it is blank, 1 where it is damaged, 2 where its entry is valid but does not stand, else
 // that of the standing entry.
-fn slot_state(deal: &[u8], ranges: Ranges, i: usize) -> u8
-    requires { Gathered deal.now ranges × (i < entry_count (length deal.now)) }
+fn slot_state(deal: &[u8], ranges: &[Range; 128], i: usize) -> u8
+    requires { Gathered deal.now ranges.now × (i < entry_count (length deal.now)) }
     ensures { result ≡ slot_state deal.now i }
 {
     let place = sizes::slot_place(deal.len() as u64, i as u64) as usize;
@@ -45,7 +45,7 @@ fn slot_state(deal: &[u8], ranges: Ranges, i: usize) -> u8
         EntryKind::Damaged => return 1,
         EntryKind::Valid => {}
     }
-    if ranges.areas[i] == 0 {
+    if ranges[i].area == 0 {
         return 2;
     }
     standing_state(deal, place, ranges, i)
@@ -60,7 +60,7 @@ fn write_states(deal: &[u8], states: &mut [u8], slots: usize)
     let ranges = ranges::gather(deal);
     let mut i: usize = 0;
     while i < slots {
-        let state = slot_state(deal, ranges, i);
+        let state = slot_state(deal, &ranges, i);
         states[i] = state;
         i += 1;
     }

@@ -9,7 +9,7 @@ use Rattle.entries.specs.Entry.{offset_in}
 use Rattle.lent.specs.LentDeal.{LentDeal, lent_deal, deal_size}
 use Rattle.index.specs.Slots.{slot_at}
 use Rattle.room.specs.Room.{Range}
-use Rattle.room.specs.declared.Decision.TheVariants.{Already, Place}
+use Rattle.room.specs.Decide.{Already, Place}
 use Rattle.ranges.specs.RangesLaws.{range_stands}
 use Rattle.houses.specs.Houses.{with_owner}
 use Rattle.booking.specs.Write.{written_deal}

@@ -9,8 +9,8 @@ use Rattle.lent.specs.LentDeal.{LentDeal, deal_size}
 use Rattle.index.specs.Slots.{slot_at}
 use Rattle.room.specs.Room.{overlaps}
 use Rattle.room.specs.DecideLaws.{Places}
-use Rattle.room.specs.declared.Decision.{Decision}
-use Rattle.room.specs.declared.Decision.TheVariants.{Refuse, Already, Place}
+use Rattle.room.specs.Decide.{Decision}
+use Rattle.room.specs.Decide.{Refuse, Already, Place}
 use Rattle.ranges.specs.Ranges.{ranges_of}
 use Rattle.ranges.specs.RangesLaws.{range_stands, empty_free}
 use Rattle.houses.specs.Houses.{owner_at, with_owner}

@@ -15,8 +15,8 @@ use Rattle.lent.specs.LentDeal.{tree_deal}
 use Rattle.lent.specs.UsableLaws.{tree_sized_lem}
 use Rattle.index.specs.KeptRowsLaws.{slot_within}
 use Rattle.room.specs.Decide.{answer_to}
-use Rattle.room.specs.declared.Decision.{Decision}
-use Rattle.room.specs.declared.Decision.TheVariants.{Refuse, Already, Place}
+use Rattle.room.specs.Decide.{Decision}
+use Rattle.room.specs.Decide.{Refuse, Already, Place}
 use Rattle.ranges.specs.Ranges.{ranges_of}
 use Rattle.booking.specs.Write.{written_deal}
 use Rattle.booking.specs.WriteLaws.{Fits, written_length}

@@ -15,8 +15,8 @@ use Rattle.room.specs.Room.{Range, SameBelow, EndBy, ranges_in}
 use Rattle.room.specs.RoomLaws.{slots_high}
 use Rattle.room.specs.Decide.{SlotBelow, decide, answer_to}
 use Rattle.room.specs.DecideLaws.{decides_below, decide_cong, answer_cong}
-use Rattle.room.specs.declared.Decision.{Decision}
-use Rattle.room.specs.declared.Ranges.{Ranges}
+use Rattle.room.specs.Decide.{Decision}
+use Rattle.room.specs.Room.{Range}
 use Rattle.ranges.specs.Ranges.{ranges_of}
 use Rattle.houses.specs.Houses.{held_count}
 use Rattle.houses.specs.HousesLaws.{held_cong, held_most}
@@ -64,7 +64,7 @@ module _ (deal : LentDeal) (table : List ℕ) (house : ℕ) (segment : List ℕ)
   held_within = held_most _ table house (entry_count (deal_size deal))
 
   -- gathered ranges end by the index start; the slots held, the decision and the answer by them are the definition's
-  module _ (ranges : Ranges)
+  module _ (ranges : List Range)
       (g : SameBelow (entry_count (deal_size deal)) (ranges_in ranges) (ranges_of deal.bytes)) where
     pub gathered_end : EndBy (index_start (deal_size deal)) (entry_count (deal_size deal)) (ranges_in ranges)
     gathered_end i h =

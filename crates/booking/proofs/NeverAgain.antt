@@ -11,7 +11,7 @@ use Rattle.sizes.specs.Sizes.{entry_count, slot_place}
 use Rattle.lent.specs.LentDeal.{lent_deal}
 use Rattle.index.specs.Slots.{slot_at, standing}
 use Rattle.room.specs.declared.Booked.{Booked}
-use Rattle.room.specs.declared.Decision.TheVariants.{Place}
+use Rattle.room.specs.Decide.{Place}
 use Rattle.houses.specs.Houses.{owner_at}
 use Rattle.houses.specs.HousesLaws.{owner_other}
 use Rattle.booking.specs.Booking.{keeps_segment, keeps_own, lowest_keeping, book_answer, booked_deal, booked_table}

@@ -18,7 +18,7 @@ use Rattle.index.specs.Written.{slot_of}
 use Rattle.index.specs.SlotWrittenLaws.{slot_back}
 use Rattle.room.specs.Decide.{answer_to}
 use Rattle.room.specs.declared.Booked.{Booked}
-use Rattle.room.specs.declared.Decision.TheVariants.{Refuse, Place}
+use Rattle.room.specs.Decide.{Refuse, Place}
 use Rattle.ranges.specs.Ranges.{ranges_of}
 use Rattle.houses.specs.Houses.{table_sized, with_owner}
 use Rattle.booking.specs.Write.{segment_commitment, written_at}

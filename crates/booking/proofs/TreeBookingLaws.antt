@@ -24,8 +24,8 @@ use Rattle.index.specs.Slots.{slot_at}
 use Rattle.index.specs.KeptRowsLaws.{slot_within}
 use Rattle.index.specs.FilledKeptLaws.{filled_kept}
 use Rattle.room.specs.Decide.{decide, answer_to}
-use Rattle.room.specs.declared.Decision.{Decision}
-use Rattle.room.specs.declared.Decision.TheVariants.{Refuse, Already, Place}
+use Rattle.room.specs.Decide.{Decision}
+use Rattle.room.specs.Decide.{Refuse, Already, Place}
 use Rattle.ranges.specs.Ranges.{ranges_of}
 use Rattle.houses.specs.Houses.{house_rules, owned}
 use Rattle.booking.specs.Write.{area_bytes, new_entry, written_deal}

@@ -4,8 +4,8 @@ use Rattle.std.specs.Prelude.{Bool, ◌||◌, ℕ, List, length}
 use Rattle.sizes.specs.Sizes.{area, deal_level, slot_place}
 use Rattle.tree.specs.Renewed.{above, renewed}
 use Rattle.lent.specs.LentDeal.{tree_deal}
-use Rattle.room.specs.declared.Decision.{Decision}
-use Rattle.room.specs.declared.Decision.TheVariants.{Refuse, Already, Place}
+use Rattle.room.specs.Decide.{Decision}
+use Rattle.room.specs.Decide.{Refuse, Already, Place}
 use Rattle.booking.specs.Write.{written_deal}
 use Rattle.booking.specs.Booking.{decision}
 

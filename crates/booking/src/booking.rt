@@ -43,18 +43,18 @@ fn place_for(
 {
     let deal_size = deal.len() as u64;
     let ranges = ranges::gather(deal);
-    let held = houses::held_count(ranges, table, house, table.len());
+    let held = houses::held_count(&ranges[..table.len()], table, house);
     let keeping = lowest_keeping(
-        deal, tree, has_tree, table, house, segment, commitment, ranges,
+        deal, tree, has_tree, table, house, segment, commitment, &ranges,
     );
     let decision = room::decide(
         deal_size,
-        ranges,
+        &ranges,
         held,
         sizes::area(segment.len() as u64),
         keeping,
     );
-    room::answer(deal_size, ranges, decision)
+    room::booked_of(room::answer(deal_size, &ranges, decision))
 }
 
 // Writes a segment, zeros after it to its area's end, and its entry.

@@ -12,7 +12,7 @@ ghost use Rattle.booking.specs.Write.{segment_commitment};
 ghost use Rattle.booking.specs.Booking.{keeps_segment, lowest_keeping};
 
 use lent::Lent;
-use room::Ranges;
+use room::Range;
 
 // The node that an entry of the segment's size has to name to be kept with the segment's bytes: with a tree beside the
 // deal the node over the area as it stands there; without one the segment's commitment, which is that node wherever the
@@ -51,27 +51,27 @@ fn slot_keeps(
     has_tree: bool,
     segment: &[u8],
     commitment: [u8; 32],
-    ranges: Ranges,
+    ranges: &[Range; 128],
     i: usize,
 ) -> bool
     requires usable { Usable (lent_with has_tree deal.now tree.now) }
     requires segment_value { segment_size_allowed (length deal.now) (length segment.now) ≡ true }
     requires commitment_value { commitment ≡ segment_commitment segment.now }
-    requires same_below { SameBelow (entry_count (length deal.now)) (ranges_in ranges) (ranges_of deal.now) }
+    requires same_below { SameBelow (entry_count (length deal.now)) (ranges_in ranges.now) (ranges_of deal.now) }
     requires i_bound { i < entry_count (length deal.now) }
     ensures { result
         ≡ keeps_segment (lent_with has_tree deal.now tree.now) segment.now i }
 {
     let size = segment.len() as u64;
     let area = sizes::area(size);
-    if ranges.areas[i] != area {
+    if ranges[i].area != area {
         return false;
     }
     let place = sizes::slot_place(deal.len() as u64, i as u64) as usize;
     if octets::read_u64(deal, place + 40) != size {
         return false;
     }
-    let offset = ranges.offsets[i];
+    let offset = ranges[i].offset;
     let node = area_node(deal, tree, has_tree, offset, size, commitment);
     if octets::array_at(deal, place) != node {
         return false;
@@ -88,12 +88,12 @@ pub(crate) fn lowest_keeping(
     house: u8,
     segment: &[u8],
     commitment: [u8; 32],
-    ranges: Ranges,
+    ranges: &[Range; 128],
 ) -> Option<usize>
     requires usable { Usable (lent_with has_tree deal.now tree.now) }
     requires segment_value { segment_size_allowed (length deal.now) (length segment.now) ≡ true }
     requires commitment_value { commitment ≡ segment_commitment segment.now }
-    requires same_below { SameBelow (entry_count (length deal.now)) (ranges_in ranges) (ranges_of deal.now) }
+    requires same_below { SameBelow (entry_count (length deal.now)) (ranges_in ranges.now) (ranges_of deal.now) }
     requires table_value { table_sized (length deal.now) table.now ≡ true }
     ensures { result
         ≡ lowest_keeping (lent_with has_tree deal.now tree.now) table.now house

@@ -20,7 +20,7 @@ pub(crate) fn first_refusal(
         (book_rules (lent_with has_tree deal.now tree.now) table.now house
         segment.now) }
 {
-    let not_housed = houses::refusal(deal.len(), table, house);
+    let not_housed = rules::code_of(houses::refusal(deal.len(), table, house));
     if not_housed != 0 {
         return not_housed;
     }

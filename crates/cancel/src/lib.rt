@@ -29,7 +29,7 @@ fn cancel_in(
         ≡ cancelled_table (lent_with has_tree deal.old tree.old) table.old house
         place }
 {
-    let not_housed = houses::refusal(deal.len(), table, house);
+    let not_housed = rules::code_of(houses::refusal(deal.len(), table, house));
     if not_housed != 0 {
         return not_housed;
     }

@@ -11,7 +11,7 @@ use Rattle.lent.specs.LentDeal.{lent_deal}
 use Rattle.lent.specs.LentDealLaws.{answer_refused}
 use Rattle.index.specs.Slots.{slot_at, standing}
 use Rattle.room.specs.Room.{Range}
-use Rattle.room.specs.declared.Decision.TheVariants.{Place}
+use Rattle.room.specs.Decide.{Place}
 use Rattle.ranges.specs.Ranges.{ranges_of}
 use Rattle.ranges.specs.RangesLaws.{range_free}
 use Rattle.houses.specs.Houses.{with_owner}

@@ -25,8 +25,8 @@ use Rattle.room.specs.Room.{SameBelow, is_empty, fits}
 use Rattle.room.specs.Decide.{decide}
 use Rattle.room.specs.DecideLaws.{decide_cong, decides_refused}
 use Rattle.room.specs.declared.Booked.{Booked}
-use Rattle.room.specs.declared.Decision.{Decision}
-use Rattle.room.specs.declared.Decision.TheVariants.{Refuse, Already, Place}
+use Rattle.room.specs.Decide.{Decision}
+use Rattle.room.specs.Decide.{Refuse, Already, Place}
 use Rattle.ranges.specs.Ranges.{row_range, ranges_of}
 use Rattle.houses.specs.Houses.{table_sized, owner_at, owned, with_owner}
 use Rattle.houses.specs.HousesLaws.{owner_here, with_owner_length, with_owner_sized}

@@ -15,7 +15,7 @@ use Rattle.index.specs.Written.{slot_of}
 use Rattle.index.specs.SlotWrittenLaws.{place_slot}
 use Rattle.room.specs.Room.{Range}
 use Rattle.room.specs.declared.Booked.{Booked}
-use Rattle.room.specs.declared.Decision.TheVariants.{Already}
+use Rattle.room.specs.Decide.{Already}
 use Rattle.ranges.specs.Ranges.{row_range}
 use Rattle.houses.specs.Houses.{table_sized, owner_at, owned}
 use Rattle.booking.specs.Booking.{keeps_segment, keeps_own, book_answer}

@@ -24,8 +24,8 @@ use Rattle.room.specs.Room.{range, SameBelow}
 use Rattle.room.specs.Decide.{decide, answer_to, SlotBelow}
 use Rattle.room.specs.DecideLaws.{decide_cong, answer_cong}
 use Rattle.room.specs.OverlapLaws.{overlap_false}
-use Rattle.room.specs.declared.Decision.{Decision}
-use Rattle.room.specs.declared.Decision.TheVariants.{Refuse, Already, Place}
+use Rattle.room.specs.Decide.{Decision}
+use Rattle.room.specs.Decide.{Refuse, Already, Place}
 use Rattle.ranges.specs.Ranges.{ranges_of}
 use Rattle.packing.specs.NoOverlapLaws.{none_overlaps_lem}
 use Rattle.houses.specs.Houses.{house_allowed, house_rules, owned, held_count, with_owner}

@@ -24,8 +24,8 @@ use Rattle.room.specs.RoomLaws.{slots_high}
 use Rattle.room.specs.Decide.{decide, answer_to}
 use Rattle.room.specs.DecideLaws.{decides_13, decides_place}
 use Rattle.room.specs.declared.Booked.{Booked}
-use Rattle.room.specs.declared.Decision.{Decision}
-use Rattle.room.specs.declared.Decision.TheVariants.{Refuse, Already, Place}
+use Rattle.room.specs.Decide.{Decision}
+use Rattle.room.specs.Decide.{Refuse, Already, Place}
 use Rattle.houses.specs.Houses.{house_allowed, owned, holds, held_count}
 use Rattle.houses.specs.Deciding.{place_rules}
 use Rattle.clerk_log.specs.Log.{Line, booking, cancelling, booking_logged, booking_allowed, line_allowed}

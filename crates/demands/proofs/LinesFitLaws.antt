@@ -13,8 +13,8 @@ use Rattle.lent.specs.LentDeal.{LentDeal, deal_size}
 use Rattle.index.specs.KeptRowsLaws.{slot_within}
 use Rattle.room.specs.Decide.{answer_to}
 use Rattle.room.specs.declared.Booked.{Booked}
-use Rattle.room.specs.declared.Decision.{Decision}
-use Rattle.room.specs.declared.Decision.TheVariants.{Refuse, Already, Place}
+use Rattle.room.specs.Decide.{Decision}
+use Rattle.room.specs.Decide.{Refuse, Already, Place}
 use Rattle.ranges.specs.Ranges.{ranges_of}
 use Rattle.ranges.specs.RangesLaws.{ranges_end}
 use Rattle.houses.specs.Houses.{house_allowed}

@@ -22,8 +22,8 @@ use Rattle.index.specs.Written.{slot_of}
 use Rattle.room.specs.RoomLaws.{slots_high}
 use Rattle.room.specs.Decide.{answer_to, SlotBelow}
 use Rattle.room.specs.DecideLaws.{decides_below, answer_cong}
-use Rattle.room.specs.declared.Decision.{Decision}
-use Rattle.room.specs.declared.Decision.TheVariants.{Refuse, Already, Place}
+use Rattle.room.specs.Decide.{Decision}
+use Rattle.room.specs.Decide.{Refuse, Already, Place}
 use Rattle.ranges.specs.Ranges.{ranges_of}
 use Rattle.houses.specs.Houses.{owner_at, with_owner}
 use Rattle.houses.specs.HousesLaws.{owner_here, owner_other}

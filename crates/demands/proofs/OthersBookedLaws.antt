@@ -10,7 +10,7 @@ use Rattle.index.specs.Slots.{holds, row_at, Row}
 use Rattle.room.specs.Room.{overlap, overlaps}
 use Rattle.room.specs.OverlapLaws.{overlap_sym}
 use Rattle.room.specs.DecideLaws.{Places}
-use Rattle.room.specs.declared.Decision.TheVariants.{Place}
+use Rattle.room.specs.Decide.{Place}
 use Rattle.ranges.specs.Ranges.{ranges_of}
 use Rattle.houses.specs.Houses.{owned, with_owner}
 use Rattle.houses.specs.HousesLaws.{owner_here}

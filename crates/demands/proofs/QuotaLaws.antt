@@ -18,8 +18,8 @@ use Rattle.index.specs.Written.{slot_of}
 use Rattle.room.specs.Room.{is_empty}
 use Rattle.room.specs.Decide.{answer_to}
 use Rattle.room.specs.declared.Booked.{Booked}
-use Rattle.room.specs.declared.Decision.{Decision}
-use Rattle.room.specs.declared.Decision.TheVariants.{Refuse, Already, Place}
+use Rattle.room.specs.Decide.{Decision}
+use Rattle.room.specs.Decide.{Refuse, Already, Place}
 use Rattle.ranges.specs.Ranges.{ranges_of}
 use Rattle.ranges.specs.RangesLaws.{range_empty}
 use Rattle.houses.specs.Houses.{house_allowed, owner_at, owned, holds, held_count, with_owner}

@@ -7,7 +7,7 @@ use Rattle.sizes.specs.Sizes.{entry_count, place_allowed}
 use Rattle.index.specs.Written.{slot_of}
 use Rattle.room.specs.Room.{Range}
 use Rattle.room.specs.Decide.{decide}
-use Rattle.room.specs.declared.Decision.{Decision}
+use Rattle.room.specs.Decide.{Decision}
 use Rattle.houses.specs.Houses.{owned, held_count}
 
 -- a booking of n bytes in a deal of d bytes, by which slots keep the segment: "Code 15 .. see[s] only one's own

@@ -2,6 +2,7 @@
 #![tactic(auto)]
 
 ghost use Rattle.std.specs.Prelude.{◌≡◌, true, ◌≤◌, ◌<◌, length};
+ghost use Rattle.rules.specs.Answers.{code_of};
 ghost use Rattle.rules.specs.Refusals.{first_refusal};
 ghost use Rattle.sizes.specs.Sizes.{lent_size_allowed, place_allowed};
 ghost use Rattle.index.specs.Written.{slot_of};
@@ -9,7 +10,8 @@ ghost use Rattle.room.specs.Room.{ranges_in};
 ghost use Rattle.houses.specs.Houses as Houses;
 ghost use Rattle.houses.specs.Houses.{house_allowed, table_sized, house_rules, owned, held_count, with_owner};
 
-use room::Ranges;
+use room::Range;
+use rules::Refusal;
 
 // Whether a number is that of a house.
 pub fn house_allowed(house: u8) -> bool
@@ -25,44 +27,32 @@ pub fn table_sized(size: usize, table: &[u8]) -> bool
     table.len() as u64 == sizes::entry_count(size as u64)
 }
 
-// 23 for a house other than 1 or 2, 2 for a deal size that is not allowed, 23 for a table of another length, else 0.
-pub fn refusal(size: usize, table: &[u8], house: u8) -> u8
-    ensures { result ≡ first_refusal (house_rules size table.now house) }
+// 23 for a house other than 1 or 2, 2 for a deal size that is not allowed, 23 for a table of another length.
+pub fn refusal(size: usize, table: &[u8], house: u8) -> Result<(), Refusal>
+    ensures { code_of result ≡ first_refusal (house_rules size table.now house) }
 {
     if !house_allowed(house) {
-        return 23;
+        return Err(Refusal::House);
     }
     if !sizes::lent_size_allowed(size) {
-        return 2;
+        return Err(Refusal::Size);
     }
     if !table_sized(size, table) {
-        return 23;
+        return Err(Refusal::House);
     }
-    0
+    Ok(())
 }
 
-// Whether a house holds slot i: its entry stands, and its byte of the table is the house's.
-fn holds(ranges: Ranges, table: &[u8], house: u8, i: usize) -> bool
-    requires { (i < 128) × (i < length table.now) }
-    ensures { result ≡ Houses.holds (ranges_in ranges) table.now house i }
+// How many of the slots a house holds: those whose entry stands, and whose byte of the table is the house's.
+pub fn held_count(ranges: &[Range], table: &[u8], house: u8) -> usize
+    requires { length ranges.now ≤ length table.now }
+    ensures { result ≡ held_count (ranges_in ranges.now) table.now house (length ranges.now) }
 {
-    ranges.areas[i] != 0 && table[i] == house
-}
-
-// How many of the first slots a house holds.
-pub fn held_count(ranges: Ranges, table: &[u8], house: u8, slots: usize) -> usize
-    requires { (slots ≤ 128) × (slots ≤ length table.now) }
-    ensures { result ≡ held_count (ranges_in ranges) table.now house slots }
-{
-    let mut held: usize = 0;
-    let mut i: usize = 0;
-    while i < slots {
-        if holds(ranges, table, house, i) {
-            held += 1;
-        }
-        i += 1;
-    }
-    held
+    ranges
+        .iter()
+        .zip(table)
+        .filter(|(range, owner)| range.area != 0 && **owner == house)
+        .count()
 }
 
 // The slot at an entry place of a lent deal.

@@ -2,70 +2,52 @@
 // each slot moves.
 #![tactic(auto)]
 
-ghost use Rattle.std.specs.Prelude.{◌≡◌, ◌≤◌, ◌<◌};
-ghost use Rattle.rules.specs.Choice.{choose};
-ghost use Rattle.room.specs.Room.{Bounded, range, ranges_in};
+ghost use Rattle.std.specs.Prelude.{◌≡◌, ◌≤◌, ◌<◌, length};
+ghost use Rattle.room.specs.Room.{Bounded, ranges_in};
 ghost use Rattle.packing.specs.Order.{comes_first, new_slot, new_offset, none_overlaps};
 
-use room::Ranges;
+use room::Range;
 
 // Where a slot moves.
-#[derive(Drop)]
+#[derive(Clone, Copy, Debug, PartialEq, Eq)]
 pub struct Move {
     pub slot: u64,
     pub offset: u64,
 }
 
-// Whether the area a at the offset o comes before the area b at the offset p: it is larger, or as large and at a lower
-// offset.
-fn comes_first(a: u64, o: u64, b: u64, p: u64) -> bool
-    ensures { result ≡ comes_first (range o a) (range p b) }
+// Whether a range comes before another: its area is larger, or as large and at a lower offset.
+fn comes_first(r: Range, s: Range) -> bool
+    ensures { result ≡ comes_first r s }
 {
-    b < a || (a == b && o < p)
-}
-
-// The number, if it counts.
-fn counted(counts: bool, n: u64) -> u64
-    ensures { result ≡ choose counts n 0 }
-{
-    if counts {
-        return n;
-    }
-    0
+    s.area < r.area || (r.area == s.area && r.offset < s.offset)
 }
 
 // Where slot j moves: past the slots and the areas of those that come before it.
-pub fn move_of(ranges: Ranges, slots: usize, j: usize) -> Move
-    requires { (slots ≤ 128) × (j < slots) × Bounded slots ranges }
-    ensures slot_value { result.slot ≡ new_slot (ranges_in ranges) slots j }
-    ensures offset_value { result.offset ≡ new_offset (ranges_in ranges) slots j }
+pub fn move_of(ranges: &[Range], j: usize) -> Move
+    requires { (length ranges.now ≤ 128) × (j < length ranges.now) × Bounded (length ranges.now) ranges.now }
+    ensures slot_value { result.slot ≡ new_slot (ranges_in ranges.now) (length ranges.now) j }
+    ensures offset_value { result.offset ≡ new_offset (ranges_in ranges.now) (length ranges.now) j }
 {
-    let area = ranges.areas[j];
-    let offset = ranges.offsets[j];
     let mut slot: u64 = 0;
-    let mut end: u64 = 0;
-    let mut i: usize = 0;
-    while i < slots {
-        let first = comes_first(ranges.areas[i], ranges.offsets[i], area, offset);
-        slot += counted(first && ranges.areas[i] != 0, 1);
-        end += counted(first, ranges.areas[i]);
-        i += 1;
+    let mut offset: u64 = 0;
+    for range in ranges {
+        if comes_first(*range, ranges[j]) {
+            slot += (range.area != 0) as u64;
+            offset += range.area;
+        }
     }
-    Move { slot, offset: end }
+    Move { slot, offset }
 }
 
-// Whether no two of the first ranges overlap: each fits beside those of the lower slots.
-pub fn none_overlaps(ranges: Ranges, slots: usize) -> bool
-    requires { (slots ≤ 128) × Bounded slots ranges }
-    ensures { result ≡ none_overlaps (ranges_in ranges) slots }
+// Whether no two of the ranges overlap: each fits beside those of the lower slots.
+pub fn none_overlaps(ranges: &[Range]) -> bool
+    requires { Bounded (length ranges.now) ranges.now }
+    ensures { result ≡ none_overlaps (ranges_in ranges.now) (length ranges.now) }
 {
-    let mut i: usize = 0;
-    while i < slots {
-        let None = room::lowest_overlap(ranges, i, ranges.offsets[i], ranges.areas[i])
-        else {
+    for (i, range) in ranges.iter().enumerate() {
+        let None = room::lowest_overlap(&ranges[..i], *range) else {
             return false;
         };
-        i += 1;
     }
     true
 }

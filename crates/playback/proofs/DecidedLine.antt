@@ -12,7 +12,7 @@ use Rattle.room.specs.Room.{Range, SameBelow, EndBy}
 use Rattle.room.specs.RoomLaws.{slots_high}
 use Rattle.room.specs.Decide.{decide}
 use Rattle.room.specs.DecideLaws.{decide_cong}
-use Rattle.room.specs.declared.Decision.{Decision}
+use Rattle.room.specs.Decide.{Decision}
 use Rattle.houses.specs.Houses.{held_count}
 use Rattle.houses.specs.HousesLaws.{held_cong}
 use Rattle.clerk_log.specs.declared.BookingLine.{BookingLine}

@@ -11,7 +11,7 @@ use Rattle.room.specs.RoomLaws.{slots_high}
 use Rattle.room.specs.Decide.{answer_to, SlotBelow}
 use Rattle.room.specs.DecideLaws.{answer_cong}
 use Rattle.room.specs.declared.Booked.{Booked}
-use Rattle.room.specs.declared.Decision.{Decision}
+use Rattle.room.specs.Decide.{Decision}
 use Rattle.clerk_log.specs.Log.{booking, cancelling}
 use Rattle.clerk_log.specs.declared.BookingLine.{BookingLine}
 use Rattle.clerk_log.specs.declared.CancellingLine.{CancellingLine}

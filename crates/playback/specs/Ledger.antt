@@ -10,8 +10,8 @@ use Rattle.index.specs.Written.{slot_of}
 use Rattle.room.specs.Room.{Range, range}
 use Rattle.room.specs.Decide.{answer_to}
 use Rattle.room.specs.declared.Booked.{Booked}
-use Rattle.room.specs.declared.Decision.{Decision}
-use Rattle.room.specs.declared.Decision.TheVariants.{Refuse, Already, Place}
+use Rattle.room.specs.Decide.{Decision}
+use Rattle.room.specs.Decide.{Refuse, Already, Place}
 use Rattle.houses.specs.Deciding.{decide_for, place_rules}
 use Rattle.clerk_log.specs.Log.{Line, booking, cancelling}
 use Rattle.clerk_log.specs.declared.BookingLine.{BookingLine}

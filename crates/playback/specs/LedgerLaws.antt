@@ -21,8 +21,8 @@ use Rattle.index.specs.Written.{slot_of}
 use Rattle.room.specs.Room.{EndBy}
 use Rattle.room.specs.Decide.{SlotBelow}
 use Rattle.room.specs.DecideLaws.{decides_place, decides_below}
-use Rattle.room.specs.declared.Decision.{Decision}
-use Rattle.room.specs.declared.Decision.TheVariants.{Refuse, Already, Place}
+use Rattle.room.specs.Decide.{Decision}
+use Rattle.room.specs.Decide.{Refuse, Already, Place}
 use Rattle.houses.specs.Houses.{house_allowed, held_count}
 use Rattle.clerk_log.specs.Log.{Line, booking, cancelling, booking_logged, line_allowed}
 use Rattle.clerk_log.specs.declared.BookingLine.{BookingLine}

@@ -8,7 +8,7 @@ ghost use Rattle.playback.specs.Ledger.{empty_ledger, ledger_row, ledger_ranges,
 
 use crate::{LedgerRow, ROWS};
 use clerk_log::BookingLine;
-use room::Ranges;
+use room::Range;
 
 // One row a slot, for the most slots that a lent deal has.
 pub type Ledger = [LedgerRow; ROWS];
@@ -46,19 +46,21 @@ fn area_of(row: LedgerRow) -> u64
 }
 
 // Which bytes each row's segment takes up.
-pub(crate) fn ranges_of(ledger: Ledger) -> Ranges
+pub(crate) fn ranges_of(ledger: Ledger) -> [Range; ROWS]
     ensures { SameBelow 128 (ranges_in result) (ledger_ranges ledger) }
 {
-    let mut offsets = [0u64; ROWS];
-    let mut areas = [0u64; ROWS];
+    let none = Range { offset: 0, area: 0 };
+    let mut ranges = [none; ROWS];
     let mut i: usize = 0;
     while i < ROWS {
         let row = ledger[i];
-        offsets[i] = row.offset;
-        areas[i] = area_of(row);
+        ranges[i] = Range {
+            offset: row.offset,
+            area: area_of(row),
+        };
         i += 1;
     }
-    Ranges { offsets, areas }
+    ranges
 }
 
 // Whose each row is.

@@ -1,7 +1,7 @@
 // One line played on a ledger.
 ghost use Rattle.std.specs.Prelude.{◌≡◌, true};
 ghost use Rattle.sizes.specs.Sizes.{lent_size_allowed, entry_count, segment_size_allowed};
-ghost use Rattle.room.specs.Decide.{SlotBelow};
+ghost use Rattle.room.specs.Decide.{SlotBelow, decision_of};
 ghost use Rattle.clerk_log.specs.Log.{booking, cancelling};
 ghost use Rattle.clerk_log.specs.LineAt.{line_of};
 ghost use Rattle.playback.specs.Ledger.{ledger_decision, ledger_cancel_code, after_decision};
@@ -17,20 +17,20 @@ use room::{Booked, Decision};
 // What booking decides on a ledger.
 fn decision(size: u64, ledger: Ledger, line: BookingLine) -> Decision
     requires { Fits size ledger × (segment_size_allowed size line.size ≡ true) }
-    ensures { result ≡ ledger_decision size ledger line }
+    ensures { decision_of result ≡ ledger_decision size ledger line }
 {
     let slots = sizes::entry_count(size) as usize;
     let ranges = ranges_of(ledger);
     let owners = owners_of(ledger);
-    let held = houses::held_count(ranges, &owners, line.house, slots);
+    let held = houses::held_count(&ranges[..slots], &owners, line.house);
     let keeping = lowest_same(ledger, line, slots);
-    room::decide(size, ranges, held, sizes::area(line.size), keeping)
+    room::decide(size, &ranges, held, sizes::area(line.size), keeping)
 }
 
 // The ledger with a row for a booking, where a place was decided on.
 fn with_booking(size: u64, ledger: Ledger, line: BookingLine, decision: Decision) -> Ledger
-    requires { (lent_size_allowed size ≡ true) × SlotBelow (entry_count size) decision }
-    ensures { result ≡ after_decision size ledger line decision }
+    requires { (lent_size_allowed size ≡ true) × SlotBelow (entry_count size) (decision_of decision) }
+    ensures { result ≡ after_decision size ledger line (decision_of decision) }
 {
     let Decision::Place(i, offset) = decision else {
         return ledger;
@@ -93,7 +93,7 @@ fn play_booking(size: u64, ledger: Ledger, line: BookingLine) -> Step
 {
     let made = decision(size, ledger, line);
     let ranges = ranges_of(ledger);
-    let ruling = room::answer(size, ranges, made);
+    let ruling = room::booked_of(room::answer(size, &ranges, made));
     let said = line.answer;
     let confirmed = same_answer(ruling, said);
     let rows = with_booking(size, ledger, line, made);

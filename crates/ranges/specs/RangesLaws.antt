@@ -10,7 +10,6 @@ use Rattle.index.specs.KeptLaws.{row_stands, row_free}
 use Rattle.index.specs.KeptRowsLaws.{standing_size, standing_place, row_ends}
 use Rattle.index.specs.Slots.{standing, slot_at, row_of, row_offset, row_area}
 use Rattle.room.specs.Room.{Range, range, SameBelow, EndBy, Bounded, ranges_in, is_empty}
-use Rattle.room.specs.declared.Ranges.{Ranges}
 use Rattle.ranges.specs.Ranges.{row_range, ranges_of}
 
 module _ (d : ℕ) (entry : List ℕ) where
@@ -74,7 +73,7 @@ pub ranges_end : (deal : List ℕ) → DealSize (length deal)
 ranges_end deal t i h = row_ends (length deal) (slot_at deal i) t
 
 -- and so do those that were gathered of a lent deal
-pub gathered_bounded : (deal : List ℕ) (ranges : Ranges) → lent_size_allowed (length deal) ≡ true
+pub gathered_bounded : (deal : List ℕ) (ranges : List Range) → lent_size_allowed (length deal) ≡ true
     → SameBelow (entry_count (length deal)) (ranges_in ranges) (ranges_of deal)
     → Bounded (entry_count (length deal)) ranges
 gathered_bounded deal ranges lent gathered i h =

@@ -8,7 +8,7 @@ use Rattle.std.proofs.Common.{Some, None}
 use Rattle.sizes.specs.Sizes.{entry_count, index_start}
 use Rattle.room.specs.Room.{Range, lowest_free_slot, lowest_place}
 use Rattle.room.specs.Decide.{holds_half, decide}
-use Rattle.room.specs.declared.Decision.TheVariants.{Refuse, Already, Place}
+use Rattle.room.specs.Decide.{Refuse, Already, Place}
 
 module _ (d : ℕ) (ranges : ℕ → Range) (held n : ℕ) (keeping : Option ℕ) where
   pub is_kept_lem : (i : ℕ) → keeping ≡ Some i → Already i ≡ decide d ranges held n keeping

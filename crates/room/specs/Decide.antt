@@ -2,13 +2,28 @@
 -- request (x): 22, "after 15 and before 13").
 use Rattle.std.specs.Prelude.{Bool, ℕ, ◌*◌, ◌<◌, leb}
 use Rattle.rules.specs.Choice.{choose}
-use Rattle.std.specs.Prelude.{Option}
-use Rattle.std.specs.Prelude.{Some, None}
+use Rattle.std.specs.Prelude.{Option, Some, None, Result, Ok, Err}
+use Rattle.rules.specs.Answers.{number}
 use Rattle.sizes.specs.Sizes.{entry_count, index_start, slot_place}
 use Rattle.room.specs.Room.{Range, lowest_free_slot, lowest_place}
 use Rattle.room.specs.declared.Booked.{Booked}
-use Rattle.room.specs.declared.Decision.{Decision}
-use Rattle.room.specs.declared.Decision.TheVariants.{Refuse, Already, Place}
+use Rattle.room.specs.declared.Decision as Declared
+use Rattle.room.specs.declared.Decision.TheVariants as De
+use Rattle.room.specs.declared.Placed.{Placed}
+use Rattle.room.specs.declared.Unbooked.{Unbooked}
+use Rattle.room.specs.declared.Unbooked.TheVariants as Un
+
+-- what booking decides: a refusal, by its code, the slot that keeps the segment already, or slot and offset for it
+pub data Decision : Type 0 where
+  Refuse : ℕ → Decision
+  Already : ℕ → Decision
+  Place : ℕ → ℕ → Decision
+
+-- the decision that one in code stands for
+abbrev pub decision_of : Declared.Decision → Decision
+decision_of (De.Refuse refusal) = Refuse (number refusal)
+decision_of (De.Already i) = Already i
+decision_of (De.Place i offset) = Place i offset
 
 -- 15 where the segment is kept already
 abbrev pub unless_kept : Option ℕ → Decision → Decision
@@ -38,6 +53,12 @@ abbrev pub answer_to : ℕ → (ℕ → Range) → Decision → Booked
 answer_to d ranges (Refuse code) = record { code = code; offset = 0; place = 0 }
 answer_to d ranges (Already i) = record { code = 15; offset = (ranges i).offset; place = slot_place d i }
 answer_to d ranges (Place i offset) = record { code = 0; offset = offset; place = slot_place d i }
+
+-- the answer that a result stands for
+abbrev pub booked_of : Result Placed Unbooked → Booked
+booked_of (Ok at) = record { code = 0; offset = at.offset; place = at.place }
+booked_of (Err (Un.Already at)) = record { code = 15; offset = at.offset; place = at.place }
+booked_of (Err (Un.Refused refusal)) = record { code = number refusal; offset = 0; place = 0 }
 
 -- the slot that is decided on is one of the first
 abbrev pub SlotBelow : ℕ → Decision → Type 0

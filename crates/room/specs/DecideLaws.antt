@@ -13,8 +13,8 @@ use Rattle.room.specs.Room.{Range, SameBelow, is_empty, fits, lowest_free_slot, 
 use Rattle.room.specs.RoomLaws.{IsPlace, place_found, place_is, place_missing, free_slot_cong, place_cong}
 use Rattle.room.specs.OverlapLaws.{multiple}
 use Rattle.room.specs.Decide.{unless_kept, holds_half, in_room, decide, answer_to, SlotBelow}
-use Rattle.room.specs.declared.Decision.{Decision}
-use Rattle.room.specs.declared.Decision.TheVariants.{Refuse, Already, Place}
+use Rattle.room.specs.Decide.{Decision}
+use Rattle.room.specs.Decide.{Refuse, Already, Place}
 
 -- code 0: slot i is the lowest free one, and offset o the lowest free place
 pub record Places (d : ℕ) (ranges : ℕ → Range) (n i o : ℕ) : Type 0 where

@@ -1,22 +1,18 @@
 -- Free slots and free places of a deal, from numbers alone: which bytes each slot takes up (document 01, "Booking,
 -- finding, building, settling": book).
-use Rattle.std.specs.Prelude.{◌≡◌, Bool, true, false, ◌&&◌, ℕ, ◌+◌, ◌*◌, ◌/◌, ◌^◌, ◌≤◌, ◌<◌, get_or, eqb, ltb}
+use Rattle.std.specs.Prelude.{◌≡◌, Bool, true, false, ◌&&◌, ℕ, ◌+◌, ◌*◌, ◌/◌, ◌^◌, ◌≤◌, ◌<◌, List, get_or, eqb, ltb}
 use Rattle.std.specs.Prelude.{Option}
 use Rattle.std.specs.Prelude.{Some, None}
 use Rattle.rules.specs.Search.{lowest}
-use Rattle.room.specs.declared.Ranges.{Ranges}
-
--- the bytes that a slot takes up: those of its standing entry's area, and none, from 0, where it is free
-pub record Range : Type 0 where
-  pub offset : ℕ
-  pub area : ℕ
+-- the bytes that a slot takes up, offset and area: those of its standing entry's area, and none, from 0, where it is free
+pub use Rattle.room.specs.declared.Range.{Range}
 
 abbrev pub range : ℕ → ℕ → Range
 range offset area = record { offset = offset; area = area }
 
--- the ranges that two arrays hold, slot by slot
-abbrev pub ranges_in : Ranges → ℕ → Range
-ranges_in ranges i = range (get_or ranges.offsets i 0) (get_or ranges.areas i 0)
+-- the ranges that a list has, slot by slot; none from its end on
+abbrev pub ranges_in : List Range → ℕ → Range
+ranges_in ranges i = get_or ranges i (range 0 0)
 
 -- the first ranges are the same, and end by a limit
 abbrev pub SameBelow : ℕ → (ℕ → Range) → (ℕ → Range) → Type 0
@@ -26,7 +22,7 @@ abbrev pub EndBy : ℕ → ℕ → (ℕ → Range) → Type 0
 EndBy limit slots ranges = (i : ℕ) → i < slots → (ranges i).offset + (ranges i).area ≤ limit
 
 -- no range ends beyond the largest deal
-abbrev pub Bounded : ℕ → Ranges → Type 0
+abbrev pub Bounded : ℕ → List Range → Type 0
 Bounded slots ranges = EndBy (2 ^ 36) slots (ranges_in ranges)
 
 -- a slot that takes up no bytes is free

@@ -7,8 +7,8 @@ use Rattle.sizes.specs.Sizes.{entry_count}
 use Rattle.sizes.specs.SizesLaws.{lent_size}
 use Rattle.room.specs.RoomLaws.{slots_high}
 use Rattle.room.specs.Decide.{SlotBelow}
-use Rattle.room.specs.declared.Decision.{Decision}
-use Rattle.room.specs.declared.Decision.TheVariants.{Refuse, Already, Place}
+use Rattle.room.specs.Decide.{Decision}
+use Rattle.room.specs.Decide.{Refuse, Already, Place}
 use Rattle.clerk_log.specs.declared.BookingLine.{BookingLine}
 use Rattle.playback.specs.declared.LedgerRow.{LedgerRow}
 use Rattle.playback.specs.Ledger.{after_decision}

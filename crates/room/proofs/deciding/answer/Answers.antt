@@ -8,14 +8,15 @@ use Rattle.sizes.specs.SizesLaws.{lent_size}
 use Rattle.room.specs.Room.{ranges_in}
 use Rattle.room.specs.RoomLaws.{slots_high}
 use Rattle.room.specs.Decide.{SlotBelow, answer_to}
-use Rattle.room.specs.declared.Decision.{Decision}
+use Rattle.room.specs.Decide.{Decision}
 use Rattle.room.specs.declared.Booked.{Booked}
-use Rattle.room.specs.declared.Ranges.{Ranges}
-use Rattle.room.specs.declared.Decision.TheVariants.{Already}
+use Rattle.room.specs.Room.{Range}
+use Rattle.std.specs.Prelude.{List}
+use Rattle.room.specs.Decide.{Already}
 use Rattle.room.proofs.deciding.answer.Goals as goal
 
 -- the answer to a decision
-abbrev answered : ℕ → Ranges → Decision → Booked
+abbrev answered : ℕ → List Range → Decision → Booked
 answered size ranges x = answer_to size (ranges_in ranges) x
 
 -- the slot that keeps the segment is below the count of slots

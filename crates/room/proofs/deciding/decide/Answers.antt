@@ -9,7 +9,8 @@ use Rattle.room.specs.Room.{ranges_in, fits}
 use Rattle.room.specs.RoomLaws.{slots_high}
 use Rattle.room.specs.OverlapLaws.{place_ends}
 use Rattle.room.proofs.Decided.{is_kept_lem, half_held, no_slot, no_place, is_placed}
-use Rattle.room.specs.declared.Ranges.{Ranges}
+use Rattle.room.specs.Room.{Range}
+use Rattle.std.specs.Prelude.{List}
 use Rattle.room.proofs.deciding.decide.Goals as goal
 
 -- the count of slots that was answered is at most 128
@@ -17,7 +18,7 @@ few : (size n : ℕ) → lent_size_allowed size ≡ true → n ≡ entry_count s
 few size n h e = omega (arith, e, slots_high size h)
 
 -- the places where the area fits
-abbrev fits_at : Ranges → ℕ → ℕ → ℕ → Bool
+abbrev fits_at : List Range → ℕ → ℕ → ℕ → Bool
 fits_at ranges slots area k = fits (ranges_in ranges) slots area (k * area)
 
 pub returns-in-At : goal.returns-in-At

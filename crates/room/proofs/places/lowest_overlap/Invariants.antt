@@ -3,11 +3,12 @@ use mathlib.Core.Bool.{Bool}
 use Prim.Native.Nat.{ℕ, ◌-◌, ◌≤◌}
 use Rattle.rules.specs.Search.{lowest}
 use Rattle.room.specs.Room.{ranges_in, overlaps}
-use Rattle.room.specs.declared.Ranges.{Ranges}
+use Rattle.room.specs.Room.{Range}
+use Rattle.std.specs.Prelude.{List}
 use Rattle.room.proofs.places.lowest_overlap.Given as goal
 
 -- slot i of the ranges overlaps the area
-abbrev pub overlaps_at : Ranges → ℕ → ℕ → ℕ → Bool
+abbrev pub overlaps_at : List Range → ℕ → ℕ → ℕ → Bool
 overlaps_at ranges offset area i = overlaps offset area (ranges_in ranges i)
 
 abbrev pub invariant-loop-i : goal.invariant-loop-i

@@ -6,7 +6,8 @@ use Rattle.rules.specs.SearchLaws.{lowest_start, found_here, found_nowhere}
 use Rattle.room.specs.Room.{ranges_in, is_missing, lowest_overlap}
 use Rattle.room.specs.RoomLaws.{met_below, jump_on, jump}
 use Rattle.room.specs.OverlapLaws.{place_ends}
-use Rattle.room.specs.declared.Ranges.{Ranges}
+use Rattle.room.specs.Room.{Range}
+use Rattle.std.specs.Prelude.{List}
 use Rattle.std.proofs.Common.{Option}
 use Rattle.room.proofs.places.lowest_place.Invariants.{fits_at}
 use Rattle.room.proofs.places.lowest_place.Goals as goal
@@ -35,7 +36,7 @@ returns-in_default c =
     (ap is_missing (sym c.lowest_overlap.ensures ∙ c.in_default.is))
 
 -- a turn that meets a slot: it is below the count of slots
-below : (r : Ranges) (slots area k i : ℕ) (x : Option ℕ) → 0 < area → x ≡ lowest_overlap (ranges_in r) slots (k * area) area
+below : (r : List Range) (slots area k i : ℕ) (x : Option ℕ) → 0 < area → x ≡ lowest_overlap (ranges_in r) slots (k * area) area
     → x ≡ Some i → i < slots
 below r slots area k i x p e f = met_below (ranges_in r) slots area k i p (sym e ∙ f)
 

@@ -3,11 +3,12 @@ use mathlib.Core.Bool.{Bool}
 use Prim.Native.Nat.{ℕ, ◌-◌, ◌*◌}
 use Rattle.rules.specs.Search.{lowest}
 use Rattle.room.specs.Room.{ranges_in, fits}
-use Rattle.room.specs.declared.Ranges.{Ranges}
+use Rattle.room.specs.Room.{Range}
+use Rattle.std.specs.Prelude.{List}
 use Rattle.room.proofs.places.lowest_place.Given as goal
 
 -- the area from k times its size on fits
-abbrev pub fits_at : Ranges → ℕ → ℕ → ℕ → Bool
+abbrev pub fits_at : List Range → ℕ → ℕ → ℕ → Bool
 fits_at ranges slots area k = fits (ranges_in ranges) slots area (k * area)
 
 abbrev pub invariant-loop-k : goal.invariant-loop-k
