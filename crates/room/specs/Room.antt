@@ -4,8 +4,11 @@ use Rattle.std.specs.Prelude.{◌≡◌, Bool, true, false, ◌&&◌, ℕ, ◌+�
 use Rattle.std.specs.Prelude.{Option}
 use Rattle.std.specs.Prelude.{Some, None}
 use Rattle.rules.specs.Search.{lowest}
+use Rattle.room.specs.declared.Range as Declared
+
 -- the bytes that a slot takes up, offset and area: those of its standing entry's area, and none, from 0, where it is free
-pub use Rattle.room.specs.declared.Range.{Range}
+abbrev pub Range : Type 0
+Range = Declared.Range
 
 abbrev pub range : ℕ → ℕ → Range
 range offset area = record { offset = offset; area = area }
