@@ -15,6 +15,6 @@ pub fn node_hash(pair: [u8; 64]) -> [u8; 32]
 {
     let hash = INITIAL;
     let mut node = digest(padding_block::finish(compress(hash, block_at(&pair, 0))));
-    node[31] = node[31] % 64;
+    node[31] %= 64;
     node
 }

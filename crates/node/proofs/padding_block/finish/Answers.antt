@@ -1,8 +1,7 @@
 -- `finish`: after some turns the working variables are those after sixteen rounds for each, with the sums as constants
 -- and no schedule.
-use mathlib.Core.Path.{◌≡◌, refl, ap, ◌∙◌}
-use mathlib.Core.List.{[]}
-use native.Mathlib.Omega.{arith}
+use Rattle.std.proofs.Common.{◌≡◌, [], refl, ap, ◌∙◌, arith}
+use Rattle.std.proofs.lemmas.List.{get_or-replicate}
 use Rattle.sha256.specs.Fips.{rounds, sums, compress}
 use Rattle.sha256.specs.BlockLaws.{rounds_turn}
 use Rattle.node.specs.PaddingBlock.{padding_sums}
@@ -11,15 +10,13 @@ use Rattle.node.proofs.padding_block.finish.Goals as goal
 
 pub loop-turn-init : goal.loop-turn-init
 unfolding rounds
-loop-turn-init c = (omega arith, refl)
+loop-turn-init c = refl
 
 pub loop-turn-preserved : goal.loop-turn-preserved
 loop-turn-preserved c =
-    let l = c.loop-turn in (
-      omega arith,
-      rounds_turn padding_sums [] _ l.s _ [] _ l.turn l.invariant.1 c.padding_sums.ensures (λ i b. refl)
-          c.sixteen_rounds-after.ensures,
-    )
+    let l = c.loop-turn in
+    rounds_turn padding_sums [] _ l.s _ _ _ l.turn l.invariant c.padding_sums.ensures
+    (λ i b. get_or-replicate 16 i 0 0 b) c.sixteen_rounds-after.ensures
 
 pub returns : goal.returns
 unfolding compress
@@ -27,4 +24,4 @@ returns c =
     let l = c.loop-turn in
     let hash = c.args.hash in
     let e : l.turn ≡ 4 = omega arith in
-    c.sums.ensures ∙ ap (sums hash) ((rw e at l.invariant.1) ∙ padding_rounds hash)
+    c.sums.ensures ∙ ap (sums hash) ((rw e at l.invariant) ∙ padding_rounds hash)

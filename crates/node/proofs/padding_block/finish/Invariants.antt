@@ -1,14 +1,9 @@
 -- `finish`: after some turns the working variables are those after sixteen rounds for each, with the sums as constants
 -- and no schedule.
-use mathlib.Core.Path.{◌≡◌}
-use Prim.Native.Nat.{◌-◌, ◌*◌, ◌≤◌}
-use mathlib.Core.List.{[]}
+use Rattle.std.proofs.Common.{◌≡◌, ◌*◌, []}
 use Rattle.sha256.specs.Fips.{rounds}
 use Rattle.node.specs.PaddingBlock.{padding_sums}
 use Rattle.node.proofs.padding_block.finish.Given as goal
 
 abbrev pub invariant-loop-turn : goal.invariant-loop-turn
-invariant-loop-turn l = (l.turn ≤ 4) × (l.s ≡ rounds padding_sums [] l.hash (16 * l.turn))
-
-abbrev pub decreases-loop-turn : goal.decreases-loop-turn
-decreases-loop-turn l = 4 - l.turn
+invariant-loop-turn l = l.s ≡ rounds padding_sums [] l.hash (16 * l.turn)

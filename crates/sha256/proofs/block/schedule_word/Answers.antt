@@ -4,11 +4,4 @@ use Rattle.sha256.proofs.block.schedule_word.Goals as goal
 
 pub returns : goal.returns
 unfolding schedule_word
-returns c =
-    simp (
-      c.add-3.ensures,
-      c.add-2.ensures,
-      c.small_sigma0.ensures,
-      c.add.ensures,
-      c.small_sigma1.ensures,
-    )
+returns c = simp (c.small_sigma0.ensures, c.small_sigma1.ensures)

@@ -8,7 +8,7 @@ pub loop-i-init : goal.loop-i-init
 loop-i-init c = stored_none _ 8 _ refl
 
 pub loop-i-preserved : goal.loop-i-preserved
-loop-i-preserved c = stored_more c.loop-i.invariant (omega arith) c.add.ensures
+loop-i-preserved c = stored_more c.loop-i.invariant (omega arith) refl
 
 pub returns : goal.returns
 unfolding sums

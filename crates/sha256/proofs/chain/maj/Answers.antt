@@ -1,10 +1,6 @@
 -- `maj` is its definition, as a sum.
-use Rattle.std.proofs.Common.{◌∙◌}
 use Rattle.sha256.proofs.BitLaws.{maj_sum}
 use Rattle.sha256.proofs.chain.maj.Goals as goal
 
 pub returns : goal.returns
-returns c =
-    c.add.ensures
-    ∙ maj_sum c.args.x c.args.y c.args.z
-    c.ranges.x.fits c.ranges.y.fits c.ranges.z.fits
+returns c = maj_sum c.args.x c.args.y c.args.z c.ranges.x.fits c.ranges.y.fits c.ranges.z.fits

@@ -3,4 +3,4 @@ use Rattle.sha256.proofs.RotationLaws.{σ0_nested}
 use Rattle.sha256.proofs.chain.small_sigma0.Goals as goal
 
 pub returns : goal.returns
-returns c = σ0_nested c.args.x c.ranges.x.fits
+returns c = rw (c.rotate_right-2.ensures, c.rotate_right.ensures) (σ0_nested c.args.x c.ranges.x.fits)

@@ -9,7 +9,7 @@ loop-i-init c = stored_none _ 16 _ refl
 pub loop-i-preserved : goal.loop-i-preserved
 loop-i-preserved c =
     stored_more c.loop-i.invariant (omega arith)
-    (c.word.ensures
+    (c.from_be_bytes.ensures
     ∙ simp (
       c.padded_byte-in-loop-i-3.ensures,
       c.padded_byte-in-loop-i-2.ensures,
