@@ -8,34 +8,16 @@ ghost use Rattle.lanes.specs.NodeWords.{lane_by_lane, word_bytes, lane_bytes};
 
 use crate::lane::lane_of;
 use crate::load::put_words;
-use sha256::swapped;
 
 // The words of all lanes, one lane after the other.
 fn lane_by_lane(nodes: [u32; 128]) -> [u32; 128]
     ensures { result ≡ lane_by_lane nodes }
 {
     let mut words = [0u32; 128];
-    let mut l = 0;
-    while l < 16 {
-        put_words(&mut words, l, lane_of(&nodes, l));
-        l += 1;
+    for l in 0..16 {
+        put_words(&mut words, 8 * l, &lane_of::<8>(&nodes, l));
     }
     words
-}
-
-// Writes the four bytes of a word into a run from a place on.
-fn put_word(run: &mut [u8], at: usize, x: u32)
-    requires { at + 4 ≤ length run.old }
-    ensures { run.new ≡ splice run.old at (word_bytes x) }
-{
-    let y = swapped(x);
-    let bytes = [
-        (y % 256) as u8,
-        ((y >> 8) % 256) as u8,
-        ((y >> 16) % 256) as u8,
-        ((y >> 24) % 256) as u8,
-    ];
-    octets::put(run, at, &bytes);
 }
 
 // Writes the nodes of the first `count` lanes into a run, side by side from a place on.
@@ -44,9 +26,7 @@ pub fn store_nodes(nodes: [u32; 128], count: usize, run: &mut [u8], at: usize)
     ensures { run.new ≡ splice run.old at (lane_bytes nodes count) }
 {
     let words = lane_by_lane(nodes);
-    let mut i = 0;
-    while i < 8 * count {
-        put_word(run, at + 4 * i, words[i]);
-        i += 1;
+    for i in 0..8 * count {
+        octets::put_array(run, at + 4 * i, words[i].to_be_bytes());
     }
 }

@@ -3,7 +3,7 @@ ghost use Rattle.std.specs.Prelude.{◌≡◌, ◌*◌, ◌<◌, take, drop};
 ghost use Rattle.sha256.specs.Fips as F;
 ghost use Rattle.node.specs.PaddingBlock.{padding_block, padding_sums};
 
-use sha256::{Chained, sixteen_rounds, sums};
+use sha256::{Chained, sixteen_bare_rounds, sums};
 
 // The words of its schedule, with the constants added to them, sixteen a row.
 static SUMS: [[u32; 16]; 4] = [
@@ -37,13 +37,13 @@ pub fn padding_sums(turn: usize) -> [u32; 16]
     SUMS[turn]
 }
 
-// The hash value after this block: its rounds take the sums as constants, and zeros for words.
+// The hash value after this block: its rounds take the sums as constants, and no words.
 pub(crate) fn finish(hash: [u32; 8]) -> [u32; 8]
     ensures { result ≡ F.compress hash padding_block }
 {
     let mut s = hash;
     for turn in 0..4 {
-        let after = sixteen_rounds::<Chained>(s, padding_sums(turn), [0; 16]);
+        let after = sixteen_bare_rounds::<Chained>(s, padding_sums(turn));
         s = after;
     }
     sums(hash, s)

@@ -8,4 +8,4 @@ pub returns : goal.returns
 returns c =
     let l = c.loop-i in
     let e : l.i ≡ 128 = omega arith in
-    each_cleared c.args.s.now l.s c.requires (rw e at l.invariant.2)
+    each_cleared c.args.s.now l.s c.requires (rw e at l.invariant)

@@ -8,4 +8,4 @@ pub returns : goal.returns
 returns c =
     let l = c.loop-i in
     let e : l.i ≡ 128 = omega arith in
-    each_sum c.args.hash c.args.s.now l.s c.requires (rw e at l.invariant.1)
+    each_sum c.args.hash c.args.s.now l.s c.requires (rw e at l.invariant)

@@ -1,12 +1,9 @@
 -- `add_to`: the words below i are done.
-use Prim.Native.Nat.{◌-◌, ◌≤◌}
+use Prim.Native.Nat.{◌≤◌}
 use lib.ListN.{get_or}
 use Rattle.sha256.specs.Fips.{◌⊞◌}
 use Rattle.lanes.proofs.EachLaws.{Changed}
 use Rattle.lanes.proofs.block.add_to.Given as goal
 
 abbrev pub invariant-loop-i : goal.invariant-loop-i
-invariant-loop-i l = (l.i ≤ 128) × Changed (λ p x. get_or l.hash p 0 ⊞ x) 0 l.initial.s l.i l.s
-
-abbrev pub decreases-loop-i : goal.decreases-loop-i
-decreases-loop-i l = 128 - l.i
+invariant-loop-i l = Changed (λ p x. get_or l.hash p 0 ⊞ x) 0 l.initial.s l.i l.s

@@ -10,20 +10,16 @@ use borrow.Author.Rules.{rules}
 use Rattle.lanes.proofs.block.padding_rounds.Goals as goal
 
 pub loop-turn-init : goal.loop-turn-init
-loop-turn-init c = (omega arith, rounds_none _ padding_sums _ (λ l. []) (search rules))
+loop-turn-init c = rounds_none _ padding_sums _ (λ l. []) (search rules)
 
 pub loop-turn-preserved : goal.loop-turn-preserved
 loop-turn-preserved c =
     let l = c.loop-turn in
-    let hash = c.args.hash in (
-      omega arith,
-      bare_next _ padding_sums hash l.s _ _ l.turn l.invariant.1 c.padding_sums.ensures
-          c.bare_turn.ensures,
-    )
+    bare_next _ padding_sums c.args.hash l.s _ _ l.turn l.invariant c.padding_sums.ensures c.bare_turn.ensures
 
 pub returns : goal.returns
 returns c =
     let o = c.loop-turn in
     let e : o.turn ≡ 4 = omega arith in
-    let a = rw e at o.invariant.1 in
+    let a = rw e at o.invariant in
     record { sized = a.sized; words = λ l b. a.words l b ∙ padding_rounds (lane 8 c.args.hash l) }

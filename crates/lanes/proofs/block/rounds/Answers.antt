@@ -12,16 +12,15 @@ pub loop-turn-init : goal.loop-turn-init
 loop-turn-init c =
     let w = c.both-w.result in
     let n : length w ≡ 256 = search rules in
-    (omega arith, rounds_none _ constants _ (λ l. schedule (lane 16 w l)) (search rules), n, λ more. words_none _ w n)
+    (rounds_none _ constants _ (λ l. schedule (lane 16 w l)) (search rules), n, λ more. words_none _ w n)
 
 pub loop-turn-preserved : goal.loop-turn-preserved
 loop-turn-preserved c =
     let l = c.loop-turn in
     let w = c.both-w.result in
     let hash = c.args.hash in
-    let words = l.invariant.3 (omega arith) in (
-      omega arith,
-      rounds_next _ hash l.s _ w l.w _ l.turn (omega arith) l.invariant.1 words
+    let words = l.invariant.2 (omega arith) in (
+      rounds_next _ hash l.s _ w l.w _ l.turn (omega arith) l.invariant.0 words
           c.constants.ensures c.rounds_turn.ensures,
       c.words_after.ensures.w_len,
       λ more. words_next _ w l.w _ l.turn words (c.words_after.ensures.each (omega arith)),
@@ -33,4 +32,4 @@ returns c =
     let joined = c.both-w in
     let a = c.args in
     rounds_all _ a.hash l.s joined.result a.left a.right l.turn c.requires (omega arith)
-    (search rules) joined.ensures l.invariant.1
+    (search rules) joined.ensures l.invariant.0

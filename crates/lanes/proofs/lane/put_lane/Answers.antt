@@ -1,12 +1,10 @@
 -- `put_lane`: after t turns the first t words of the lane are written, and nothing else.
-use mathlib.Core.Path.{◌≡◌}
-use native.Mathlib.Omega.{arith}
+use Rattle.std.proofs.Common.{◌≡◌, arith, rules}
 use Rattle.lanes.proofs.LaneLaws.{written_all}
-use borrow.Author.Rules.{rules}
 use Rattle.lanes.proofs.lane.put_lane.Goals as goal
 
 pub returns : goal.returns
-returns c =
+returns g c =
     let l = c.loop-t in
-    let e : l.t ≡ 8 = omega arith in
-    written_all 8 c.args.s.now c.args.words c.args.l l.s (search rules) c.requires.0 (rw e at l.invariant.1)
+    let e : l.t ≡ g.row.N = omega arith in
+    written_all g.row.N c.args.s.now c.args.words c.args.l l.s (search rules) c.requires.0 (rw e at l.invariant)

@@ -1,24 +1,13 @@
--- `put_words`: after t turns the first t words of the node are written.
-use Prim.Native.Nat.{◌*◌}
-use mathlib.Core.Path.{◌≡◌, ◌∙◌}
-use native.Mathlib.Omega.{arith}
-use lib.ListN.{length, length-set}
-use Rattle.octets.specs.PasteLaws.{paste_next, paste_whole}
-use borrow.Author.Rules.{rules}
+-- `put_words`: the part that is copied over.
+use Rattle.std.proofs.Common.{◌≡◌, ◌∙◌, ap, length, ◌+◌, ◌-◌, ℕ, List, arith}
+use borrow.Rule.Slice.PartMut.{put_mid}
+use Rattle.octets.specs.SpliceLaws.{put_splice}
 use Rattle.lanes.proofs.load.put_words.Goals as goal
-
-pub loop-t-preserved : goal.loop-t-preserved
-loop-t-preserved c =
-    let o = c.loop-t in
-    let n : length c.args.node ≡ 8 = search rules in (
-      omega arith,
-      simp length-set o.invariant.1,
-      paste_next c.args.words.now (8 * c.args.l) c.args.node o.words o.t (omega (arith, c.requires.1))
-          (omega arith) o.invariant.2,
-    )
 
 pub returns : goal.returns
 returns c =
-    let o = c.loop-t in
-    let n : length c.args.node ≡ 8 = search rules in
-    o.invariant.2 ∙ paste_whole c.args.words.now (8 * c.args.l) c.args.node o.t (omega arith)
+    let a = c.args in
+    let n = length a.some.now in
+    let k : n ≡ a.at + n - a.at = omega arith in
+    ap (λ (l : List ℕ). put_mid a.at (a.at + n - a.at) a.words.now l) c.copy_from_slice.ensures.after
+    ∙ put_splice a.words.now a.at (a.at + n - a.at) a.some.now k

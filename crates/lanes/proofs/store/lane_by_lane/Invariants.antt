@@ -6,6 +6,3 @@ use Rattle.lanes.proofs.store.lane_by_lane.Given as goal
 
 abbrev pub invariant-loop-l : goal.invariant-loop-l
 invariant-loop-l l = Placed (lane 8 l.nodes) l.l l.words
-
-abbrev pub decreases-loop-l : goal.decreases-loop-l
-decreases-loop-l l = lanes - l.l

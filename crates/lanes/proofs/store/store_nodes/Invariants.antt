@@ -1,5 +1,5 @@
 -- `store_nodes`: after i turns the bytes of the first i words are written.
-use Prim.Native.Nat.{◌-◌, ◌*◌, ◌≤◌}
+use Prim.Native.Nat.{◌*◌, ◌≤◌}
 use mathlib.Core.Path.{◌≡◌}
 use lib.ListN.{length}
 use Rattle.octets.specs.Splice.{splice}
@@ -8,8 +8,5 @@ use Rattle.lanes.proofs.store.store_nodes.Given as goal
 
 abbrev pub invariant-loop-i : goal.invariant-loop-i
 invariant-loop-i l =
-    (l.i ≤ 8 * l.count) × (length l.run ≡ length l.initial.run)
+    (length l.run ≡ length l.initial.run)
     × (l.run ≡ splice l.initial.run l.at (first_bytes l.words l.i))
-
-abbrev pub decreases-loop-i : goal.decreases-loop-i
-decreases-loop-i l = 8 * l.count - l.i

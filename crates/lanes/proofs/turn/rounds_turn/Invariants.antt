@@ -1,12 +1,9 @@
 -- `rounds_turn`: the lanes below l are done.
-use Prim.Native.Nat.{◌-◌, ◌≤◌}
+use Prim.Native.Nat.{◌≤◌}
 use Rattle.lanes.proofs.EachLaws.{Below}
 use Rattle.sha256.specs.Fips.{rounds}
 use Rattle.lanes.specs.Lanes.{lane}
 use Rattle.lanes.proofs.turn.rounds_turn.Given as goal
 
 abbrev pub invariant-loop-l : goal.invariant-loop-l
-invariant-loop-l l = (l.l ≤ l.count) × Below 8 (λ q x. rounds l.k (lane 16 l.w q) x 16) l.initial.s l.l l.s
-
-abbrev pub decreases-loop-l : goal.decreases-loop-l
-decreases-loop-l l = l.count - l.l
+invariant-loop-l l = Below 8 (λ q x. rounds l.k (lane 16 l.w q) x 16) l.initial.s l.l l.s

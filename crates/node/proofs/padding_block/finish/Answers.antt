@@ -1,7 +1,6 @@
 -- `finish`: after some turns the working variables are those after sixteen rounds for each, with the sums as constants
 -- and no schedule.
 use Rattle.std.proofs.Common.{◌≡◌, [], refl, ap, ◌∙◌, arith}
-use Rattle.std.proofs.lemmas.List.{get_or-replicate}
 use Rattle.sha256.specs.Fips.{rounds, sums, compress}
 use Rattle.sha256.specs.BlockLaws.{rounds_turn}
 use Rattle.node.specs.PaddingBlock.{padding_sums}
@@ -15,8 +14,8 @@ loop-turn-init c = refl
 pub loop-turn-preserved : goal.loop-turn-preserved
 loop-turn-preserved c =
     let l = c.loop-turn in
-    rounds_turn padding_sums [] _ l.s _ _ _ l.turn l.invariant c.padding_sums.ensures
-    (λ i b. get_or-replicate 16 i 0 0 b) c.sixteen_rounds-after.ensures
+    rounds_turn padding_sums [] _ l.s _ [] _ l.turn l.invariant c.padding_sums.ensures
+    (λ i b. refl) c.sixteen_bare_rounds-after.ensures
 
 pub returns : goal.returns
 unfolding compress
