@@ -11,7 +11,9 @@ use Rattle.fields.specs.FieldAt.{field_for}
 use Rattle.fields.specs.FieldAtLaws.{taken_at, field_at_lem, IsField, is_field}
 use Rattle.fields.specs.FieldAt.{Field}
 use Rattle.fields.specs.FieldAt.{Content, Refused}
-use Rattle.clerk_log.specs.Log.{Line, booking, cancelling, booking_field, cancelling_field, booking_in, cancelling_in}
+use Rattle.clerk_log.specs.Log.{booking_field, cancelling_field, booking_in, cancelling_in}
+use Rattle.clerk_log.specs.declared.Line.{Line}
+use Rattle.clerk_log.specs.declared.Line.TheVariants.{Booking as booking, Cancelling as cancelling}
 use Rattle.clerk_log.specs.Log.{FirstLine, first, no_line, or_else, first_line, line_allowed, Lines, lines, malformed}
 use Rattle.clerk_log.specs.Log.{add_line, on_first, lines_within, log_lines}
 use Rattle.clerk_log.specs.LineAt.{or_field, line_field, line_of, is_log}
@@ -91,7 +93,7 @@ module _ (log : List ℕ) (at : ℕ) where
           record { within = rw (ne_eqb tag 1 (λ z. omega arith)) (omega arith); ends = w; later = omega arith }
 
 -- what comes after a line is shorter than the log
-shorter : (log : List ℕ) (line : Line) (rest : List ℕ) → first_line log ≡ first line rest → length rest < length log
+pub shorter : (log : List ℕ) (line : Line) (rest : List ℕ) → first_line log ≡ first line rest → length rest < length log
 shorter log line rest e = go (line_field log 0) refl
   where
     go : (x : Field) → line_field log 0 ≡ x → length rest < length log
@@ -199,3 +201,28 @@ module _ (d : ℕ) (log : List ℕ) (at : ℕ) (h : at < length log) (form : is_
           → (b ≡ true) × (is_log (log_lines d (drop next log)) ≡ true)
       go true q = (refl, sym (is_log_add (line_of log tag start) (log_lines d (drop next log))) ∙ q)
       go false q = let one : ◌≡◌ {A = ℕ} 0 1 = cc in absurd (omega arith)
+
+-- the same of a log whose first line is read
+module _ (d : ℕ) (log : List ℕ) (h : 0 < length log) where
+  pub no_first : first_line log ≡ no_line → log_lines d log ≡ malformed
+  no_first e = log_first d log h ∙ ap (λ (x : FirstLine). on_first d x (log_lines d)) e
+
+  module _ (line : Line) (rest : List ℕ) (e : first_line log ≡ first line rest) where
+    first_there : log_lines d log ≡ choose (line_allowed d line) (add_line line (log_lines d rest)) malformed
+    first_there = log_first d log h ∙ ap (λ (x : FirstLine). on_first d x (log_lines d)) e
+
+    pub first_on : line_allowed d line ≡ true → log_lines d log ≡ add_line line (log_lines d rest)
+    first_on a = first_there ∙ rw a
+
+    pub first_off : line_allowed d line ≡ false → log_lines d log ≡ malformed
+    first_off a = first_there ∙ rw a
+
+    -- in a log that is in form the line is allowed, and the log after it is in form
+    pub first_in_form : is_log (log_lines d log) ≡ true
+        → (line_allowed d line ≡ true) × (is_log (log_lines d rest) ≡ true)
+    first_in_form form = go (line_allowed d line) (sym (ap is_log first_there) ∙ form)
+      where
+        go : (b : Bool) → is_log (choose b (add_line line (log_lines d rest)) malformed) ≡ true
+            → (b ≡ true) × (is_log (log_lines d rest) ≡ true)
+        go true q = (refl, sym (is_log_add line (log_lines d rest)) ∙ q)
+        go false q = let one : ◌≡◌ {A = ℕ} 0 1 = cc in absurd (omega arith)

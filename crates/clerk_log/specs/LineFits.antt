@@ -1,6 +1,8 @@
 -- Lines that fit the bytes of a log.
 use Rattle.std.specs.Prelude.{◌≡◌, true, ℕ, ◌^◌, ◌<◌, List, [], ◌∷◌, length}
-use Rattle.clerk_log.specs.Log.{Line, booking, cancelling, line_allowed}
+use Rattle.clerk_log.specs.Log.{line_allowed}
+use Rattle.clerk_log.specs.declared.Line.{Line}
+use Rattle.clerk_log.specs.declared.Line.TheVariants.{Booking as booking, Cancelling as cancelling}
 use Rattle.clerk_log.specs.declared.BookingLine.{BookingLine}
 
 -- the commitment has 32 bytes, and each number fits its 8

@@ -12,11 +12,9 @@ use Rattle.fields.specs.declared.FieldRule.{FieldRule}
 use Rattle.houses.specs.Houses.{house_allowed}
 use Rattle.clerk_log.specs.declared.BookingLine.{BookingLine}
 use Rattle.clerk_log.specs.declared.CancellingLine.{CancellingLine}
-
 -- a line: one for a booking, or one for a cancellation
-pub data Line : Type 0 where
-  booking : BookingLine → Line
-  cancelling : CancellingLine → Line
+use Rattle.clerk_log.specs.declared.Line.{Line}
+use Rattle.clerk_log.specs.declared.Line.TheVariants.{Booking as booking, Cancelling as cancelling}
 
 -- the two rows of the log's table
 abbrev pub booking_field : FieldRule

@@ -10,7 +10,9 @@ use Rattle.octets.specs.Splice.{part}
 use Rattle.octets.specs.SpliceLaws.{part_length, bytes_part, part_end}
 use Rattle.fields.specs.Table.{Taken, taken, refused, take_field, put_field}
 use Rattle.fields.specs.TableLaws.{field_means}
-use Rattle.clerk_log.specs.Log.{Line, booking, cancelling, booking_field, cancelling_field, booking_in, cancelling_in}
+use Rattle.clerk_log.specs.Log.{booking_field, cancelling_field, booking_in, cancelling_in}
+use Rattle.clerk_log.specs.declared.Line.{Line}
+use Rattle.clerk_log.specs.declared.Line.TheVariants.{Booking as booking, Cancelling as cancelling}
 use Rattle.clerk_log.specs.Log.{FirstLine, first, no_line, or_else, first_line, line_allowed, Lines, lines, malformed}
 use Rattle.clerk_log.specs.Log.{add_line, on_first, log_lines, booking_content, cancelling_content, put_line, log_of}
 use Rattle.clerk_log.specs.LineAtLaws.{log_empty, log_first}

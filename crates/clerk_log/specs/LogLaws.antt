@@ -9,7 +9,9 @@ use Rattle.octets.specs.LittleEndianLaws.{length_bytes_of, number_of_bytes}
 use Rattle.octets.specs.Splice.{part}
 use Rattle.fields.specs.Table.{put_field}
 use Rattle.fields.specs.TableLaws.{field_back, field_before, other_tag_refused}
-use Rattle.clerk_log.specs.Log.{Line, booking, cancelling, booking_field, cancelling_field, booking_in, cancelling_in}
+use Rattle.clerk_log.specs.Log.{booking_field, cancelling_field, booking_in, cancelling_in}
+use Rattle.clerk_log.specs.declared.Line.{Line}
+use Rattle.clerk_log.specs.declared.Line.TheVariants.{Booking as booking, Cancelling as cancelling}
 use Rattle.clerk_log.specs.Log.{FirstLine, first, first_line, lines, add_line, on_first, log_lines}
 use Rattle.clerk_log.specs.Log.{booking_content, cancelling_content, put_line, log_of}
 use Rattle.clerk_log.specs.LineAtLaws.{log_empty, log_first}

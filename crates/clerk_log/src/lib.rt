@@ -1,21 +1,15 @@
 // The clerks' log: tagged fields, a line for each booking and each cancellation whose answer gets one.
 #![tactic(auto)]
 
-mod reading; // reading.rt: the line at a place of a log
+mod reading; // reading.rt: the line at the front of a log
 mod whole; // whole.rt: the form of a whole log
 
-pub use reading::{booking_at, cancelling_at, line_field};
+pub use reading::first_line;
 use room::Booked;
 pub use whole::in_form;
 
-// The tags of the two kinds of lines.
-pub const BOOKING: u8 = 1;
-
-pub const CANCELLING: u8 = 2;
-
 // A line for a booking: house, commitment and size of the segment, and the answer.
-#[derive(Drop)]
-#[derive(Clone, Copy)]
+#[derive(Clone, Copy, Drop)]
 pub struct BookingLine {
     pub house: u8,
     pub commitment: [u8; 32],
@@ -24,10 +18,16 @@ pub struct BookingLine {
 }
 
 // A line for a cancellation: house, entry place, and the code that was answered.
-#[derive(Drop)]
-#[derive(Clone, Copy)]
+#[derive(Clone, Copy, Drop)]
 pub struct CancellingLine {
     pub house: u8,
     pub place: u64,
     pub code: u8,
+}
+
+// A line of either kind.
+#[derive(Clone, Copy, Drop)]
+pub enum Line {
+    Booking(BookingLine),
+    Cancelling(CancellingLine),
 }

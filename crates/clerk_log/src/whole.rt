@@ -1,69 +1,56 @@
 // The form of a whole log: lines and nothing else, each of which may stand in the log of a deal of this size.
 ghost use Rattle.std.specs.Prelude.{◌≡◌};
 ghost use Rattle.clerk_log.specs.Log.{booking_logged, cancelling_logged, booking_allowed, cancelling_allowed};
-ghost use Rattle.clerk_log.specs.Log.{log_lines};
-ghost use Rattle.clerk_log.specs.LineAt.{line_field, line_of, is_log};
-ghost use Rattle.clerk_log.specs.Log.{line_allowed};
-ghost use Rattle.fields.specs.FieldAt.{Content};
+ghost use Rattle.clerk_log.specs.Log.{line_allowed, log_lines};
+ghost use Rattle.clerk_log.specs.LineAt.{is_log};
 
-use crate::reading::{booking_at, cancelling_at, line_field};
-use crate::{BOOKING, BookingLine, CancellingLine};
-use fields::Field;
+use crate::reading::first_line;
+use crate::{BookingLine, CancellingLine, Line};
 
 // Whether a booking with this code gets a line.
 fn booking_logged(code: u8) -> bool
     ensures { result ≡ booking_logged code }
 {
-    code == 0 || (code == 13 || (code == 14 || (code == 15 || code == 22)))
+    matches!(code, 0 | 13 | 14 | 15 | 22)
 }
 
 // Whether a cancellation with this code gets a line.
 fn cancelling_logged(code: u8) -> bool
     ensures { result ≡ cancelling_logged code }
 {
-    code == 0 || code == 16
+    matches!(code, 0 | 16)
 }
 
-// Whether a line for a booking may stand in the log of a deal of this size.
-fn booking_allowed(size: u64, line: BookingLine) -> bool
-    ensures { result ≡ booking_allowed size line }
-{
-    if !houses::house_allowed(line.house) {
-        return false;
+impl BookingLine {
+    // Whether the line may stand in the log of a deal of this size.
+    fn is_allowed(&self, size: u64) -> bool
+        ensures { result ≡ booking_allowed size self.now }
+    {
+        houses::house_allowed(self.house)
+            && sizes::segment_size_allowed(size, self.size)
+            && booking_logged(self.answer.code)
     }
-    if !sizes::segment_size_allowed(size, line.size) {
-        return false;
-    }
-    let answer = line.answer;
-    booking_logged(answer.code)
 }
 
-// Whether a line for a cancellation may stand in a log.
-fn cancelling_allowed(line: CancellingLine) -> bool
-    ensures { result ≡ cancelling_allowed line }
-{
-    houses::house_allowed(line.house) && cancelling_logged(line.code)
+impl CancellingLine {
+    // Whether the line may stand in a log.
+    fn is_allowed(&self) -> bool
+        ensures { result ≡ cancelling_allowed self.now }
+    {
+        houses::house_allowed(self.house) && cancelling_logged(self.code)
+    }
 }
 
-// Whether the line of a field may stand in the log of a deal of this size.
-fn line_allowed(
-    size: u64,
-    log: &[u8],
-    at: usize,
-    tag: u8,
-    start: usize,
-    length: usize,
-    next: usize,
-) -> bool
-    requires { line_field log.now at ≡ Content tag start length next }
-    ensures { result ≡ line_allowed size (line_of log.now tag start) }
-{
-    if tag == BOOKING {
-        let line = booking_at(log, start);
-        return booking_allowed(size, line);
+impl Line {
+    // Whether the line may stand in the log of a deal of this size.
+    fn is_allowed(&self, size: u64) -> bool
+        ensures { result ≡ line_allowed size self.now }
+    {
+        match self {
+            Line::Booking(line) => line.is_allowed(size),
+            Line::Cancelling(line) => line.is_allowed(),
+        }
     }
-    let line = cancelling_at(log, start);
-    cancelling_allowed(line)
 }
 
 // Whether a log is in form for a deal of this size: one line behind another, each of which may stand there, and nothing
@@ -71,16 +58,15 @@ fn line_allowed(
 pub fn in_form(size: u64, log: &[u8]) -> bool
     ensures { result ≡ is_log (log_lines size log.now) }
 {
-    let mut at: usize = 0;
-    while at < log.len() {
-        let Ok(Field { tag, start, length, next }) = line_field(log, at)
-        else {
+    let mut rest = log;
+    while !rest.is_empty() {
+        let Some((line, later)) = first_line(rest) else {
             return false;
         };
-        if !line_allowed(size, log, at, tag, start, length, next) {
+        if !line.is_allowed(size) {
             return false;
         }
-        at = next;
+        rest = later;
     }
     true
 }

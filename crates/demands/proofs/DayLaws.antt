@@ -6,7 +6,8 @@ use Rattle.std.proofs.Math.Path.{ap}
 use Rattle.std.proofs.lemmas.List.{length-replicate}
 use Rattle.sizes.specs.Sizes.{lent_size_allowed, entry_count}
 use Rattle.sizes.specs.SizesLaws.{lent_size}
-use Rattle.clerk_log.specs.Log.{Line, lines, log_lines}
+use Rattle.clerk_log.specs.Log.{lines, log_lines}
+use Rattle.clerk_log.specs.declared.Line.{Line}
 use Rattle.playback.specs.declared.LedgerRow.{LedgerRow}
 use Rattle.playback.specs.Ledger.{empty_ledger}
 use Rattle.playback.specs.Playback.{ruling, said, rows_from, play_from, playback}

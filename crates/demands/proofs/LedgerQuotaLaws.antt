@@ -28,12 +28,14 @@ use Rattle.room.specs.Decide.{Decision}
 use Rattle.room.specs.Decide.{Refuse, Already, Place}
 use Rattle.houses.specs.Houses.{house_allowed, owned, holds, held_count}
 use Rattle.houses.specs.Deciding.{place_rules}
-use Rattle.clerk_log.specs.Log.{Line, booking, cancelling, booking_logged, booking_allowed, line_allowed}
+use Rattle.clerk_log.specs.Log.{booking_logged, booking_allowed, line_allowed}
+use Rattle.clerk_log.specs.declared.Line.{Line}
+use Rattle.clerk_log.specs.declared.Line.TheVariants.{Booking as booking, Cancelling as cancelling}
 use Rattle.clerk_log.specs.LineFits.{AllFit}
 use Rattle.clerk_log.specs.declared.BookingLine.{BookingLine}
 use Rattle.clerk_log.specs.declared.CancellingLine.{CancellingLine}
 use Rattle.playback.specs.declared.LedgerRow.{LedgerRow}
-use Rattle.playback.specs.declared.Verdict.TheVariants.{Code, Line as LineNumber}
+use Rattle.playback.specs.Playback.{Code, LineNumber}
 use Rattle.playback.specs.Ledger.{vacant, is_vacant, empty_ledger, ledger_row, ledger_range, ledger_ranges}
 use Rattle.playback.specs.Ledger.{ledger_owners}
 use Rattle.playback.specs.Ledger.{same_segment, ledger_decision, ledger_cancel_code, booked_row, after_decision}

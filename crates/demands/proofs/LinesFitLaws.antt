@@ -24,7 +24,8 @@ use Rattle.booking.specs.BookableLaws.{BookableFor, bookable_deal, bookable_segm
 use Rattle.booking.proofs.BookingLaws.{kept_already, answer_is}
 use Rattle.booking.proofs.BookedLaws.{booked_fits}
 use Rattle.cancel.specs.Cancel.{cancel_code}
-use Rattle.clerk_log.specs.Log.{Line, booking_logged, cancelling_logged}
+use Rattle.clerk_log.specs.Log.{booking_logged, cancelling_logged}
+use Rattle.clerk_log.specs.declared.Line.{Line}
 use Rattle.clerk_log.specs.LineFits.{AllFit}
 use Rattle.demands.specs.Calls.{Call, book_segment, cancel_place, DealAndTable}
 use Rattle.demands.specs.DealCalls.{lent_beside, DealCall, on_deal, collect_into, after_deal_call}

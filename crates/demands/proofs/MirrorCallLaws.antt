@@ -39,7 +39,8 @@ use Rattle.booking.proofs.BookedLaws.{booked_fits, booked_slot_in}
 use Rattle.cancel.specs.Cancel.{cancel_code}
 use Rattle.cancel.proofs.CancelLaws.{cancelled_length, cancelled_slot_in, cancelled_slot, cancelled_slot_other}
 use Rattle.cancel.proofs.OwnerCancelLaws.{cancelled_owner_other}
-use Rattle.clerk_log.specs.Log.{booking, cancelling, booking_logged, cancelling_logged}
+use Rattle.clerk_log.specs.Log.{booking_logged, cancelling_logged}
+use Rattle.clerk_log.specs.declared.Line.TheVariants.{Booking as booking, Cancelling as cancelling}
 use Rattle.clerk_log.specs.declared.BookingLine.{BookingLine}
 use Rattle.clerk_log.specs.declared.CancellingLine.{CancellingLine}
 use Rattle.playback.specs.declared.LedgerRow.{LedgerRow}

@@ -3,10 +3,11 @@
 use Rattle.std.specs.Prelude.{◌≡◌, true, ◌↔◌, ◌≢◌, ℕ, suc, ◌<◌, List, [], ◌∷◌, ◌++◌, length}
 use Rattle.std.proofs.Common.{sym, ap, ◌∙◌, arith, append_assoc, length-append}
 use Rattle.sizes.specs.Sizes.{lent_size_allowed}
-use Rattle.clerk_log.specs.Log.{Line, lines, log_lines}
+use Rattle.clerk_log.specs.Log.{lines, log_lines}
+use Rattle.clerk_log.specs.declared.Line.{Line}
 use Rattle.playback.specs.declared.LedgerRow.{LedgerRow}
-use Rattle.playback.specs.declared.Verdict.TheVariants.{Line as LineNumber}
-use Rattle.playback.specs.declared.Playback.{Playback}
+use Rattle.playback.specs.Playback.{LineNumber}
+use Rattle.playback.specs.Playback.{Playback}
 use Rattle.playback.specs.Playback.{ruling, said, play_from, playback}
 use Rattle.demands.specs.Calls.{Call, DealAndTable}
 use Rattle.demands.specs.DealCalls.{TreeLent, DealCall, on_deal, BookedIn, run_deal_calls, all_zero_deal}

@@ -4,7 +4,7 @@ use Rattle.std.specs.Prelude.{◌≡◌, ℕ}
 use Rattle.std.proofs.Math.Path.{sym, ap}
 use Rattle.std.proofs.Common.{◌∙◌, inl, inr, ⊎_elim}
 use mathlib.Core.List.{List, [], ◌∷◌, ◌++◌, append_assoc, append-nil}
-use Rattle.clerk_log.specs.Log.{Line}
+use Rattle.clerk_log.specs.declared.Line.{Line}
 use Rattle.demands.specs.Calls.{DealAndTable}
 use Rattle.demands.specs.DealCalls.{DealCall, BooksIt, BookedIn, after_deal_call, run_deal_calls}
 use Rattle.demands.specs.Day.{call_lines, day_lines, OfADay, Day}

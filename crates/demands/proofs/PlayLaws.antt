@@ -8,10 +8,10 @@ use Rattle.rules.specs.Choice.{choose}
 use Rattle.rules.specs.RefusalLaws.{and_left, and_right, not_passed}
 use Rattle.sizes.specs.Sizes.{entry_count}
 use Rattle.room.specs.declared.Booked.{Booked}
-use Rattle.clerk_log.specs.Log.{Line}
+use Rattle.clerk_log.specs.declared.Line.{Line}
 use Rattle.playback.specs.declared.LedgerRow.{LedgerRow}
-use Rattle.playback.specs.declared.Verdict.TheVariants.{Line as LineNumber}
-use Rattle.playback.specs.declared.Playback.{Playback}
+use Rattle.playback.specs.Playback.{LineNumber}
+use Rattle.playback.specs.Playback.{Playback}
 use Rattle.playback.specs.Ledger.{ledger_after}
 use Rattle.playback.specs.Playback.{ruling, said, same_answer, confirms, no_rows, rows_from, with_rows, play_from}
 

@@ -7,7 +7,9 @@ use Rattle.rules.specs.Choice.{choose}
 use Rattle.lent.specs.LentDeal.{lent_deal}
 use Rattle.booking.specs.Write.{segment_commitment}
 use Rattle.cancel.specs.Cancel.{cancel_code}
-use Rattle.clerk_log.specs.Log.{Line, booking, cancelling, booking_logged, cancelling_logged}
+use Rattle.clerk_log.specs.Log.{booking_logged, cancelling_logged}
+use Rattle.clerk_log.specs.declared.Line.{Line}
+use Rattle.clerk_log.specs.declared.Line.TheVariants.{Booking as booking, Cancelling as cancelling}
 use Rattle.clerk_log.specs.declared.BookingLine.{BookingLine}
 use Rattle.clerk_log.specs.declared.CancellingLine.{CancellingLine}
 use Rattle.playback.specs.declared.LedgerRow.{LedgerRow}

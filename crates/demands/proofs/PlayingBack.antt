@@ -8,10 +8,11 @@ use Rattle.std.proofs.lemmas.List.{length-replicate}
 use Rattle.rules.specs.Choice.{choose}
 use Rattle.octets.specs.Bytes.{Bytes}
 use Rattle.sizes.specs.Sizes.{lent_size_allowed}
-use Rattle.clerk_log.specs.Log.{Line, Lines, lines, log_lines, log_of}
+use Rattle.clerk_log.specs.Log.{Lines, lines, log_lines, log_of}
+use Rattle.clerk_log.specs.declared.Line.{Line}
 use Rattle.clerk_log.specs.LogLaws.{log_back}
 use Rattle.clerk_log.specs.LogCanonical.{log_canonical}
-use Rattle.playback.specs.declared.Verdict.TheVariants.{Code, Line as LineNumber}
+use Rattle.playback.specs.Playback.{Code, LineNumber}
 use Rattle.playback.specs.Playback.{said, says, with_rows, played_log, playback}
 use Rattle.demands.specs.Calls.{Call, DealAndTable}
 use Rattle.demands.specs.DealCalls.{TreeLent, DealCall, on_deal, BookedIn, run_deal_calls, all_zero_deal}

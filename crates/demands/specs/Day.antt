@@ -12,7 +12,9 @@ use Rattle.houses.specs.Houses.{owner_at}
 use Rattle.booking.specs.Write.{segment_commitment}
 use Rattle.booking.specs.Booking.{book_answer}
 use Rattle.cancel.specs.Cancel.{cancel_code}
-use Rattle.clerk_log.specs.Log.{Line, booking, cancelling, booking_logged, cancelling_logged}
+use Rattle.clerk_log.specs.Log.{booking_logged, cancelling_logged}
+use Rattle.clerk_log.specs.declared.Line.{Line}
+use Rattle.clerk_log.specs.declared.Line.TheVariants.{Booking as booking, Cancelling as cancelling}
 use Rattle.playback.specs.declared.LedgerRow.{LedgerRow}
 use Rattle.demands.specs.Calls.{Call, book_segment, cancel_place, DealAndTable}
 use Rattle.demands.specs.DealCalls.{lent_beside, TreeAsAsked, DealCall, on_deal, collect_into, BookedIn}

@@ -2,7 +2,8 @@
 use Rattle.std.specs.Prelude.{◌≡◌, true, false, ◌≢◌, ℕ, ◌*◌, ◌≤◌, ◌<◌, List, [], ◌∷◌, length}
 use Rattle.sizes.specs.Sizes.{entry_count}
 use Rattle.houses.specs.Houses.{house_allowed, held_count}
-use Rattle.clerk_log.specs.Log.{Line, booking, cancelling}
+use Rattle.clerk_log.specs.declared.Line.{Line}
+use Rattle.clerk_log.specs.declared.Line.TheVariants.{Booking as booking, Cancelling as cancelling}
 use Rattle.playback.specs.declared.LedgerRow.{LedgerRow}
 use Rattle.playback.specs.Ledger.{is_vacant, ledger_row, ledger_ranges, ledger_owners}
 

@@ -13,7 +13,7 @@ use Rattle.rules.specs.RefusalLaws.{none_refused}
 use Rattle.sizes.specs.Sizes.{place_allowed}
 use Rattle.index.specs.Written.{slot_of}
 use Rattle.houses.specs.Deciding.{place_rules}
-use Rattle.clerk_log.specs.Log.{cancelling}
+use Rattle.clerk_log.specs.declared.Line.TheVariants.{Cancelling as cancelling}
 use Rattle.clerk_log.specs.declared.CancellingLine.{CancellingLine}
 use Rattle.playback.specs.declared.LedgerRow.{LedgerRow}
 use Rattle.playback.specs.Ledger.{vacant, is_vacant, ledger_row, ledger_owners, ledger_cancel_code, ledger_after}

@@ -8,7 +8,8 @@ use Rattle.std.proofs.Common.{Option}
 use Rattle.rules.specs.Search.{lowest}
 use Rattle.sizes.specs.Sizes.{segment_size_allowed, area, entry_count, index_start}
 use Rattle.sizes.specs.SizesLaws.{SegmentSize, lent_size, segment_size}
-use Rattle.room.specs.Room.{Range, SameBelow, EndBy}
+use Rattle.room.specs.Room.{SameBelow, EndBy}
+use Rattle.room.specs.declared.Range.{Range}
 use Rattle.room.specs.RoomLaws.{slots_high}
 use Rattle.room.specs.Decide.{decide}
 use Rattle.room.specs.DecideLaws.{decide_cong}

@@ -9,7 +9,7 @@ use mathlib.Core.List.{List, [], ◌∷◌, ◌++◌, append-nil}
 use lib.ListN.{length, set, replicate, length-append}
 use lib.Seq.{append_snoc, set_at}
 use Rattle.playback.specs.declared.LedgerRow.{LedgerRow}
-use Rattle.playback.specs.declared.Verdict.TheVariants.{Code}
+use Rattle.playback.specs.Playback.{Code}
 use Rattle.playback.specs.Ledger.{vacant, is_vacant, empty_ledger, ledger_row}
 use Rattle.playback.specs.Playback.{code_alone, and_row, rows_from, with_rows}
 

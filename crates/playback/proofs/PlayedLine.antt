@@ -6,13 +6,14 @@ use native.Mathlib.Omega.{arith}
 use mathlib.Core.List.{List}
 use lib.Dec.{eqb}
 use Rattle.sizes.specs.Sizes.{lent_size_allowed, segment_size_allowed, entry_count}
-use Rattle.room.specs.Room.{Range, SameBelow}
+use Rattle.room.specs.Room.{SameBelow}
+use Rattle.room.specs.declared.Range.{Range}
 use Rattle.room.specs.RoomLaws.{slots_high}
 use Rattle.room.specs.Decide.{answer_to, SlotBelow}
 use Rattle.room.specs.DecideLaws.{answer_cong}
 use Rattle.room.specs.declared.Booked.{Booked}
 use Rattle.room.specs.Decide.{Decision}
-use Rattle.clerk_log.specs.Log.{booking, cancelling}
+use Rattle.clerk_log.specs.declared.Line.TheVariants.{Booking as booking, Cancelling as cancelling}
 use Rattle.clerk_log.specs.declared.BookingLine.{BookingLine}
 use Rattle.clerk_log.specs.declared.CancellingLine.{CancellingLine}
 use Rattle.playback.specs.declared.LedgerRow.{LedgerRow}

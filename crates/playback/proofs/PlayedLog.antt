@@ -1,22 +1,13 @@
--- A log played line by line: what is left to play from a place on, with the ledger so far and the next line's number.
-use mathlib.Core.Path.{◌≡◌, refl, ap, ◌∙◌}
-use mathlib.Core.Bool.{true, false}
-use Prim.Native.Nat.{ℕ, ◌+◌, ◌≤◌, ◌<◌}
-use native.Mathlib.Numerals.{add-one}
-use native.Mathlib.Omega.{arith}
-use mathlib.Core.List.{List}
-use lib.ListN.{length, drop}
+-- A log played line by line: what is left to play of a log, with the ledger so far and the next line's number.
+use Rattle.std.specs.Prelude.{◌≡◌, refl, true, false, ℕ, ◌+◌, ◌<◌, List, length}
+use Rattle.std.proofs.Common.{ap, ◌∙◌, add-one, arith}
 use Rattle.sizes.specs.Sizes.{entry_count}
-use Rattle.fields.specs.FieldAt.{field_for}
-use Rattle.fields.specs.FieldAtLaws.{is_field}
-use Rattle.fields.specs.FieldAt.{Field}
-use Rattle.fields.specs.FieldAt.{Content, Refused}
-use Rattle.clerk_log.specs.Log.{Line, Lines, lines, malformed, add_line, log_lines, booking_field, cancelling_field}
-use Rattle.clerk_log.specs.LineAt.{or_field, line_field, line_of, is_log}
-use Rattle.clerk_log.specs.LineAtLaws.{no_more_lines, line_on, in_form_line}
+use Rattle.clerk_log.specs.Log.{Lines, lines, malformed, add_line, FirstLine, first, first_line, log_lines}
+use Rattle.clerk_log.specs.declared.Line.{Line}
+use Rattle.clerk_log.specs.LineAt.{is_log}
+use Rattle.clerk_log.specs.LineAtLaws.{log_empty, first_on, first_in_form}
 use Rattle.playback.specs.declared.LedgerRow.{LedgerRow}
-use Rattle.playback.specs.declared.Verdict.TheVariants.{Code, Line as LineNumber}
-use Rattle.playback.specs.declared.Playback.{Playback}
+use Rattle.playback.specs.Playback.{Playback, Code, LineNumber}
 use Rattle.playback.specs.Ledger.{empty_ledger, ledger_after}
 use Rattle.playback.specs.Playback.{ruling, confirms, no_rows, says, rows_from, with_rows, play_from, played_log}
 
@@ -44,45 +35,29 @@ module _ (d : ℕ) (ledger : List LedgerRow) (number : ℕ) (line : Line) where
   other_stops (lines ls) f e = rw e
   other_stops malformed f e = let z : ◌≡◌ {A = ℕ} 0 1 = cc in absurd (omega arith)
 
-module _ (d : ℕ) (log : List ℕ) (ledger : List LedgerRow) (at number : ℕ) where
+module _ (d : ℕ) (log : List ℕ) (ledger : List LedgerRow) (number : ℕ) where
   -- at the end the rows come back
-  pub play_over : length log ≤ at
-      → play_on d ledger number (log_lines d (drop at log)) ≡ with_rows (rows_from ledger 0 (entry_count d))
+  pub play_over : length log ≡ 0
+      → play_on d ledger number (log_lines d log) ≡ with_rows (rows_from ledger 0 (entry_count d))
   unfolding play_from
-  play_over h = ap (play_on d ledger number) (no_more_lines d log at h)
+  play_over h = ap (play_on d ledger number) (log_empty d log h)
 
-  module _ (h : at < length log) (form : is_log (log_lines d (drop at log)) ≡ true) (tag start n next : ℕ)
-      (there : line_field log at ≡ Content tag start n next) where
-    -- the line that stands there is the first of those that are left
-    front : log_lines d (drop at log) ≡ add_line (line_of log tag start) (log_lines d (drop next log))
-    front = line_on d log at tag start n next h there (in_form_line d log at h form tag start n next there).0
+  module _ (h : 0 < length log) (form : is_log (log_lines d log) ≡ true) (line : Line) (rest : List ℕ)
+      (there : first_line log ≡ first line rest) where
+    -- the line at the front is the first of those that are left
+    front : log_lines d log ≡ add_line line (log_lines d rest)
+    front = first_on d log h line rest there (first_in_form d log h line rest there form).0
 
-    -- before it a line is played, and the next one has the next number
-    pub play_next : confirms d ledger (line_of log tag start) ≡ true
-        → play_on d ledger number (log_lines d (drop at log))
-        ≡ play_on d (ledger_after d ledger (line_of log tag start)) (number + 1) (log_lines d (drop next log))
-    play_next e =
-        ap (play_on d ledger number) front
-        ∙ confirmed_on d ledger number (line_of log tag start) (log_lines d (drop next log)) e
+    -- it is played, and the next one has the next number
+    pub play_next : confirms d ledger line ≡ true
+        → play_on d ledger number (log_lines d log)
+        ≡ play_on d (ledger_after d ledger line) (number + 1) (log_lines d rest)
+    play_next e = ap (play_on d ledger number) front ∙ confirmed_on d ledger number line (log_lines d rest) e
 
     -- or ends the playing
-    pub play_stop : confirms d ledger (line_of log tag start) ≡ false
-        → play_on d ledger number (log_lines d (drop at log))
-        ≡ no_rows (LineNumber number) (ruling d ledger (line_of log tag start))
+    pub play_stop : confirms d ledger line ≡ false
+        → play_on d ledger number (log_lines d log) ≡ no_rows (LineNumber number) (ruling d ledger line)
     play_stop e =
         ap (play_on d ledger number) front
-        ∙ other_stops d ledger number (line_of log tag start) (log_lines d (drop next log))
-        (in_form_line d log at h form tag start n next there).1 e
-
--- a line takes up more bytes than one
-pub line_long : (log : List ℕ) (at tag start n next : ℕ) → line_field log at ≡ Content tag start n next → at + 2 ≤ next
-unfolding line_field
-line_long log at tag start n next = go (field_for booking_field log at) refl
-  where
-    go : (x : Field) → field_for booking_field log at ≡ x
-        → or_field x (field_for cancelling_field log at) ≡ Content tag start n next → at + 2 ≤ next
-    go (Content t s m p) e u =
-        let f = is_field booking_field log at tag start n next (e ∙ u) in
-        omega (arith, f.start_is, f.next_is)
-    go Refused e u =
-        let f = is_field cancelling_field log at tag start n next u in omega (arith, f.start_is, f.next_is)
+        ∙ other_stops d ledger number line (log_lines d rest)
+        (first_in_form d log h line rest there form).1 e

@@ -7,13 +7,15 @@ use Rattle.rules.specs.Refusals.{first_refusal, unless_refused}
 use Rattle.octets.specs.Equality.{same_bytes}
 use Rattle.sizes.specs.Sizes.{area, slot_place}
 use Rattle.index.specs.Written.{slot_of}
-use Rattle.room.specs.Room.{Range, range}
+use Rattle.room.specs.Room.{range}
+use Rattle.room.specs.declared.Range.{Range}
 use Rattle.room.specs.Decide.{answer_to}
 use Rattle.room.specs.declared.Booked.{Booked}
 use Rattle.room.specs.Decide.{Decision}
 use Rattle.room.specs.Decide.{Refuse, Already, Place}
 use Rattle.houses.specs.Deciding.{decide_for, place_rules}
-use Rattle.clerk_log.specs.Log.{Line, booking, cancelling}
+use Rattle.clerk_log.specs.declared.Line.{Line}
+use Rattle.clerk_log.specs.declared.Line.TheVariants.{Booking as booking, Cancelling as cancelling}
 use Rattle.clerk_log.specs.declared.BookingLine.{BookingLine}
 use Rattle.clerk_log.specs.declared.CancellingLine.{CancellingLine}
 use Rattle.playback.specs.declared.LedgerRow.{LedgerRow}

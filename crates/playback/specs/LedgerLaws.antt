@@ -24,7 +24,9 @@ use Rattle.room.specs.DecideLaws.{decides_place, decides_below}
 use Rattle.room.specs.Decide.{Decision}
 use Rattle.room.specs.Decide.{Refuse, Already, Place}
 use Rattle.houses.specs.Houses.{house_allowed, held_count}
-use Rattle.clerk_log.specs.Log.{Line, booking, cancelling, booking_logged, line_allowed}
+use Rattle.clerk_log.specs.Log.{booking_logged, line_allowed}
+use Rattle.clerk_log.specs.declared.Line.{Line}
+use Rattle.clerk_log.specs.declared.Line.TheVariants.{Booking as booking, Cancelling as cancelling}
 use Rattle.clerk_log.specs.declared.BookingLine.{BookingLine}
 use Rattle.playback.specs.declared.LedgerRow.{LedgerRow}
 use Rattle.playback.specs.Ledger.{vacant, is_vacant, empty_ledger, ledger_row, ledger_range, ledger_ranges}

@@ -7,13 +7,25 @@ use Rattle.std.specs.Prelude.{Bool, ◌&&◌, ℕ, zero, suc, ◌-◌, List, [],
 use Rattle.rules.specs.Choice.{choose}
 use Rattle.sizes.specs.Sizes.{lent_size_allowed, entry_count}
 use Rattle.room.specs.declared.Booked.{Booked}
-use Rattle.clerk_log.specs.Log.{Line, booking, cancelling, Lines, lines, malformed, log_lines}
+use Rattle.clerk_log.specs.Log.{Lines, lines, malformed, log_lines}
+use Rattle.clerk_log.specs.declared.Line.{Line}
+use Rattle.clerk_log.specs.declared.Line.TheVariants.{Booking as booking, Cancelling as cancelling}
 use Rattle.playback.specs.declared.LedgerRow.{LedgerRow}
-use Rattle.playback.specs.declared.Verdict.{Verdict}
-use Rattle.playback.specs.declared.Verdict.TheVariants.{Code, Line as LineNumber}
-use Rattle.playback.specs.declared.Playback.{Playback}
 use Rattle.playback.specs.Ledger.{vacant, is_vacant, empty_ledger, ledger_row, ledger_answer, ledger_cancel_code}
 use Rattle.playback.specs.Ledger.{ledger_after}
+
+-- what playback says: a code, 0, 2 or 3, or the number of the first line whose answers the rules do not give
+pub data Verdict : Type 0 where
+  Code : ℕ → Verdict
+  LineNumber : ℕ → Verdict
+
+-- the answer of playback: what it says; with a line's number, what the rules give for that line; with 0 the rows, and
+-- how many they are; zeros otherwise
+pub record Playback : Type 0 where
+  pub verdict : Verdict
+  pub ruling : Booked
+  pub count : ℕ
+  pub rows : List LedgerRow
 
 -- what the rules give for a line, and what it says; a cancellation's answer is its code alone
 abbrev pub code_alone : ℕ → Booked

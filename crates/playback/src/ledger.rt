@@ -1,107 +1,97 @@
-// A ledger's rows, and the numbers of them that the rules look at.
-ghost use Rattle.std.specs.Prelude.{◌≡◌, ◌&&◌, ◌≤◌, ◌<◌};
-ghost use Rattle.rules.specs.Search.{lowest};
-ghost use Rattle.room.specs.Room.{SameBelow, ranges_in};
-ghost use Rattle.houses.specs.Houses.{owned};
-ghost use Rattle.playback.specs.Ledger as L;
-ghost use Rattle.playback.specs.Ledger.{empty_ledger, ledger_row, ledger_ranges, ledger_owners, same_segment};
+// A ledger, and the numbers of it that the rules look at.
+ghost use Rattle.std.specs.Prelude.{◌≡◌, true};
+ghost use Rattle.sizes.specs.Sizes.{lent_size_allowed, entry_count, index_start};
+ghost use Rattle.room.specs.Room.{EndBy};
+ghost use Rattle.playback.specs.Ledger.{ledger_ranges};
 
 use crate::{LedgerRow, ROWS};
-use clerk_log::BookingLine;
-use room::Range;
+use clerk_log::{BookingLine, CancellingLine};
+use room::{Decision, Range};
+use rules::Refusal;
 
-// One row a slot, for the most slots that a lent deal has.
-pub type Ledger = [LedgerRow; ROWS];
-
-// A row that holds nothing.
-pub(crate) fn vacant() -> LedgerRow
-    ensures { result ≡ L.vacant }
-{
-    LedgerRow {
-        house: 0,
-        commitment: [0u8; 32],
-        size: 0,
-        offset: 0,
-        place: 0,
-    }
+// A ledger for lent deals of one size: a row a slot, for the most slots that a lent deal has. Each row's segment ends by
+// the index start.
+#[derive(Drop)]
+pub(crate) struct Ledger {
+    pub(crate) size: u64,
+    pub(crate) rows: [LedgerRow; ROWS],
+    ghost size_allowed: { lent_size_allowed size ≡ true },
+    ghost ends: { EndBy (index_start size) (entry_count size) (ledger_ranges rows) },
 }
 
-// A ledger that holds nothing.
-pub(crate) fn empty() -> Ledger
-    ensures { result ≡ empty_ledger }
-{
-    let row = vacant();
-    let rows = [row; ROWS];
-    rows
-}
+impl Ledger {
+    ghost use Rattle.std.specs.Prelude.{◌≡◌, true, ◌≤◌, length, map};
+    ghost use Rattle.rules.specs.Search.{lowest};
+    ghost use Rattle.rules.specs.Answers.{code_of};
+    ghost use Rattle.room.specs.Decide.{decision_of};
+    ghost use Rattle.sizes.specs.Sizes.{segment_size_allowed, place_allowed};
+    ghost use Rattle.index.specs.Written.{slot_of};
+    ghost use Rattle.playback.specs.Ledger.{empty_ledger, ledger_range, ledger_owners, ledger_decision, ledger_cancel_code};
+    ghost use Rattle.playback.specs.Steps.{keeps_at};
 
-// The bytes that a row's segment takes up; none for a vacant row.
-fn area_of(row: LedgerRow) -> u64
-    ensures { result ≡ (L.ledger_range row).area }
-{
-    if row.size == 0 {
-        return 0;
-    }
-    sizes::area(row.size)
-}
-
-// Which bytes each row's segment takes up.
-pub(crate) fn ranges_of(ledger: Ledger) -> [Range; ROWS]
-    ensures { SameBelow 128 (ranges_in result) (ledger_ranges ledger) }
-{
-    let none = Range { offset: 0, area: 0 };
-    let mut ranges = [none; ROWS];
-    let mut i: usize = 0;
-    while i < ROWS {
-        let row = ledger[i];
-        ranges[i] = Range {
-            offset: row.offset,
-            area: area_of(row),
-        };
-        i += 1;
-    }
-    ranges
-}
-
-// Whose each row is.
-pub(crate) fn owners_of(ledger: Ledger) -> [u8; ROWS]
-    ensures { result ≡ ledger_owners ledger }
-{
-    let mut owners = [0u8; ROWS];
-    let mut i: usize = 0;
-    while i < ROWS {
-        let row = ledger[i];
-        owners[i] = row.house;
-        i += 1;
-    }
-    owners
-}
-
-// Whether a row is for the segment of a line: equal size and commitment.
-fn same_segment(line: BookingLine, row: LedgerRow) -> bool
-    ensures { result ≡ same_segment line row }
-{
-    if row.size != line.size {
-        return false;
-    }
-    let here = row.commitment;
-    let there = line.commitment;
-    here == there
-}
-
-// The lowest of the first rows that is the house's and for the segment of a line.
-pub(crate) fn lowest_same(ledger: Ledger, line: BookingLine, slots: usize) -> Option<usize>
-    requires { slots ≤ 128 }
-    ensures { result
-        ≡ lowest (λ i. owned (ledger_owners ledger) line.house i && same_segment line (ledger_row ledger i)) 0 slots }
-{
-    let mut i: usize = 0;
-    while i < slots {
-        let row = ledger[i];
-        if row.house == line.house && same_segment(line, row) {
-            return Some(i);
+    // A ledger that holds nothing.
+    pub(crate) fn empty(size: u64) -> Ledger
+        requires { lent_size_allowed size ≡ true }
+        ensures sized { result.size ≡ size }
+        ensures rows { result.rows ≡ empty_ledger }
+    {
+        Ledger {
+            size,
+            rows: [LedgerRow::vacant(); ROWS],
         }
-        i += 1;
     }
-    None
+
+    // The slots of the deal.
+    pub(crate) fn slots(&self) -> usize
+        ensures { result ≡ entry_count self.now.size }
+    {
+        sizes::entry_count(self.size) as usize
+    }
+
+    // Which bytes each row's segment takes up.
+    pub(crate) fn ranges(&self) -> [Range; ROWS]
+        ensures { result ≡ map ledger_range self.now.rows }
+    {
+        self.rows.map(|row| row.range())
+    }
+
+    // Whose each row is.
+    fn owners(&self) -> [u8; ROWS]
+        ensures { result ≡ ledger_owners self.now.rows }
+    {
+        self.rows.map(|row| row.house)
+    }
+
+    // The lowest row that is the house's and for the segment of a line.
+    fn keeping(&self, line: &BookingLine) -> Option<usize>
+        ensures { result ≡ lowest (keeps_at self.now.rows line.now) 0 (entry_count self.now.size) }
+    {
+        self.rows[..self.slots()]
+            .iter()
+            .position(|row| row.house == line.house && row.is_for(line))
+    }
+
+    // What booking decides.
+    pub(crate) fn decide(&self, line: &BookingLine) -> Decision
+        requires { segment_size_allowed self.now.size line.now.size ≡ true }
+        ensures { decision_of result ≡ ledger_decision self.now.size self.now.rows line.now }
+    {
+        let ranges = self.ranges();
+        let held = houses::held_count(&ranges[..self.slots()], &self.owners(), line.house);
+        room::decide(self.size, &ranges, held, sizes::area(line.size), self.keeping(line))
+    }
+
+    // Whether a cancellation is refused: 6 for a place that is not allowed, 16 where no row of the house is.
+    pub(crate) fn cancelling(&self, line: &CancellingLine) -> Result<(), Refusal>
+        ensures { code_of result ≡ ledger_cancel_code self.now.size self.now.rows line.now }
+    {
+        if !sizes::place_allowed(self.size, line.place) {
+            return Err(Refusal::Place);
+        }
+        let row = &self.rows[houses::slot_at(self.size, line.place)];
+        if row.is_vacant() || row.house != line.house {
+            return Err(Refusal::NotKept);
+        }
+        Ok(())
+    }
 }

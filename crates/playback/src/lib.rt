@@ -4,29 +4,28 @@
 
 mod ledger; // ledger.rt: a ledger's rows, and the numbers that the rules look at
 mod playing; // playing.rt: one line played on a ledger
+mod row; // row.rt: what a row says
 mod rows; // rows.rt: the rows that come back, and their bytes
 
 ghost use Rattle.std.specs.Prelude.{◌≡◌, true};
 ghost use Rattle.clerk_log.specs.Log.{log_lines};
 ghost use Rattle.clerk_log.specs.LineAt.{is_log};
 ghost use Rattle.sizes.specs.Sizes.{lent_size_allowed};
-ghost use Rattle.playback.specs.declared.Verdict.TheVariants.{Code};
-ghost use Rattle.playback.specs.Playback.{no_rows, played_log};
+ghost use Rattle.playback.specs.Playback.{played_log};
+ghost use Rattle.playback.specs.Played.{played};
 ghost use Rattle.playback.specs.Playback as P;
 
-use fields::Field;
-pub use ledger::Ledger;
-use playing::play_line;
+use ledger::Ledger;
 use room::Booked;
-use rows::standing_rows;
 pub use rows::{ROW_BYTES, ROWS_BYTES, put_rows};
+use rules::Refusal;
 
 // The rows of a ledger for the largest lent deal.
 pub const ROWS: usize = 128;
 
-// A row of a ledger: house, commitment and size of the segment, offset, entry place; all zeros where it is vacant.
-#[derive(Drop)]
-#[derive(Clone, Copy)]
+// A row of a ledger: house, commitment and size of the segment, offset, entry place; all zeros where it is vacant, as
+// its bytes are then.
+#[derive(Clone, Copy, Debug, PartialEq, Eq)]
 pub struct LedgerRow {
     pub house: u8,
     pub commitment: [u8; 32],
@@ -35,94 +34,53 @@ pub struct LedgerRow {
     pub place: u64,
 }
 
-// What playback says: a code, 0, 2 or 3, or the number of the first line whose answers the rules do not give.
-#[derive(Drop)]
-#[derive(Clone, Copy)]
-pub enum Verdict {
-    Code(u8),
-    Line(u64),
-}
-
-// The answer of playback: what it says; with a line's number, what the rules give for that line; with 0 the rows, and
-// how many they are. Zeros otherwise.
-#[derive(Drop)]
-pub struct Playback {
-    pub verdict: Verdict,
-    pub ruling: Booked,
+// The rows that stand, by rising place, and how many they are; vacant rows after them.
+#[derive(Clone, Copy, Debug, PartialEq, Eq)]
+pub struct Standing {
     pub count: usize,
     pub rows: [LedgerRow; ROWS],
 }
 
-// What one line and the rules come to: whether they agree, what the rules give, and the rows after the line.
-#[derive(Drop)]
-struct Step {
-    confirmed: bool,
-    ruling: Booked,
-    rows: [LedgerRow; ROWS],
-}
-
-// An answer without rows.
-fn without_rows(verdict: Verdict, ruling: Booked) -> Playback
-    ensures { result ≡ no_rows verdict ruling }
-{
-    let rows = ledger::empty();
-    Playback {
-        verdict,
-        ruling,
-        count: 0,
-        rows,
-    }
-}
-
-// A code alone.
-fn says(code: u8) -> Playback
-    ensures { result ≡ P.says (Code code) }
-{
-    let none = Booked {
-        code: 0,
-        offset: 0,
-        place: 0,
-    };
-    without_rows(Verdict::Code(code), none)
+// Why a log gives no rows: a refusal, or the first line whose answers the rules do not give, by its number from 1, with
+// what they give.
+#[derive(Clone, Copy, Debug, PartialEq, Eq)]
+pub enum NotPlayed {
+    Refused(Refusal),
+    Line { number: u64, ruling: Booked },
 }
 
 // Plays a log that is in form: the rows, or the first line whose answers the rules do not give.
-fn play(size: u64, log: &[u8]) -> Playback
+fn play(size: u64, log: &[u8]) -> Result<Standing, NotPlayed>
     requires { (lent_size_allowed size ≡ true) × (is_log (log_lines size log.now) ≡ true) }
-    ensures { result ≡ played_log size (log_lines size log.now) }
+    ensures { played result ≡ played_log size (log_lines size log.now) }
 {
-    let mut rows = ledger::empty();
-    let mut at: usize = 0;
+    let mut ledger = Ledger::empty(size);
+    let mut rest = log;
     let mut number: u64 = 1;
-    while at < log.len() {
-        let Ok(Field { tag, start, next, .. }) = clerk_log::line_field(log, at)
-        else {
-            return says(3);
+    while !rest.is_empty() {
+        let Some((line, later)) = clerk_log::first_line(rest) else {
+            return Err(NotPlayed::Refused(Refusal::Form));
         };
-        let step = play_line(size, rows, log, tag, start);
-        if !step.confirmed {
-            let ruling = step.ruling;
-            return without_rows(Verdict::Line(number), ruling);
+        if let Err(ruling) = ledger.play(&line) {
+            return Err(NotPlayed::Line { number, ruling });
         }
-        let after = step.rows;
-        rows = after;
-        at = next;
+        rest = later;
         number += 1;
     }
-    standing_rows(size, rows)
+    Ok(ledger.standing())
 }
 
-// Plays a log back on an empty ledger for a deal of this size. Code 2 for a size that no lent deal has, 3 for a log
-// that is malformed; then the number of the first line whose answers the rules do not give, from 1, with the code, the
-// offset and the place that they give; else 0, with the rows by rising entry place. Zeros otherwise.
-pub fn play_back(size: u64, log: &[u8]) -> Playback
-    ensures { result ≡ P.playback size log.now }
+// Plays a log back on an empty ledger for a deal of this size. Refused with 2 for a size that no lent deal has, with 3
+// for a log that is malformed; then with the number of the first line whose answers the rules do not give, from 1, and
+// the code, the offset and the place that they give; else the rows by rising entry place.
+pub fn play_back(size: u64, log: &[u8]) -> Result<Standing, NotPlayed>
+    ensures { played result ≡ P.playback size log.now }
 {
     if !sizes::lent_size_allowed(size as usize) {
-        return says(2);
+        return Err(NotPlayed::Refused(Refusal::Size));
     }
     if !clerk_log::in_form(size, log) {
-        return says(3);
+        return Err(NotPlayed::Refused(Refusal::Form));
     }
     play(size, log)
 }

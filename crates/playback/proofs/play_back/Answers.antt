@@ -5,7 +5,7 @@ use native.Mathlib.Omega.{arith}
 use Rattle.sizes.specs.Sizes.{lent_size_allowed}
 use Rattle.clerk_log.specs.Log.{Lines, lines, malformed, log_lines}
 use Rattle.clerk_log.specs.LineAt.{is_log}
-use Rattle.playback.specs.declared.Verdict.TheVariants.{Code}
+use Rattle.playback.specs.Playback.{Code}
 use Rattle.playback.specs.Playback as P
 use Rattle.playback.specs.Playback.{played_log}
 use Rattle.playback.proofs.play_back.Goals as goal
