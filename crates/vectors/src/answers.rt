@@ -5,7 +5,7 @@ use crate::show;
 use entries::{Fields, ReadEntry};
 use index::{FoundSegment, Tallied};
 use paths::Difference;
-use playback::Verdict;
+use playback::{NotPlayed, ROWS_BYTES};
 use room::Booked;
 use rules::Refusal;
 use settle::Settled;
@@ -134,26 +134,37 @@ fn audit(rt: &impl Print, deal: &[u8], states: &mut [u8]) -> io::Result<()> {
 
 // The kind of the answer, 0 or 1, and the code or the number of the line; what the rules give for that line; the rows.
 fn playback(rt: &impl Print, log: &[u8], size: u64) -> io::Result<()> {
-    let played = playback::play_back(size, log);
-    let verdict = played.verdict;
-    match verdict {
-        Verdict::Code(code) => {
+    let mut ruling = Booked {
+        code: 0,
+        offset: 0,
+        place: 0,
+    };
+    let mut count: usize = 0;
+    let mut bytes = [0u8; ROWS_BYTES];
+    match playback::play_back(size, log) {
+        Ok(standing) => {
             show::code(rt, 0)?;
-            show::number(rt, code as u64)?;
+            show::number(rt, 0)?;
+            count = standing.count;
+            playback::put_rows(&standing.rows, &mut bytes);
         }
-        Verdict::Line(number) => {
+        Err(NotPlayed::Refused(refusal)) => {
+            show::code(rt, 0)?;
+            show::number(rt, refusal.code() as u64)?;
+        }
+        Err(NotPlayed::Line {
+            number,
+            ruling: given,
+        }) => {
             show::code(rt, 1)?;
             show::number(rt, number)?;
+            ruling = given;
         }
     }
-    let ruling = played.ruling;
     show::number(rt, ruling.code as u64)?;
     show::number(rt, ruling.offset)?;
     show::number(rt, ruling.place)?;
-    show::number(rt, played.count as u64)?;
-    let mut bytes = [0u8; 7296];
-    let rows = played.rows;
-    playback::put_rows(rows, &mut bytes);
+    show::number(rt, count as u64)?;
     show::digest(rt, &bytes)
 }
 
