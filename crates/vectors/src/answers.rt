@@ -22,9 +22,8 @@ fn refusal_of<T>(answer: &Result<T, Refusal>) -> u8 {
 
 fn hash(rt: &impl Print, message: &[u8]) -> io::Result<()> {
     let hashed = sha256::sha256(message);
-    let digest = hashed.digest;
-    show::code(rt, hashed.code)?;
-    show::bytes(rt, &digest)
+    show::code(rt, refusal_of(&hashed))?;
+    show::bytes(rt, &hashed.unwrap_or([0u8; 32]))
 }
 
 fn commit(rt: &impl Print, run: &[u8]) -> io::Result<()> {

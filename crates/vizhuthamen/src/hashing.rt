@@ -4,7 +4,7 @@ ghost use Rattle.sha256.specs.Answers.{hashed};
 ghost use Rattle.merkle.specs.Commitment.{committed};
 ghost use Rattle.vizhuthamen.specs.Export.{lent_code, lent_output};
 
-use crate::output::{WRONG_LENGTH, write_32_bytes};
+use crate::output::WRONG_LENGTH;
 
 // The SHA-256 digest of a message.
 #[unsafe(no_mangle)]
@@ -15,10 +15,13 @@ pub extern "C" fn vz_sha256(message: &[u8], digest: &mut [u8]) -> u32
     if digest.len() != 32 {
         return WRONG_LENGTH;
     }
-    let answer = sha256::sha256(message);
-    let bytes = answer.digest;
-    write_32_bytes(answer.code == 0, bytes, digest);
-    answer.code as u32
+    match sha256::sha256(message) {
+        Ok(bytes) => {
+            octets::put_array(digest, 0, bytes);
+            0
+        }
+        Err(refusal) => refusal.code() as u32,
+    }
 }
 
 // The commitment of a run.
