@@ -3,31 +3,30 @@
 
 ghost use Rattle.std.specs.Prelude.{◌≡◌, ◌≤◌, length};
 
+use rules::Refusal;
 use std::io;
 
-fn wide(x: u8) -> u64 {
-    x as u64
-}
-
-// A code in decimal, and 32 bytes in hex.
-fn show(rt: &impl Print, code: u8, bytes: [u8; 32]) -> io::Result<()> {
-    print!(rt; "{} ", wide(code))?;
+// A code in decimal, and 32 bytes in hex: zeros with a refusal.
+fn show(rt: &impl Print, answer: Result<[u8; 32], Refusal>) -> io::Result<()> {
+    let (code, bytes) = match answer {
+        Ok(bytes) => (0, bytes),
+        Err(refusal) => (refusal.code(), [0u8; 32]),
+    };
+    print!(rt; "{code} ")?;
     for byte in &bytes {
-        print!(rt; "{:02x}", wide(*byte))?;
+        print!(rt; "{byte:02x}")?;
     }
     println!(rt)
 }
 
 fn show_digest(rt: &impl Print, message: &[u8]) -> io::Result<()> {
-    let answer = sha256::sha256(message);
-    let digest = answer.digest;
     print!(rt; "sha256 {} ", message.len())?;
-    show(rt, answer.code, digest)
+    show(rt, sha256::sha256(message))
 }
 
 fn show_node_hash(rt: &impl Print, pair: [u8; 64]) -> io::Result<()> {
     print!(rt; "node hash ")?;
-    show(rt, 0, node::node_hash(pair))
+    show(rt, Ok(node::node_hash(pair)))
 }
 
 // The commitment of the first `size` bytes of a run.
@@ -35,10 +34,7 @@ fn show_commitment(rt: &impl Print, run: &[u8], size: usize) -> io::Result<()>
     requires { size ≤ length run.now }
 {
     print!(rt; "commitment {size} ")?;
-    match merkle::commitment(&run[..size]) {
-        Ok(commitment) => show(rt, 0, commitment),
-        Err(refusal) => show(rt, refusal.code(), [0u8; 32]),
-    }
+    show(rt, merkle::commitment(&run[..size]))
 }
 
 // Bytes below 61, so that no node has stray bits.
@@ -115,11 +111,11 @@ fn commitments(rt: &impl Print) -> io::Result<()> {
 fn nodes(rt: &impl Print) -> io::Result<()> {
     let run = sound_run();
     print!(rt; "node at 0 5 ")?;
-    show(rt, 0, merkle::node_at(&run, 0, 5))?;
+    show(rt, Ok(merkle::node_at(&run, 0, 5)))?;
     print!(rt; "node at 3 11 ")?;
-    show(rt, 0, merkle::node_at(&run, 3, 11))?;
+    show(rt, Ok(merkle::node_at(&run, 3, 11)))?;
     print!(rt; "node at 6 1 ")?;
-    show(rt, 0, merkle::node_at(&run, 6, 1))
+    show(rt, Ok(merkle::node_at(&run, 6, 1)))
 }
 
 fn main(rt: HostRuntime) -> io::Result<()> {

@@ -5,37 +5,33 @@
 
 ghost use Rattle.std.specs.Prelude.{◌≡◌, length};
 
+use reader::RecordReader;
 use std::io;
-
-fn wide(x: u8) -> u64 {
-    x as u64
-}
 
 fn show_hex(rt: &impl Print, bytes: &[u8]) -> io::Result<()> {
     for byte in bytes {
-        print!(rt; "{:02x}", wide(*byte))?;
+        print!(rt; "{byte:02x}")?;
     }
     Ok(())
 }
 
 // A field's tag, its length and its content in hex.
 fn show_field(rt: &impl Print, tag: u8, content: &[u8]) -> io::Result<()> {
-    print!(rt; "field {} length {} content ", wide(tag), content.len())?;
+    print!(rt; "field {tag} length {} content ", content.len())?;
     show_hex(rt, content)?;
     println!(rt)
 }
 
 // The fields of a record in turn; the answer is the place where they end. A record of n bytes has less than n fields.
 fn show_fields(rt: &impl Print, record: &[u8]) -> io::Result<usize> {
-    let mut place = 0;
-    for number in 0..record.len() {
-        let Ok(field) = reader::field(record, number) else {
-            return Ok(place);
+    let mut reader = RecordReader::new(record);
+    for _ in 0..record.len() {
+        let Ok(field) = reader.next_field() else {
+            break;
         };
         show_field(rt, field.tag, &record[field.start..field.next])?;
-        place = field.next;
     }
-    Ok(place)
+    Ok(reader.place())
 }
 
 // A record's length, its fields, and where they end. A record of more than 4,096 bytes is refused.
@@ -55,16 +51,14 @@ fn show_record(rt: &impl Print, record: &[u8]) -> io::Result<()> {
 
 // The records of an input, each after its length.
 fn show_records(rt: &impl Print, input: &[u8]) -> io::Result<()> {
-    let mut at = 0;
-    while input.len() - at >= 8 {
-        let length = octets::read_u64(input, at);
-        let start = at + 8;
-        if length > (input.len() - start) as u64 {
+    let mut rest = input;
+    while let Some((length, after)) = rest.split_first_chunk::<8>() {
+        let length = u64::from_le_bytes(*length);
+        let Some((record, later)) = after.split_at_checked(length as usize) else {
             return println!(rt; "refused: the input ends within a record");
-        }
-        let end = start + length as usize;
-        show_record(rt, &input[start..end])?;
-        at = end;
+        };
+        show_record(rt, record)?;
+        rest = later;
     }
     Ok(())
 }

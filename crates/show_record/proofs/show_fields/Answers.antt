@@ -5,12 +5,12 @@ use Rattle.show_record.proofs.show_fields.Goals as goal
 
 pub slice_bounds-show_field-count : goal.slice_bounds-show_field-count
 slice_bounds-show_field-count g c =
-    let w = field_within _ _ _ _ _ _ (sym c.field.ensures ∙ c.in-Content.is) in omega (arith, w.0)
+    let w = field_within _ _ _ _ _ _ (sym c.in-Ok.ensures.0) in omega (arith, w.0)
 
 pub slice_bounds-show_field-start : goal.slice_bounds-show_field-start
 slice_bounds-show_field-start g c =
-    let w = field_within _ _ _ _ _ _ (sym c.field.ensures ∙ c.in-Content.is) in omega (arith, w.0)
+    let w = field_within _ _ _ _ _ _ (sym c.in-Ok.ensures.0) in omega (arith, w.0)
 
 pub slice_bounds-show_field-end : goal.slice_bounds-show_field-end
 slice_bounds-show_field-end g c =
-    let w = field_within _ _ _ _ _ _ (sym c.field.ensures ∙ c.in-Content.is) in w.1
+    let w = field_within _ _ _ _ _ _ (sym (rw c.loop.invariant at c.in-Ok.ensures.0)) in w.1

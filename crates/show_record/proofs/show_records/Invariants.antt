@@ -1,9 +1,6 @@
--- `show_records`: the place stays within the input, and each turn moves it on.
-use Rattle.std.proofs.Common.{◌-◌, ◌≤◌, length}
+-- `show_records`: each turn leaves less of the input.
+use Rattle.std.proofs.Common.{length}
 use Rattle.show_record.proofs.show_records.Given as goal
 
-abbrev pub invariant-loop-at : goal.invariant-loop-at
-invariant-loop-at g l = l.at ≤ length l.input
-
-abbrev pub decreases-loop-at : goal.decreases-loop-at
-decreases-loop-at g l = length l.input - l.at
+abbrev pub decreases-loop-length : goal.decreases-loop-length
+decreases-loop-length g l = length l.rest
