@@ -24,14 +24,10 @@ impl<'a> Lent<'a> {
         ensures { IsNode (seen self.now).nodes (level + 1) result
             × (result.position ≡ x.position / 2) }
     {
-        let node = x.node;
-        let pair = paths::pair(x.position as u64, node, sibling);
+        let pair = paths::pair(x.position as u64, x.node, sibling);
         let position = x.position / 2;
-        let parent = self.node_above(levels, level, position, pair);
-        PathNode {
-            position,
-            node: parent,
-        }
+        let node = self.node_above(levels, level, position, pair);
+        PathNode { position, node }
     }
 
     // The sibling of the node at a position of a level, with `levels` levels above it. Where it is the node of another path
@@ -100,17 +96,11 @@ impl<'a> Lent<'a> {
             result.position)) }
     {
         let mut x = node;
-        let mut i: usize = 0;
-        while i < count {
+        for i in 0..count {
             let left = levels - i;
-            let sibling = self.node_in(left,
-                level + i,
-                paths::sibling_of(x.position),
-            );
+            let sibling = self.node_in(left, level + i, paths::sibling_of(x.position));
             octets::put_array(out, at + 32 * i, sibling);
-            let next = self.above(left - 1, level + i, x, sibling);
-            x = next;
-            i += 1;
+            x = self.above(left - 1, level + i, x, sibling);
         }
         x
     }
@@ -143,19 +133,15 @@ impl<'a> Lent<'a> {
     {
         let mut x = first;
         let mut y = second;
-        let mut i: usize = 0;
-        while i < levels {
+        for i in 0..levels {
             let left = levels - i;
             let here = level + i;
             let sibling = self.sibling_beside(left, here, x.position, y);
             let other = self.second_sibling(left, here, y.position, x, sibling);
             octets::put_array(out, at + 32 * i, sibling);
             octets::put_array(out, second_at + 32 * i, other);
-            let next = self.above(left - 1, here, x, sibling);
-            let second_next = self.above(left - 1, here, y, other);
-            x = next;
-            y = second_next;
-            i += 1;
+            x = self.above(left - 1, here, x, sibling);
+            y = self.above(left - 1, here, y, other);
         }
         x.node
     }
@@ -189,27 +175,13 @@ impl<'a> Lent<'a> {
             (deal_level (length self.now.bytes.now) - 1) 1 entry_position)) }
     {
         let top = sizes::deal_level(self.bytes.len() as u64);
-        let node = self.node_in(top - 1, 1, entry_position);
         let entry = PathNode {
             position: entry_position,
-            node,
+            node: self.node_in(top - 1, 1, entry_position),
         };
         let below = level - 1;
-        let met = self.write_below(top - 1,
-            1,
-            entry,
-            below,
-            out,
-            entry_at,
-        );
+        let met = self.write_below(top - 1, 1, entry, below, out, entry_at);
         let second_at = entry_at + 32 * below;
-        self.write_both(top - level,
-            level,
-            segment,
-            met,
-            out,
-            at,
-            second_at,
-        )
+        self.write_both(top - level, level, segment, met, out, at, second_at)
     }
 }

@@ -1,5 +1,6 @@
 -- The last difference along the whole path is that along what is left of it, on top of the last one seen. With a tree
 -- the node on the way is looked up at each level; without one the deal's own path leads to it.
+use Rattle.std.specs.Prelude.{option_map}
 use mathlib.Core.Path.{◌≡◌, sym, ap, ◌∙◌}
 use Prim.Native.Nat.{ℕ, ◌+◌, ◌*◌, ◌/◌, ◌<◌}
 use native.Mathlib.Omega.{arith}
@@ -13,11 +14,12 @@ use Rattle.paths.specs.NodesSized.{NodesSized}
 use Rattle.paths.specs.Path.{pair_of}
 use Rattle.paths.specs.Siblings.{siblings, pair_at}
 use Rattle.paths.specs.SiblingsLaws.{path_length}
-use Rattle.lent.specs.LentDeal.{lent_with}
+use Rattle.paths.specs.Compare.{seen_as}
+use Rattle.lent.specs.Seen.{seen}
 use Rattle.lent.specs.UsableLaws.{usable_size, nodes_sized}
 use Rattle.lent.proofs.OwnLoops.{OwnTurn, own_start, own_pair, own_above, own_next}
 use Rattle.lent.proofs.OwnLoops.{compared_start, compared_next, compared_over}
-use Rattle.lent.proofs.comparing.compare_with_own.Goals as goal
+use Rattle.lent.proofs.Lent.compare_with_own.Goals as goal
 
 -- the deal's own path has 32 bytes for each level
 own_length : {nodes : NodeSource} {top : ℕ} (own : List ℕ) (n level p : ℕ) → NodesSized nodes top
@@ -35,73 +37,70 @@ own_string {nodes = nodes} {top = top} {n = n} {level = level} {i = i} {p = p} o
 pub loop-i-init : goal.loop-i-init
 loop-i-init c =
     let a = c.args in
-    let nodes = (lent_with a.has_tree a.deal.now a.tree.now).nodes in
+    let nodes = (seen a.self.now).nodes in
     let n = length a.path.now / 32 in (
-      omega arith,
-      own_start nodes (deal_level (length a.deal.now)) a.own.now n a.level a.position a.own_node c.requires.in_tree
+      own_start nodes (deal_level (length a.self.now.bytes.now)) a.own.now n a.level a.position a.own_node c.requires.in_tree
           c.requires.own_value c.requires.own_node_value,
-      compared_start nodes n a.level a.position a.x a.path.now a.seen,
+      compared_start nodes n a.level a.position a.x a.path.now (seen_as a.below),
     )
 
-pub node_at-requires-in-loop-i : goal.node_at-requires-in-loop-i
-node_at-requires-in-loop-i c =
+pub array_at-requires-in-loop-i : goal.array_at-requires-in-loop-i
+array_at-requires-in-loop-i c =
     let a = c.args in
-    let each = nodes_sized a.has_tree a.deal.now a.tree.now c.requires.usable in
+    let each = nodes_sized a.self.now.bytes.now (option_map (λ t. t.now) a.self.now.tree) a.self.now.usable in
     omega (
       arith,
       own_length a.own.now (length a.path.now / 32) a.level a.position each c.requires.in_tree c.requires.own_value,
     )
 
 pub overflow_add-level : goal.overflow_add-level
-overflow_add-level c = omega (arith, c.loop-i.invariant.1.in_tree.up, (usable_size c.requires.usable).lent_level)
+overflow_add-level c = omega (arith, c.loop-i.invariant.0.in_tree.up, (usable_size c.args.self.now.usable).lent_level)
 
-pub node_above-own_parent-requires : goal.node_above-own_parent-requires
-node_above-own_parent-requires c =
+pub node_above-b-requires : goal.node_above-b-requires
+node_above-b-requires c =
     let a = c.args in
-    let nodes = (lent_with a.has_tree a.deal.now a.tree.now).nodes in
-    let each = nodes_sized a.has_tree a.deal.now a.tree.now c.requires.usable in
-    let t = c.loop-i.invariant.1 in
+    let nodes = (seen a.self.now).nodes in
+    let each = nodes_sized a.self.now.bytes.now (option_map (λ t. t.now) a.self.now.tree) a.self.now.usable in
+    let t = c.loop-i.invariant.0 in
     let k = c.loop-i-test.true in
     record {
-      usable = c.requires.usable;
-      in_tree = own_above nodes (deal_level (length a.deal.now)) a.own.now (length a.path.now / 32) a.level c.loop-i.i
+      in_tree = own_above nodes (deal_level (length a.self.now.bytes.now)) a.own.now (length a.path.now / 32) a.level c.loop-i.i
           c.loop-i.p c.loop-i.b k each t;
-      pair_value = own_string a.own.now c.loop-i.b c.node_at-in-loop-i.result c.pair-own_string.result each t k
-          c.pair-own_string.ensures c.node_at-in-loop-i.ensures;
+      pair = own_string a.own.now c.loop-i.b c.array_at-in-loop-i.result c.pair-own_string.result each t k
+          c.pair-own_string.ensures c.array_at-in-loop-i.ensures;
     }
 
 pub loop-i-preserved : goal.loop-i-preserved
 loop-i-preserved c =
     let a = c.args in
-    let nodes = (lent_with a.has_tree a.deal.now a.tree.now).nodes in
-    let top = deal_level (length a.deal.now) in
+    let nodes = (seen a.self.now).nodes in
+    let top = deal_level (length a.self.now.bytes.now) in
     let n = length a.path.now / 32 in
-    let each = nodes_sized a.has_tree a.deal.now a.tree.now c.requires.usable in
+    let each = nodes_sized a.self.now.bytes.now (option_map (λ t. t.now) a.self.now.tree) a.self.now.usable in
     let i = c.loop-i.i in
     let p = c.loop-i.p in
-    let t = c.loop-i.invariant.1 in
+    let t = c.loop-i.invariant.0 in
     let k = c.loop-i-test.true in
-    let own = own_string a.own.now c.loop-i.b c.node_at-in-loop-i.result c.pair-own_string.result each t k
-    c.pair-own_string.ensures c.node_at-in-loop-i.ensures in (
-      omega arith,
-      own_next nodes top a.own.now n a.level i p c.loop-i.b k each t c.node_above-own_parent.result
-          c.node_above-own_parent.ensures,
+    let own = own_string a.own.now c.loop-i.b c.array_at-in-loop-i.result c.pair-own_string.result each t k
+    c.pair-own_string.ensures c.array_at-in-loop-i.ensures in (
+      own_next nodes top a.own.now n a.level i p c.loop-i.b k each t c.node_above-b.result
+          c.node_above-b.ensures,
       simp (
-        c.node_hash-parent.ensures,
-        c.compare_above-above.ensures,
+        c.node_hash-a.ensures,
+        c.compare_above-last.ensures,
         own,
         c.pair-string.ensures,
-        c.node_at.ensures,
+        c.array_at.ensures,
       )
-          (c.loop-i.invariant.2 ∙ compared_next nodes n a.level i p c.loop-i.a a.path.now c.loop-i.last k),
+          (c.loop-i.invariant.1 ∙ compared_next nodes n a.level i p c.loop-i.a a.path.now (seen_as c.loop-i.last) k),
     )
 
 pub returns : goal.returns
 returns c =
     let a = c.args in
-    let nodes = (lent_with a.has_tree a.deal.now a.tree.now).nodes in
+    let nodes = (seen a.self.now).nodes in
     let i = c.loop-i.i in
     sym
-    (c.loop-i.invariant.2
+    (c.loop-i.invariant.1
     ∙ compared_over nodes (length a.path.now / 32) (a.level + i) i c.loop-i.p c.loop-i.a
-    (drop (i * 32) a.path.now) c.loop-i.last (omega arith))
+    (drop (i * 32) a.path.now) (seen_as c.loop-i.last) (omega arith))

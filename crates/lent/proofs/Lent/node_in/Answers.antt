@@ -1,27 +1,21 @@
-use mathlib.Core.Path.{subst}
-use mathlib.Core.Bool.{Bool, true}
+use Rattle.std.proofs.Common.{subst}
+use Rattle.std.specs.Prelude.{◌≡◌, Some, List, ℕ, Option, option_map}
 use Rattle.paths.specs.Start.{path_start}
-use Rattle.lent.specs.LentDeal.{lent_with}
+use Rattle.lent.specs.LentDeal.{lent_of, tree_deal}
+use Rattle.lent.specs.Seen.{seen}
 use Rattle.lent.specs.Usable.{Usable}
 use Rattle.lent.specs.UsableLaws.{node_in_tree, node_level, node_room, tree_sized_lem}
-use Rattle.lent.proofs.nodes.node_in.Goals as goal
+use Rattle.lent.proofs.Lent.node_in.Goals as goal
 
 pub node_in-requires : goal.node_in-requires
 node_in-requires c =
-    let bytes = c.args.deal.now in
-    let tree = c.args.tree.now in
-    let u : Usable (lent_with true bytes tree) =
-    subst (λ (b : Bool). Usable (lent_with b bytes tree)) c.if-has_tree.true c.requires.usable in
+    let deal = c.args.self.now in
     let start = path_start c.args.levels c.args.level c.args.position in
-    (node_in_tree u start c.requires.in_tree, tree_sized_lem bytes tree u)
-
-pub returns-then-has_tree : goal.returns-then-has_tree
-returns-then-has_tree c = rw c.if-has_tree.true c.node_in.ensures
+    let u : Usable (tree_deal deal.bytes.now c.in-Some.tree.now) = rw c.in-Some.is at deal.usable in
+    (node_in_tree deal.usable start c.requires, tree_sized_lem deal.bytes.now c.in-Some.tree.now u)
 
 pub node_at-requires : goal.node_at-requires
 node_at-requires c =
+    let deal = c.args.self.now in
     let start = path_start c.args.levels c.args.level c.args.position in
-    (node_level c.requires.usable start c.requires.in_tree, node_room c.requires.usable start c.requires.in_tree)
-
-pub returns : goal.returns
-returns c = rw c.if-has_tree.false c.node_at.ensures
+    (node_level deal.usable start c.requires, node_room deal.usable start c.requires)

@@ -1,4 +1,5 @@
 -- The entry's siblings below the segment's level, then both paths side by side.
+use Rattle.std.specs.Prelude.{option_map}
 use mathlib.Core.Path.{◌≡◌, sym, ap, subst, ◌∙◌}
 use Prim.Native.Nat.{ℕ, ◌+◌, ◌-◌, ◌≤◌, ◌<◌}
 use native.Mathlib.Omega.{arith}
@@ -8,10 +9,10 @@ use Rattle.sizes.specs.Sizes.{deal_level}
 use Rattle.paths.specs.Start.{path_start, InTree}
 use Rattle.paths.specs.Siblings.{siblings}
 use Rattle.paths.specs.SiblingsLaws.{path_length}
-use Rattle.lent.specs.LentDeal.{lent_with}
+use Rattle.lent.specs.Seen.{seen}
 use Rattle.lent.specs.UsableLaws.{usable_size, nodes_sized}
 use Rattle.lent.proofs.WriteLoops.{both_from}
-use Rattle.lent.proofs.own_paths.write_paths.Goals as goal
+use Rattle.lent.proofs.Lent.write_paths.Goals as goal
 
 -- a start with the levels above it as they are worked out
 worked_out : {top n : ℕ} (level p : ℕ) → n ≡ top → InTree top (path_start (top - level) level p)
@@ -29,35 +30,30 @@ met_in {top = top} n level p low t =
     subst (InTree top) (λ j. path_start (m j) (level_is level low j) p) t
 
 pub deal_level-top-requires : goal.deal_level-top-requires
-deal_level-top-requires c = (usable_size c.requires.usable).allowed
+deal_level-top-requires c = (usable_size c.args.self.now.usable).allowed
 
 pub overflow_sub-top : goal.overflow_sub-top
 overflow_sub-top c = omega (arith, c.requires.level_nonzero.1.up)
 
-pub node_in-node-requires : goal.node_in-node-requires
-node_in-node-requires c =
-    record {
-      usable = c.requires.usable;
-      in_tree = worked_out 1 c.args.entry_position c.deal_level-top.ensures c.requires.in_tree;
-    }
+pub node_in-requires : goal.node_in-requires
+node_in-requires c =
+    worked_out 1 c.args.entry_position c.deal_level-top.ensures c.requires.in_tree
 
 pub write_below-met-requires : goal.write_below-met-requires
 write_below-met-requires c =
     record {
-      usable = c.requires.usable;
       in_tree = worked_out 1 c.args.entry_position c.deal_level-top.ensures c.requires.in_tree;
-      node = c.node_in-node.ensures;
+      node = c.node_in.ensures;
       fits = (omega (arith, c.requires.level_nonzero.1.up), omega arith);
     }
 
 pub write_both-requires : goal.write_both-requires
 write_both-requires c =
     let a = c.args in
-    let nodes = (lent_with a.has_tree a.deal.now a.tree.now).nodes in
+    let nodes = (seen a.self.now).nodes in
     let low = c.requires.level_nonzero.0 in
     let met = c.write_below-met in
     record {
-      usable = c.requires.usable;
       first_in_tree = worked_out a.level a.segment.position c.deal_level-top.ensures c.requires.level_nonzero.1;
       second_in_tree = met_in c.deal_level-top.result a.level met.result.position low met.ensures.1;
       first_node = c.requires.node;
@@ -68,15 +64,15 @@ write_both-requires c =
 pub returns : goal.returns
 returns c =
     let a = c.args in
-    let nodes = (lent_with a.has_tree a.deal.now a.tree.now).nodes in
-    let top = deal_level (length a.deal.now) in
+    let nodes = (seen a.self.now).nodes in
+    let top = deal_level (length a.self.now.bytes.now) in
     let n = c.deal_level-top.result in
     let e : n ≡ top = c.deal_level-top.ensures in
     let low = c.requires.level_nonzero.0 in
     let high : a.level ≤ n = omega (arith, c.requires.level_nonzero.1.up) in
     let met = c.write_below-met in
     let m = met.result.position in
-    let each = nodes_sized a.has_tree a.deal.now a.tree.now c.requires.usable in
+    let each = nodes_sized a.self.now.bytes.now (option_map (λ t. t.now) a.self.now.tree) a.self.now.usable in
     let sized = path_length nodes top each in (
       c.write_both.ensures.0,
       both_from nodes a.out.now a.at a.entry_at n a.level a.segment.position a.entry_position m
