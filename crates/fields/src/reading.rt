@@ -1,5 +1,5 @@
 // Reading a field: the field with the next place, or else the refusal.
-ghost use Rattle.std.specs.Prelude.{◌≡◌, ◌+◌, ◌*◌};
+ghost use Rattle.std.specs.Prelude.{◌≡◌};
 ghost use Rattle.rules.specs.Refusals.{first_refusal};
 ghost use Rattle.fields.specs.Table.{length_allowed};
 ghost use Rattle.fields.specs.FieldAt.{field_at, field_for, field_answer, field_rules, row_rules};
@@ -7,13 +7,6 @@ ghost use Rattle.rules.specs.Answers.{code_of};
 
 use crate::{Field, FieldRule, LengthRule};
 use rules::Refusal;
-
-// The length that two bytes say, the least first.
-fn length_in(low: u8, high: u8) -> usize
-    ensures { result ≡ low + 256 * high }
-{
-    (low as usize) + 256 * (high as usize)
-}
 
 // The field at any place, with the next place; the refusal, code 3, where it does not lie within the bytes.
 pub fn read_field(bytes: &[u8], place: usize) -> Result<Field, Refusal>
@@ -24,7 +17,7 @@ pub fn read_field(bytes: &[u8], place: usize) -> Result<Field, Refusal>
     if end < 3 || end - 3 < place {
         return Err(Refusal::Form);
     }
-    let length = length_in(bytes[place + 1], bytes[place + 2]);
+    let length = u16::from_le_bytes([bytes[place + 1], bytes[place + 2]]) as usize;
     let start = place + 3;
     if end - start < length {
         return Err(Refusal::Form);

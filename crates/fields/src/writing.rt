@@ -10,8 +10,8 @@ pub fn put_head(out: &mut [u8], at: usize, tag: u8, size: usize) -> usize
     requires { (size < 65536) × (at + 3 ≤ length out.old) }
     ensures { (out.new ≡ splice out.old at (field_head tag size)) × (result ≡ at + 3) }
 {
-    let head = [tag, (size % 256) as u8, (size / 256) as u8];
-    octets::put(out, at, &head);
+    let [low, high] = (size as u16).to_le_bytes();
+    octets::put_array(out, at, [tag, low, high]);
     at + 3
 }
 
