@@ -7,28 +7,28 @@ ghost use Rattle.rules.specs.Answers.{number, code_of};
 // Why a call is refused. The numbers are those of `number`.
 #[derive(Clone, Copy, Debug, PartialEq, Eq)]
 pub enum Refusal {
-    CommitmentLength, // 1
-    Size, // 2
-    Form, // 3
-    SegmentSize, // 4
-    Offset, // 5
-    Place, // 6
-    PathLength, // 7
-    CommitmentBits, // 8
-    SegmentPath, // 9
-    EntryPath, // 10
-    StrayBits, // 11
-    Output, // 12
-    NoSlot, // 13
-    NoPlace, // 14
-    NotKept, // 16
-    OtherPlace, // 18
-    PathBits, // 19
-    Overlap, // 20
-    DealNumber, // 21
-    Quota, // 22
-    House, // 23
-    SegmentLength, // 24
+    CommitmentLength = 1,
+    Size = 2,
+    Form = 3,
+    SegmentSize = 4,
+    Offset = 5,
+    Place = 6,
+    PathLength = 7,
+    CommitmentBits = 8,
+    SegmentPath = 9,
+    EntryPath = 10,
+    StrayBits = 11,
+    Output = 12,
+    NoSlot = 13,
+    NoPlace = 14,
+    NotKept = 16,
+    OtherPlace = 18,
+    PathBits = 19,
+    Overlap = 20,
+    DealNumber = 21,
+    Quota = 22,
+    House = 23,
+    SegmentLength = 24,
 }
 
 impl Refusal {
@@ -36,30 +36,7 @@ impl Refusal {
     pub fn code(self) -> u8
         ensures { result ≡ number self }
     {
-        match self {
-            Refusal::CommitmentLength => 1,
-            Refusal::Size => 2,
-            Refusal::Form => 3,
-            Refusal::SegmentSize => 4,
-            Refusal::Offset => 5,
-            Refusal::Place => 6,
-            Refusal::PathLength => 7,
-            Refusal::CommitmentBits => 8,
-            Refusal::SegmentPath => 9,
-            Refusal::EntryPath => 10,
-            Refusal::StrayBits => 11,
-            Refusal::Output => 12,
-            Refusal::NoSlot => 13,
-            Refusal::NoPlace => 14,
-            Refusal::NotKept => 16,
-            Refusal::OtherPlace => 18,
-            Refusal::PathBits => 19,
-            Refusal::Overlap => 20,
-            Refusal::DealNumber => 21,
-            Refusal::Quota => 22,
-            Refusal::House => 23,
-            Refusal::SegmentLength => 24,
-        }
+        self as u8
     }
 }
 
