@@ -1,3 +1,4 @@
+pub mod States
 pub mod Audit
 pub mod SlotStateLaws
 pub mod AuditLaws
