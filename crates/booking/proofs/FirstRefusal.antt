@@ -12,7 +12,7 @@ use Rattle.stray.specs.StrayBits.{no_stray_bits}
 use Rattle.stray.specs.StrayBitsLaws.{filled_clear}
 use Rattle.sizes.specs.Sizes.{lent_size_allowed, segment_size_allowed, area}
 use Rattle.sizes.specs.SizesLaws.{lent_size, segment_size}
-use Rattle.lent.specs.LentDeal.{LentDeal, deal_size}
+use Rattle.lent.specs.LentDeal.{LentDeal, deal_size, deal_refusal}
 use Rattle.houses.specs.Houses.{house_rules}
 use Rattle.houses.specs.HousesLaws.{housed}
 use Rattle.booking.specs.Write.{area_bytes}
@@ -28,6 +28,15 @@ refused_first : (rs ss : List Rule) → first_refusal rs ≢ 0 → first_refusal
 refused_first [] ss h = absurd (h refl)
 refused_first (r ∷ rs) ss h =
     first_stays r.passed r.code (first_refusal rs) (first_refusal (rs ++ ss)) (λ k. refused_first rs ss k) h
+
+-- the deal's and the area's stray bits, where the area has some and where it has none
+and_stray : (deal : Bool) {area : Bool} → area ≡ false → (deal && area) ≡ false
+and_stray true e = e
+and_stray false e = refl
+
+and_clear : (deal : Bool) {area : Bool} → area ≡ true → (deal && area) ≡ deal
+and_clear true e = e
+and_clear false e = refl
 
 module _ (deal : LentDeal) (table : List ℕ) (house : ℕ) (segment : List ℕ) where
   abbrev code : ℕ
@@ -55,12 +64,10 @@ module _ (deal : LentDeal) (table : List ℕ) (house : ℕ) (segment : List ℕ)
           filled_clear (area (length segment)) segment
           (segment_size (deal_size deal) (length segment) (lent_size (deal_size deal) size_fits).deal b).size_area
 
-      pub by_11 : (no_stray_bits deal.bytes && no_stray_bits (area_bytes segment)) ≡ false → 11 ≡ code
-      by_11 s = sym (later ∙ rw (b, s))
+      pub by_11 : no_stray_bits segment ≡ false → 11 ≡ code
+      by_11 s = sym (later ∙ rw (b, and_stray (no_stray_bits deal.bytes) (area_clear ∙ s)))
 
-      module _ (s : (no_stray_bits deal.bytes && no_stray_bits (area_bytes segment)) ≡ true) where
-        pub by_12 : deal.tree_sized ≡ false → 12 ≡ code
-        by_12 t = sym (later ∙ rw (b, s, t))
-
-        pub by_none : deal.tree_sized ≡ true → 0 ≡ code
-        by_none t = sym (later ∙ rw (b, s, t))
+      -- with a clear segment the refusals of the deal are left
+      pub by_deal : no_stray_bits segment ≡ true → deal_refusal deal ≡ code
+      unfolding deal_refusal
+      by_deal s = rw size_fits (sym (later ∙ rw (b, and_clear (no_stray_bits deal.bytes) (area_clear ∙ s))))

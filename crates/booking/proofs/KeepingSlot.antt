@@ -9,19 +9,20 @@ use native.Mathlib.Omega.{arith}
 use lib.Dec.{eqb}
 use lib.ListN.{length}
 use borrow.Author.Tests.{eqb-true, eq-eqb}
-use Rattle.rules.specs.Choice.{choose}
+use Rattle.std.specs.Prelude.{Option, Some, None}
 use Rattle.octets.specs.Equality.{same_bytes}
 use Rattle.octets.specs.EqualityLaws.{same_true, same_of, same_false}
+use Rattle.octets.specs.Fill.{zero_filled}
 use Rattle.octets.specs.LittleEndian.{number_of}
 use Rattle.rules.specs.RefusalLaws.{and_left, and_right, not_passed}
 use Rattle.octets.specs.Splice.{part}
 use Rattle.octets.specs.SpliceLaws.{part_part}
 use Rattle.merkle.specs.Tree.{commitment_of, node_at}
 use Rattle.entries.specs.Entry.{commitment_in, offset_in, size_in}
-use Rattle.sizes.specs.Sizes.{offset_allowed, area, slot_place, segment_level, segment_position}
-use Rattle.sizes.specs.SizesLaws.{DealSize}
+use Rattle.sizes.specs.Sizes.{segment_size_allowed, offset_allowed, area, slot_place, segment_level, segment_position}
+use Rattle.sizes.specs.SizesLaws.{DealSize, segment_size}
 use Rattle.tree.specs.TreeNodes.{tree_nodes}
-use Rattle.lent.specs.LentDeal.{LentDeal, lent_with, deal_size}
+use Rattle.lent.specs.LentDeal.{LentDeal, lent_of, deal_size}
 use Rattle.index.specs.KeptLaws.{segment_node}
 use Rattle.index.specs.KeptRowsLaws.{row_some, standing_size, standing_place}
 use Rattle.index.specs.Slots.{slot_at, standing, node_over, kept, kept_at}
@@ -30,6 +31,7 @@ use Rattle.room.specs.Room.{Range, range}
 use Rattle.ranges.specs.Ranges.{ranges_of}
 use Rattle.ranges.specs.RangesLaws.{range_stands}
 use Rattle.booking.specs.Write.{area_bytes, segment_commitment}
+use Rattle.booking.specs.AreaNode.{area_node}
 use Rattle.booking.specs.Booking.{keeps_segment}
 use Rattle.booking.specs.KeepLaws.{keeps_stands}
 
@@ -72,13 +74,13 @@ module _ (deal : LentDeal) (segment : List ℕ) (i : ℕ) where
 
   -- an entry that agrees in both stands
   module _ (a : 0 < (ranges_of deal.bytes i).area) (z : size_in entry ≡ length segment) where
-    pub stood : standing (deal_size deal) entry ≡ true
+    stood : standing (deal_size deal) entry ≡ true
     stood = row_some (deal_size deal) entry a
 
-    pub offset_there : (ranges_of deal.bytes i).offset ≡ offset_in entry
+    offset_there : (ranges_of deal.bytes i).offset ≡ offset_in entry
     offset_there = ap (λ (r : Range). r.offset) (range_stands (deal_size deal) entry stood)
 
-    pub offset_fits : offset_allowed (deal_size deal) (ranges_of deal.bytes i).offset (length segment) ≡ true
+    offset_fits : offset_allowed (deal_size deal) (ranges_of deal.bytes i).offset (length segment) ≡ true
     offset_fits =
         ap₂ (offset_allowed (deal_size deal)) offset_there (sym z)
         ∙ (stands (deal_size deal) entry stood).offset_allowed_lem
@@ -88,26 +90,26 @@ module _ (deal : LentDeal) (segment : List ℕ) (i : ℕ) where
     module _ (node : List ℕ)
         (n : part deal.bytes (offset_in entry) (area (length segment)) ≡ area_bytes segment
         → node_over deal.nodes entry ≡ node) where
-      pub other_commitment : same_bytes (commitment_in entry) node ≡ false → keeps_segment deal segment i ≡ false
+      other_commitment : (commitment_in entry ≡ node → ⊥) → keeps_segment deal segment i ≡ false
       other_commitment h =
           not_passed (keeps_segment deal segment i)
           (λ e.
           let k = keeps deal.nodes (deal_size deal) entry (is_kept_lem e) in
-          same_false (commitment_in entry) node h (sym k.node_is ∙ n (same_bytes_lem e)))
+          h (sym k.node_is ∙ n (same_bytes_lem e)))
 
-      module _ (c : same_bytes (commitment_in entry) node ≡ true) where
+      module _ (c : commitment_in entry ≡ node) where
         keeps_here : part deal.bytes (offset_in entry) (area (length segment)) ≡ area_bytes segment
             → keeps_segment deal segment i ≡ true
         unfolding keeps_segment kept
         keeps_here b =
             rw (
               stood,
-              same_of _ _ (n b ∙ sym (same_true (commitment_in entry) node c)),
+              same_of _ _ (n b ∙ sym c),
               eq-eqb (size_in entry) (length segment) z,
               same_of _ _ b,
             )
 
-        pub bytes_decide : bytes_here ≡ keeps_segment deal segment i
+        bytes_decide : bytes_here ≡ keeps_segment deal segment i
         bytes_decide = by_test bytes_here refl
           where
             by_test : (b : Bool) → bytes_here ≡ b → b ≡ keeps_segment deal segment i
@@ -115,7 +117,7 @@ module _ (deal : LentDeal) (segment : List ℕ) (i : ℕ) where
             by_test false e = sym (not_passed (keeps_segment deal segment i) (λ t. same_false _ _ e (same_bytes_lem t)))
 
 -- such a node: with a tree beside the deal the one that stands there, and without one the segment's commitment
-module _ (deal tree segment : List ℕ) (i : ℕ) (t : DealSize (length deal))
+module _ (deal segment : List ℕ) (i : ℕ) (t : DealSize (length deal))
     (s : standing (length deal) (slot_at deal i) ≡ true) (z : size_in (slot_at deal i) ≡ length segment) where
   abbrev here : List ℕ
   here = slot_at deal i
@@ -128,15 +130,51 @@ module _ (deal tree segment : List ℕ) (i : ℕ) (t : DealSize (length deal))
       ∙ ap (λ (n : ℕ). commitment_of (segment_level n) (part deal (offset_in here) (area n))) z
       ∙ ap (commitment_of (segment_level (length segment))) b
 
-  pub node_there : (has_tree : Bool) (offset : ℕ) → offset ≡ offset_in here
+  pub node_there : (tree : Option (List ℕ)) (offset : ℕ) → offset ≡ offset_in here
       → part deal (offset_in here) (area (length segment)) ≡ area_bytes segment
-      → node_over (lent_with has_tree deal tree).nodes here
-      ≡ choose has_tree
-      (tree_nodes deal tree (segment_level (length segment)) (segment_position offset (length segment)))
-      (segment_commitment segment)
-  node_there true offset o b =
+      → node_over (lent_of deal tree).nodes here
+      ≡ area_node deal tree offset (length segment) (segment_commitment segment)
+  node_there (Some tree) offset o b =
       ap₂ (λ (n m : ℕ). tree_nodes deal tree (segment_level n) (segment_position m n)) z (sym o)
-  node_there false offset o b = own_node b
+  node_there None offset o b = own_node b
+
+-- the same by the range of the slot, where it has the segment's area and its entry the segment's size
+module _ (deal : List ℕ) (tree : Option (List ℕ)) (segment : List ℕ) (i : ℕ) (here : Range)
+    (r : here ≡ ranges_of deal i) (t : DealSize (length deal))
+    (f : segment_size_allowed (length deal) (length segment) ≡ true) (a : here.area ≡ area (length segment))
+    (z : size_in (slot_at deal i) ≡ length segment) where
+  abbrev lent : LentDeal
+  lent = lent_of deal tree
+
+  some_area : 0 < (ranges_of deal i).area
+  some_area =
+      let low = (segment_size (length deal) (length segment) t f).area_low in
+      omega (arith, ap (λ (x : Range). x.area) r)
+
+  range_offset : here.offset ≡ offset_in (slot_at deal i)
+  range_offset = ap (λ (x : Range). x.offset) r ∙ offset_there lent segment i some_area z
+
+  pub offset_here : offset_allowed (length deal) here.offset (length segment) ≡ true
+  offset_here =
+      ap (λ (x : Range). offset_allowed (length deal) x.offset (length segment)) r
+      ∙ offset_fits lent segment i some_area z
+
+  module _ (node : List ℕ)
+      (n : node ≡ area_node deal tree here.offset (length segment) (segment_commitment segment)) where
+    node_is : part deal (offset_in (slot_at deal i)) (area (length segment)) ≡ area_bytes segment
+        → node_over (lent_of deal tree).nodes (slot_at deal i) ≡ node
+    node_is b =
+        node_there deal segment i t (stood lent segment i some_area z) z tree here.offset range_offset b ∙ sym n
+
+    pub other_node : (commitment_in (slot_at deal i) ≡ node → ⊥) → keeps_segment (lent_of deal tree) segment i ≡ false
+    other_node h = other_commitment lent segment i some_area z node node_is h
+
+    pub bytes_left : commitment_in (slot_at deal i) ≡ node
+        → same_bytes (part deal here.offset here.area) (zero_filled here.area segment)
+        ≡ keeps_segment (lent_of deal tree) segment i
+    bytes_left c =
+        ap₂ (λ (at m : ℕ). same_bytes (part deal at m) (zero_filled m segment)) range_offset a
+        ∙ bytes_decide lent segment i some_area z node node_is c
 
 -- what is read at a slot's place
 module _ (deal : List ℕ) (i place : ℕ) (p : place ≡ slot_place (length deal) i) (h : place + 64 ≤ length deal) where

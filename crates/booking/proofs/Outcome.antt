@@ -1,23 +1,29 @@
--- What booking answers and leaves: the answer, and deal, tree and table afterwards, by the answer's code.
+-- What booking answers and leaves: the answer, and deal, tree and table afterwards, by the answer.
 use mathlib.Core.Path.{◌≡◌, refl, sym, ap, ap₂, ◌∙◌}
-use mathlib.Core.Bool.{Bool, true, false}
+use mathlib.Core.Bool.{true}
 use mathlib.Core.Logic.{◌≢◌}
 use mathlib.Core.List.{List}
-use Prim.Native.Nat.{ℕ, ◌+◌, ◌≤◌}
+use Prim.Native.Nat.{ℕ, ◌+◌, ◌-◌, ◌≤◌}
+use lib.Dec.{eqb}
 use native.Mathlib.Omega.{arith}
 use lib.ListN.{length}
-use Rattle.rules.specs.Choice.{choose}
+use Rattle.std.specs.Prelude.{Result, Ok, Err}
+use Rattle.rules.specs.Answers.{number}
+use Rattle.rules.specs.declared.Refusal.{Refusal}
 use Rattle.rules.specs.Refusals.{first_refusal}
 use Rattle.sizes.specs.Sizes.{lent_size_allowed, area, place_allowed}
 use Rattle.sizes.specs.SizesLaws.{index_start_le, slot_allowed}
-use Rattle.lent.specs.LentDeal.{LentDeal, lent_with, tree_deal, deal_size}
+use Rattle.lent.specs.LentDeal.{LentDeal, tree_deal, deal_size}
 use Rattle.lent.specs.Usable.{Usable}
-use Rattle.lent.specs.UsableLaws.{usable_same}
 use Rattle.index.specs.KeptRowsLaws.{slot_within}
 use Rattle.index.specs.Written.{slot_of}
 use Rattle.index.specs.SlotWrittenLaws.{slot_back}
-use Rattle.room.specs.Decide.{answer_to}
+use Rattle.room.specs.Decide.{answer_to, booked_of}
 use Rattle.room.specs.declared.Booked.{Booked}
+use Rattle.room.specs.declared.Placed.{Placed}
+use Rattle.room.specs.declared.Unbooked.{Unbooked}
+use Rattle.room.specs.declared.Unbooked.TheVariants.{Refused}
+use Rattle.room.specs.declared.Unbooked.TheVariants as Un
 use Rattle.room.specs.Decide.{Refuse, Place}
 use Rattle.ranges.specs.Ranges.{ranges_of}
 use Rattle.houses.specs.Houses.{table_sized, with_owner}
@@ -25,7 +31,7 @@ use Rattle.booking.specs.Write.{segment_commitment, written_at}
 use Rattle.booking.specs.WriteLaws.{Fits, written_at_lem}
 use Rattle.booking.specs.Booking.{book_rules, decision, book_answer, booked_deal, booked_table}
 use Rattle.booking.specs.BookedTree.{renewed_for, booked_tree}
-use Rattle.booking.specs.BookableLaws.{Bookable, BookableFor, bookable_deal, bookable_segment, bookable_usable}
+use Rattle.booking.specs.BookableLaws.{Bookable, BookableFor, bookable_deal, bookable_segment}
 use Rattle.booking.proofs.BookingLaws.{refused_is, answer_is, deal_is, code_0, refused_same, refused_table}
 use Rattle.booking.proofs.BookedLaws.{booked_fits, booked_is, booked_length, booked_table_is}
 use Rattle.booking.proofs.BookedTreeLaws.{refused_tree, tree_is}
@@ -86,99 +92,110 @@ module _ (deal : LentDeal) (table : List ℕ) (house : ℕ) (segment : List ℕ)
     pub table_kept : table ≡ booked_table deal table house segment
     table_kept = sym (refused_table deal table house segment refused)
 
--- answer, deal, tree and table, with a tree beside the deal or without one
-module _ (has_tree : Bool) (deal tree table : List ℕ) (house : ℕ) (segment : List ℕ) where
-  abbrev lent : LentDeal
-  lent = lent_with has_tree deal tree
+-- a refusal's number is not 0, and no answer but a place has the code 0
+some_number : (r : Refusal) → number r ≢ 0
+some_number r = grind arith
 
-  pub record Outcome (answer : Booked) (new_deal new_tree new_table : List ℕ) : Type 0 where
-    pub answered : answer ≡ book_answer lent table house segment
-    pub deal_left : new_deal ≡ booked_deal lent table house segment
-    pub tree_left : new_tree ≡ choose has_tree (booked_tree deal tree table house segment) tree
-    pub table_left : new_table ≡ booked_table lent table house segment
+pub no_place : (why : Unbooked) → (booked_of (Err why)).code ≢ 0
+no_place (Refused r) = some_number r
+no_place (Un.Already at) = λ z. omega arith
 
-  module _ (answer : Booked) (e : answer ≡ book_answer lent table house segment) where
-    -- with any code but 0 all of them stay
-    pub nothing_written : answer.code ≢ 0 → Outcome answer deal tree table
-    nothing_written h =
-        record {
-          answered = e;
-          deal_left = deal_kept lent table house segment answer e h;
-          tree_left = by_tree has_tree e;
-          table_left = table_kept lent table house segment answer e h;
-        }
-      where
-        by_tree : (b : Bool) → answer ≡ book_answer (lent_with b deal tree) table house segment
-            → tree ≡ choose b (booked_tree deal tree table house segment) tree
-        by_tree true q = sym (refused_tree deal tree table house segment (λ z. h (ap (λ (a : Booked). a.code) q ∙ z)))
-        by_tree false q = refl
+-- answer, deal and table: for a deal with a tree beside it or without one
+module _ (deal : LentDeal) (table : List ℕ) (house : ℕ) (segment : List ℕ) where
+  pub record Outcome (answer : Result Placed Unbooked) (new_deal new_table : List ℕ) : Type 0 where
+    pub answered : booked_of answer ≡ book_answer deal table house segment
+    pub deal_left : new_deal ≡ booked_deal deal table house segment
+    pub table_left : new_table ≡ booked_table deal table house segment
 
-    -- with 0 the segment is written, the tree brought up to date, and the owner set
-    module _ (z : answer.code ≡ 0) (new commitment : List ℕ)
-        (w : new ≡ written_at deal segment commitment answer.offset answer.place)
-        (c : commitment ≡ segment_commitment segment) where
-      deal_is_written : new ≡ booked_deal lent table house segment
-      deal_is_written = w ∙ deal_written lent table house segment answer e z commitment c
-
-      new_length : length new ≡ length deal
-      new_length = ap length deal_is_written ∙ booked_length lent table house segment
-
-      pub new_usable : Bookable lent segment → Usable (lent_with has_tree new tree)
-      new_usable b = usable_same has_tree deal tree new tree new_length refl (bookable_usable b)
-
-      pub new_within :
-          (answer.offset + area (length segment) ≤ length new) × (answer.place + 64 ≤ length new)
-      new_within =
-          let l = new_length in (
-            omega (arith, area_within lent table house segment answer e z),
-            omega (arith, entry_within lent table house segment answer e z),
-          )
-
-      pub owner_fits : BookableFor lent table house segment
-          → ((lent_size_allowed (length new) ≡ true) × (place_allowed (length new) answer.place ≡ true))
-          × (table_sized (length new) table ≡ true)
-      owner_fits b = (
-        (
-          ap lent_size_allowed new_length ∙ b.bookable.deal_allowed,
-          ap (λ (d : ℕ). place_allowed d answer.place) new_length ∙ place_fits lent table house segment answer e z,
-        ),
-        ap (λ (d : ℕ). table_sized d table) new_length ∙ b.table_sized_lem,
-      )
-
-      pub segment_written : (new_tree new_table : List ℕ)
-          → new_tree
-          ≡ choose has_tree (renewed_for new tree answer.offset (area (length segment)) answer.place) tree
-          → new_table ≡ with_owner table (slot_of (length new) answer.place) house
-          → Outcome answer new new_tree new_table
-      segment_written new_tree new_table t o =
-          record {
-            answered = e;
-            deal_left = deal_is_written;
-            tree_left = t ∙ by_tree has_tree e deal_is_written;
-            table_left =
-                o
-                ∙ ap (λ (d : ℕ). with_owner table (slot_of d answer.place) house) new_length
-                ∙ owner_set lent table house segment answer e z;
-          }
-        where
-          by_tree : (b : Bool) → answer ≡ book_answer (lent_with b deal tree) table house segment
-              → new ≡ booked_deal (lent_with b deal tree) table house segment
-              → choose b (renewed_for new tree answer.offset (area (length segment)) answer.place) tree
-              ≡ choose b (booked_tree deal tree table house segment) tree
-          by_tree true q n =
-              let beside = tree_deal deal tree in
-              let p = placed beside table house segment answer q z in
-              ap₂ (λ (x : List ℕ) (a : Booked). renewed_for x tree a.offset (area (length segment)) a.place)
-              (n ∙ booked_is beside table house segment p.0 p.1 p.2)
-              (answer_placed beside table house segment answer q z)
-              ∙ sym (tree_is deal tree table house segment (Place p.0 p.1) p.2)
-          by_tree false q n = refl
+  -- without a place both stay
+  pub nothing_written : (why : Unbooked) → booked_of (Err why) ≡ book_answer deal table house segment
+      → Outcome (Err why) deal.bytes table
+  nothing_written why e =
+      record {
+        answered = e;
+        deal_left = deal_kept deal table house segment (booked_of (Err why)) e (no_place why);
+        table_left = table_kept deal table house segment (booked_of (Err why)) e (no_place why);
+      }
 
   -- a refusal by the rules
-  pub refused_by : (code : ℕ) (answer : Booked) → code ≡ first_refusal (book_rules lent table house segment) → code ≢ 0
-      → answer ≡ record { code = code; offset = 0; place = 0 } → Outcome answer deal tree table
-  refused_by code answer c h e =
-      let d = refused_is lent table house segment (λ z. h (c ∙ z)) in
-      nothing_written answer
-      (e ∙ sym (answer_is lent table house segment (Refuse code) (d ∙ ap Refuse (sym c))))
-      (λ z. h (sym (ap (λ (a : Booked). a.code) e) ∙ z))
+  pub refused_by : (r : Refusal) → number r ≡ first_refusal (book_rules deal table house segment)
+      → Outcome (Err (Refused r)) deal.bytes table
+  refused_by r c =
+      let d = refused_is deal table house segment (λ z. some_number r (c ∙ z)) in
+      nothing_written (Refused r)
+      (sym (answer_is deal table house segment (Refuse (number r)) (d ∙ ap Refuse (sym c))))
+
+  -- with a place the segment is written, and the owner set
+  module _ (at : Placed) (e : booked_of (Ok at) ≡ book_answer deal table house segment) (new commitment : List ℕ)
+      (w : new ≡ written_at deal.bytes segment commitment at.offset at.place)
+      (c : commitment ≡ segment_commitment segment) where
+    abbrev answer : Booked
+    answer = booked_of (Ok at)
+
+    pub deal_is_written : new ≡ booked_deal deal table house segment
+    deal_is_written = w ∙ deal_written deal table house segment answer e refl commitment c
+
+    pub new_length : length new ≡ deal_size deal
+    new_length = ap length deal_is_written ∙ booked_length deal table house segment
+
+    pub new_within : (at.offset + area (length segment) ≤ length new) × (at.place + 64 ≤ length new)
+    new_within =
+        let l = new_length in (
+          omega (arith, area_within deal table house segment answer e refl),
+          omega (arith, entry_within deal table house segment answer e refl),
+        )
+
+    pub owner_fits : BookableFor deal table house segment
+        → ((lent_size_allowed (length new) ≡ true) × (place_allowed (length new) at.place ≡ true))
+        × (table_sized (length new) table ≡ true)
+    owner_fits b = (
+      (
+        ap lent_size_allowed new_length ∙ b.bookable.deal_allowed,
+        ap (λ (d : ℕ). place_allowed d at.place) new_length ∙ place_fits deal table house segment answer e refl,
+      ),
+      ap (λ (d : ℕ). table_sized d table) new_length ∙ b.table_sized_lem,
+    )
+
+    pub segment_written : (new_table : List ℕ) → new_table ≡ with_owner table (slot_of (length new) at.place) house
+        → Outcome (Ok at) new new_table
+    segment_written new_table o =
+        record {
+          answered = e;
+          deal_left = deal_is_written;
+          table_left =
+              o
+              ∙ ap (λ (d : ℕ). with_owner table (slot_of d at.place) house) new_length
+              ∙ owner_set deal table house segment answer e refl;
+        }
+
+-- the tree beside the deal
+module _ (deal tree table : List ℕ) (house : ℕ) (segment : List ℕ) where
+  abbrev beside : LentDeal
+  beside = tree_deal deal tree
+
+  -- without a place it stays
+  pub tree_kept : (why : Unbooked) → booked_of (Err why) ≡ book_answer (tree_deal deal tree) table house segment
+      → tree ≡ booked_tree deal tree table house segment
+  tree_kept why e =
+      sym (refused_tree deal tree table house segment
+      (λ z. no_place why (ap (λ (a : Booked). a.code) e ∙ z)))
+
+  -- with one it is brought up to date
+  module _ (at : Placed) (e : booked_of (Ok at) ≡ book_answer (tree_deal deal tree) table house segment)
+      (new : List ℕ) (w : new ≡ booked_deal (tree_deal deal tree) table house segment) where
+    pub new_usable : Bookable (tree_deal deal tree) segment → Usable (tree_deal new tree)
+    new_usable b =
+        let l = ap length w ∙ booked_length beside table house segment in
+        record {
+          size_allowed = ap lent_size_allowed l ∙ b.deal_allowed;
+          tree_sized_lem = ap (λ (n : ℕ). eqb (length tree) (n - 32)) l ∙ b.tree_sized_lem;
+        }
+
+    pub tree_renewed : renewed_for new tree at.offset (area (length segment)) at.place
+        ≡ booked_tree deal tree table house segment
+    tree_renewed =
+        let p = placed beside table house segment (booked_of (Ok at)) e refl in
+        ap₂ (λ (x : List ℕ) (a : Booked). renewed_for x tree a.offset (area (length segment)) a.place)
+        (w ∙ booked_is beside table house segment p.0 p.1 p.2)
+        (answer_placed beside table house segment (booked_of (Ok at)) e refl)
+        ∙ sym (tree_is deal tree table house segment (Place p.0 p.1) p.2)

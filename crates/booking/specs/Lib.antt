@@ -1,3 +1,4 @@
+pub mod AreaNode
 pub mod Write
 pub mod Booking
 pub mod KeepRows

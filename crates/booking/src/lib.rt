@@ -4,5 +4,6 @@
 mod booking; // booking.rt: the place for a segment, and writing it there
 mod keeping; // keeping.rt: a segment that is kept already
 mod refusing; // refusing.rt: the refusals before the slots are looked at
+mod segment; // segment.rt: a segment with its commitment
 
 pub use booking::{book, book_with_tree};

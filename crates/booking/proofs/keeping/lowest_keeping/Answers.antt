@@ -3,7 +3,7 @@ use Rattle.std.proofs.Common.{true≢false, eq-eqb, ne_eqb}
 use Rattle.rules.specs.RefusalLaws.{and_right, and_both, not_passed}
 use Rattle.rules.specs.Search.{lowest}
 use Rattle.rules.specs.SearchLaws.{lowest_start, found_here, found_later, found_nowhere}
-use Rattle.lent.specs.LentDeal.{lent_with}
+use Rattle.lent.specs.Seen.{seen}
 use Rattle.houses.specs.HousesLaws.{sized_length}
 use Rattle.booking.specs.Booking.{keeps_own}
 use Rattle.booking.proofs.keeping.lowest_keeping.Goals as goal
@@ -28,7 +28,7 @@ pub loop-i-init : goal.loop-i-init
 loop-i-init c =
     let a = c.args in (
       omega arith,
-      lowest_start (keeps_own (lent_with a.has_tree a.deal.now a.tree.now) a.table.now a.house a.segment.now)
+      lowest_start (keeps_own (seen a.deal.now) a.table.now a.house a.segment.now.bytes.now)
           c.entry_count-slots.result,
     )
 
@@ -40,7 +40,7 @@ bounds-table-i c =
 pub returns-then-slot_keeps : goal.returns-then-slot_keeps
 returns-then-slot_keeps c =
     let a = c.args in
-    let keeps = keeps_own (lent_with a.has_tree a.deal.now a.tree.now) a.table.now a.house a.segment.now in
+    let keeps = keeps_own (seen a.deal.now) a.table.now a.house a.segment.now.bytes.now in
     found_here keeps c.entry_count-slots.result c.loop-i.i c.loop-i.invariant.1 c.loop-i-test.true
     (own (get_or a.table.now c.loop-i.i 0) a.house c.slot_keeps.result _ c.if-table-i.true c.slot_keeps.ensures
     c.if-slot_keeps.true)
@@ -51,7 +51,7 @@ loop-i-preserved c =
     let a = c.args in
     let i = c.loop-i.i in
     let owner = get_or a.table.now i 0 in
-    let keeps = keeps_own (lent_with a.has_tree a.deal.now a.tree.now) a.table.now a.house a.segment.now in
+    let keeps = keeps_own (seen a.deal.now) a.table.now a.house a.segment.now.bytes.now in
     let passed_by : keeps i ≡ false = elim c.else-table-i.branch [
       | else-table-i-via-then-table-i+else-slot_keeps w ↦ not_kept (eqb owner a.house) w.slot_keeps.result _
           w.slot_keeps.ensures w.if-slot_keeps.false
@@ -64,6 +64,6 @@ loop-i-preserved c =
 pub returns : goal.returns
 returns c =
     let a = c.args in
-    let keeps = keeps_own (lent_with a.has_tree a.deal.now a.tree.now) a.table.now a.house a.segment.now in
+    let keeps = keeps_own (seen a.deal.now) a.table.now a.house a.segment.now.bytes.now in
     found_nowhere keeps c.entry_count-slots.result c.loop-i.i c.loop-i.invariant.1 (omega arith)
     ∙ ap (lowest keeps 0) c.entry_count-slots.ensures

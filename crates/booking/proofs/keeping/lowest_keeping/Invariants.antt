@@ -1,14 +1,10 @@
-use Rattle.std.proofs.Common.{◌≡◌, ◌≤◌, ◌-◌}
+use Rattle.std.proofs.Common.{◌≡◌, ◌-◌, length}
 use Rattle.rules.specs.Search.{lowest}
-use Rattle.lent.specs.LentDeal.{lent_with}
+use Rattle.lent.specs.Seen.{seen}
 use Rattle.booking.specs.Booking.{keeps_own}
 use Rattle.booking.proofs.keeping.lowest_keeping.Given as goal
 
 abbrev pub invariant-loop-i : goal.invariant-loop-i
 invariant-loop-i l =
-    (l.i ≤ l.slots)
-    × (lowest (keeps_own (lent_with l.has_tree l.deal l.tree) l.table l.house l.segment) 0 l.slots
-    ≡ lowest (keeps_own (lent_with l.has_tree l.deal l.tree) l.table l.house l.segment) l.i (l.slots - l.i))
-
-abbrev pub decreases-loop-i : goal.decreases-loop-i
-decreases-loop-i l = l.slots - l.i
+    lowest (keeps_own (seen l.deal) l.table l.house l.segment.bytes.now) 0 (length l.table)
+    ≡ lowest (keeps_own (seen l.deal) l.table l.house l.segment.bytes.now) l.i (length l.table - l.i)

@@ -3,7 +3,7 @@ use Rattle.stray.specs.StrayBits.{no_stray_bits}
 use Rattle.lent.specs.LentDeal.{lent_with}
 use Rattle.booking.specs.Write.{area_bytes}
 use Rattle.booking.proofs.FirstRefusal.{by_house, size_fits, area_clear, by_4, by_11, by_12, by_none}
-use Rattle.booking.proofs.refusing.first_refusal.Goals as goal
+use Rattle.booking.proofs.refusing.open.Goals as goal
 
 -- neither the deal nor the segment's area has stray bits
 both_clear : {deal area segment : Bool} → deal ≡ true → area ≡ segment → segment ≡ true → (deal && area) ≡ true
