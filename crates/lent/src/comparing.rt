@@ -10,7 +10,7 @@ ghost use Rattle.lent.specs.Seen.{seen};
 use crate::Lent;
 use paths::Difference;
 
-impl<'a> Lent<'a> {
+impl<'d, 't> Lent<'d, 't> {
     // Compares the strings of a path, from a node x at a position of a level, with the deal's own pairs of nodes along
     // it; `own_node` is the deal's own node there, and `own` its Merkle path. They are met from the bottom up, so the
     // last difference is the first from the top. `below` is the difference of what stands below.

@@ -19,9 +19,9 @@ pub use opening::tree_sized;
 // tree the inner nodes are taken as they stand there, without one they are worked out from the deal's bytes.
 #[derive(Drop)]
 #[derive(Clone, Copy)]
-pub struct Lent<'a> {
-    pub bytes: &'a [u8],
-    pub tree: Option<&'a [u8]>,
+pub struct Lent<'d, 't> {
+    pub bytes: &'d [u8],
+    pub tree: Option<&'t [u8]>,
     pub ghost usable: { Usable (lent_of bytes.now (option_map (λ t. t.now) tree)) },
 }
 

@@ -6,7 +6,7 @@ ghost use Rattle.lent.specs.Seen.{seen};
 
 use crate::Lent;
 
-impl<'a> Lent<'a> {
+impl<'d, 't> Lent<'d, 't> {
     // The node at a position of a level, with `levels` levels above it.
     pub fn node_in(&self, levels: usize, level: usize, position: usize) -> [u8; 32]
         requires { InTree (deal_level (length self.now.bytes.now)) (path_start levels level position) }

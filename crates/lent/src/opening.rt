@@ -19,10 +19,10 @@ pub fn tree_sized(size: usize, tree: Option<&[u8]>) -> bool
     }
 }
 
-impl<'a> Lent<'a> {
+impl<'d, 't> Lent<'d, 't> {
     // The deal, with the tree where there is one. 2 for a deal size that is not allowed, 11 for a deal with stray bits,
     // 12 for a tree of another length than the deal asks.
-    pub fn new(bytes: &'a [u8], tree: Option<&'a [u8]>) -> Result<Lent<'a>, Refusal>
+    pub fn new(bytes: &'d [u8], tree: Option<&'t [u8]>) -> Result<Lent<'d, 't>, Refusal>
         ensures code { code_of result ≡ deal_refusal (lent_of bytes.now (option_map (λ t. t.now) tree.entry)) }
         ensures deal { IfOk result (λ deal. seen deal ≡ lent_of bytes.now (option_map (λ t. t.now) tree.entry)) }
     {

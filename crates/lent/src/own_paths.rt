@@ -9,7 +9,7 @@ ghost use Rattle.lent.specs.PathNodes.{IsNode};
 
 use crate::{Lent, PathNode};
 
-impl<'a> Lent<'a> {
+impl<'d, 't> Lent<'d, 't> {
     // The node above a node of a level and its sibling, with `levels` levels above it.
     fn above(
         &self,
