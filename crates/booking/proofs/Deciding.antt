@@ -8,6 +8,7 @@ use Rattle.rules.specs.SearchLaws.{found_below}
 use Rattle.octets.specs.Fill.{zero_filled}
 use Rattle.merkle.specs.Tree.{commitment_of}
 use Rattle.sizes.specs.Sizes.{area, entry_count, index_start, segment_level}
+use Rattle.sizes.specs.SizesLaws.{LentSize, SegmentSize}
 use Rattle.lent.specs.LentDeal.{LentDeal, deal_size}
 use Rattle.index.specs.Slots.{slot_at}
 use Rattle.index.specs.KeptRowsLaws.{row_ends}
@@ -32,24 +33,22 @@ use Rattle.booking.specs.BookableLaws.{
 }
 use Rattle.booking.proofs.BookingLaws.{decision_is, answer_is}
 
-module _ (deal : LentDeal) (segment : List ℕ) (b : Bookable deal segment) where
-  -- the commitment, by the height of the area's tree
-  module _ (level : ℕ) (l : level ≡ segment_level (length segment)) where
-    pub level_fits : (level < 32) × (length segment ≤ 32 * 2 ^ level)
-    level_fits =
-        let s = bookable_segment b in
-        let t = bookable_deal b in
-        let e : area (length segment) ≡ 32 * 2 ^ level = s.area_is ∙ ap (λ (n : ℕ). 32 * 2 ^ n) (sym l) in
-        (omega (arith, s.below_deal, t.lent_level), omega (arith, s.size_area))
+-- the commitment, by the height of the area's tree
+module _ {d : ℕ} (segment : List ℕ) (t : LentSize d) (s : SegmentSize d (length segment)) (level : ℕ)
+    (l : level ≡ segment_level (length segment)) where
+  pub level_fits : (level < 32) × (length segment ≤ 32 * 2 ^ level)
+  level_fits =
+      let e : area (length segment) ≡ 32 * 2 ^ level = s.area_is ∙ ap (λ (n : ℕ). 32 * 2 ^ n) (sym l) in
+      (omega (arith, s.below_deal, t.lent_level), omega (arith, s.size_area))
 
-    pub commitment_by : commitment_of level (zero_filled (32 * 2 ^ level) segment) ≡ segment_commitment segment
-    commitment_by =
-        ap (λ (n : ℕ). commitment_of n (zero_filled (32 * 2 ^ n) segment)) l
-        ∙ ap (λ (n : ℕ). commitment_of (segment_level (length segment)) (zero_filled n segment))
-        (sym (bookable_segment b).area_is)
+  pub commitment_by : commitment_of level (zero_filled (32 * 2 ^ level) segment) ≡ segment_commitment segment
+  commitment_by =
+      ap (λ (n : ℕ). commitment_of n (zero_filled (32 * 2 ^ n) segment)) l
+      ∙ ap (λ (n : ℕ). commitment_of (segment_level (length segment)) (zero_filled n segment)) (sym s.area_is)
 
-  pub area_fits : (0 < area (length segment)) × (area (length segment) ≤ deal_size deal)
-  area_fits = (area_some b, omega (arith, (bookable_segment b).area_half))
+pub area_fits : (deal : LentDeal) (segment : List ℕ) → Bookable deal segment
+    → (0 < area (length segment)) × (area (length segment) ≤ deal_size deal)
+area_fits deal segment b = (area_some b, omega (arith, (bookable_segment b).area_half))
 
 -- for a house: as many slots are counted as the table has bytes
 module _ (deal : LentDeal) (table : List ℕ) (house : ℕ) (segment : List ℕ)

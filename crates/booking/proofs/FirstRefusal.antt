@@ -1,5 +1,5 @@
 -- Which of the rules before the slots refuses a booking, by the tests on the way.
-use mathlib.Core.Path.{◌≡◌, refl, sym, ◌∙◌}
+use mathlib.Core.Path.{◌≡◌, refl, sym, ap, ◌∙◌}
 use mathlib.Core.Bool.{Bool, true, false, ◌&&◌}
 use mathlib.Core.Logic.{◌≢◌}
 use mathlib.Core.List.{List, [], ◌∷◌, ◌++◌}
@@ -70,4 +70,7 @@ module _ (deal : LentDeal) (table : List ℕ) (house : ℕ) (segment : List ℕ)
       -- with a clear segment the refusals of the deal are left
       pub by_deal : no_stray_bits segment ≡ true → deal_refusal deal ≡ code
       unfolding deal_refusal
-      by_deal s = rw size_fits (sym (later ∙ rw (b, and_clear (no_stray_bits deal.bytes) (area_clear ∙ s))))
+      by_deal s =
+          ap (λ (x : Bool). first_of x 2 (first_of (no_stray_bits deal.bytes) 11 (first_of deal.tree_sized 12 0)))
+          size_fits
+          ∙ sym (later ∙ rw (b, and_clear (no_stray_bits deal.bytes) (area_clear ∙ s)))

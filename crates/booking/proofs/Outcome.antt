@@ -3,8 +3,7 @@ use mathlib.Core.Path.{◌≡◌, refl, sym, ap, ap₂, ◌∙◌}
 use mathlib.Core.Bool.{true}
 use mathlib.Core.Logic.{◌≢◌}
 use mathlib.Core.List.{List}
-use Prim.Native.Nat.{ℕ, ◌+◌, ◌-◌, ◌≤◌}
-use lib.Dec.{eqb}
+use Prim.Native.Nat.{ℕ, ◌+◌, ◌≤◌}
 use native.Mathlib.Omega.{arith}
 use lib.ListN.{length}
 use Rattle.std.specs.Prelude.{Result, Ok, Err}
@@ -15,6 +14,7 @@ use Rattle.sizes.specs.Sizes.{lent_size_allowed, area, place_allowed}
 use Rattle.sizes.specs.SizesLaws.{index_start_le, slot_allowed}
 use Rattle.lent.specs.LentDeal.{LentDeal, tree_deal, deal_size}
 use Rattle.lent.specs.Usable.{Usable}
+use Rattle.lent.specs.UsableLaws.{usable_same}
 use Rattle.index.specs.KeptRowsLaws.{slot_within}
 use Rattle.index.specs.Written.{slot_of}
 use Rattle.index.specs.SlotWrittenLaws.{slot_back}
@@ -31,7 +31,7 @@ use Rattle.booking.specs.Write.{segment_commitment, written_at}
 use Rattle.booking.specs.WriteLaws.{Fits, written_at_lem}
 use Rattle.booking.specs.Booking.{book_rules, decision, book_answer, booked_deal, booked_table}
 use Rattle.booking.specs.BookedTree.{renewed_for, booked_tree}
-use Rattle.booking.specs.BookableLaws.{Bookable, BookableFor, bookable_deal, bookable_segment}
+use Rattle.booking.specs.BookableLaws.{Bookable, BookableFor, bookable_deal, bookable_segment, bookable_usable}
 use Rattle.booking.proofs.BookingLaws.{refused_is, answer_is, deal_is, code_0, refused_same, refused_table}
 use Rattle.booking.proofs.BookedLaws.{booked_fits, booked_is, booked_length, booked_table_is}
 use Rattle.booking.proofs.BookedTreeLaws.{refused_tree, tree_is}
@@ -185,11 +185,7 @@ module _ (deal tree table : List ℕ) (house : ℕ) (segment : List ℕ) where
       (new : List ℕ) (w : new ≡ booked_deal (tree_deal deal tree) table house segment) where
     pub new_usable : Bookable (tree_deal deal tree) segment → Usable (tree_deal new tree)
     new_usable b =
-        let l = ap length w ∙ booked_length beside table house segment in
-        record {
-          size_allowed = ap lent_size_allowed l ∙ b.deal_allowed;
-          tree_sized_lem = ap (λ (n : ℕ). eqb (length tree) (n - 32)) l ∙ b.tree_sized_lem;
-        }
+        usable_same deal tree new tree (ap length w ∙ booked_length beside table house segment) refl (bookable_usable b)
 
     pub tree_renewed : renewed_for new tree at.offset (area (length segment)) at.place
         ≡ booked_tree deal tree table house segment

@@ -1,3 +1,4 @@
+pub mod Decided
 pub mod AreaNode
 pub mod Write
 pub mod Booking

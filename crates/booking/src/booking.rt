@@ -1,10 +1,11 @@
 // Booking: the place for a segment, and writing it there.
-ghost use Rattle.std.specs.Prelude.{◌≡◌, ◌+◌, ◌≤◌, ◌<◌, length};
+ghost use Rattle.std.specs.Prelude.{◌≡◌, ◌+◌, ◌≤◌, ◌<◌, length, option_map, IfOk};
 ghost use Rattle.sizes.specs.Sizes.{area};
-ghost use Rattle.lent.specs.LentDeal.{lent_deal, tree_deal};
+ghost use Rattle.lent.specs.LentDeal.{lent_of, lent_deal, tree_deal};
 ghost use Rattle.lent.specs.Seen.{seen};
 ghost use Rattle.lent.specs.Usable.{Usable};
 ghost use Rattle.room.specs.Decide.{booked_of};
+ghost use Rattle.booking.specs.Decided.{placed_in};
 ghost use Rattle.booking.specs.Booking.{book_answer, booked_deal, booked_table};
 ghost use Rattle.booking.specs.BookedTree.{renewed_for, booked_tree};
 ghost use Rattle.booking.specs.BookableLaws.{BookableFor};
@@ -33,6 +34,25 @@ fn place_for(
     let keeping = lowest_keeping(deal, table, house, segment, &ranges);
     let decision = room::decide(deal_size, &ranges, held, segment.area(), keeping);
     room::answer(deal_size, &ranges, decision)
+}
+
+// Where a segment goes in a deal, with a tree beside it or without one, and its commitment.
+fn decide<'a>(
+    deal: &[u8],
+    tree: Option<&[u8]>,
+    table: &[u8],
+    house: u8,
+    segment: &'a [u8],
+) -> Result<(Segment<'a>, Placed), Unbooked>
+    ensures answer { booked_of (placed_in result)
+        ≡ book_answer (lent_of deal.now (option_map (λ t. t.now) tree.entry)) table.now house
+        segment.now }
+    ensures segment { IfOk result (λ decided. decided.0.bytes.now ≡ segment.now) }
+{
+    let deal = open(deal, tree, table, house, segment)?;
+    let segment = Segment::new(&deal, segment);
+    let at = place_for(&deal, table, house, &segment)?;
+    Ok((segment, at))
 }
 
 // Brings the tree beside a deal up to date: the nodes above an area of this many bytes and above an entry, which were
@@ -65,9 +85,7 @@ pub fn book(
     ensures table_after { table.new
         ≡ booked_table (lent_deal deal.old) table.old house segment.now }
 {
-    let lent = open(deal, None, table, house, segment)?;
-    let segment = Segment::new(&lent, segment);
-    let at = place_for(&lent, table, house, &segment)?;
+    let (segment, at) = decide(deal, None, table, house, segment)?;
     segment.put(deal, at);
     houses::put_owner(deal.len() as u64, table, at.place, house);
     Ok(at)
@@ -95,9 +113,7 @@ pub fn book_with_tree(
         ≡ booked_table (tree_deal deal.old tree.old) table.old house
         segment.now }
 {
-    let lent = open(deal, Some(tree), table, house, segment)?;
-    let segment = Segment::new(&lent, segment);
-    let at = place_for(&lent, table, house, &segment)?;
+    let (segment, at) = decide(deal, Some(tree), table, house, segment)?;
     segment.put(deal, at);
     renew_written(deal, tree, segment.area(), at);
     houses::put_owner(deal.len() as u64, table, at.place, house);

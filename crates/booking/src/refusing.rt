@@ -12,13 +12,13 @@ use rules::Refusal;
 // The deal, with the tree where there is one, in which a segment may be booked as far as these rules go: 23 for a house
 // other than 1 or 2, 2 for a deal size that is not allowed, 23 for a table that has not one byte a slot, 4 for a segment
 // size that is not allowed in the deal, 11 for stray bits in either, 12 for a tree of another length than the deal asks.
-pub(crate) fn open<'a>(
-    deal: &'a [u8],
-    tree: Option<&'a [u8]>,
+pub(crate) fn open<'d, 't>(
+    deal: &'d [u8],
+    tree: Option<&'t [u8]>,
     table: &[u8],
     house: u8,
     segment: &[u8],
-) -> Result<Lent<'a>, Refusal>
+) -> Result<Lent<'d, 't>, Refusal>
     ensures code { code_of result
         ≡ first_refusal
         (book_rules (lent_of deal.now (option_map (λ t. t.now) tree.entry)) table.now house

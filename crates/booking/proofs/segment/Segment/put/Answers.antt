@@ -2,7 +2,7 @@ use Rattle.std.proofs.Common.{ap, ap₂, ◌∙◌, List, ℕ, arith}
 use Rattle.octets.specs.Fill.{zero_filled}
 use Rattle.octets.specs.Splice.{splice}
 use Rattle.entries.specs.Entry.{entry_of}
-use Rattle.booking.proofs.Segment.put.Goals as goal
+use Rattle.booking.proofs.segment.Segment.put.Goals as goal
 
 pub put_filled-requires : goal.put_filled-requires
 put_filled-requires c =
@@ -12,7 +12,7 @@ put_filled-requires c =
 pub returns : goal.returns
 returns c =
     let segment = c.args.self.now.bytes.now in
-    c.put_array.ensures
+    c.put_array.ensures.0
     ∙ ap₂ (λ (x y : List ℕ). splice x c.args.at.place y)
     (c.put_filled.ensures
     ∙ ap (λ (n : ℕ). splice c.args.deal.now c.args.at.offset (zero_filled n segment)) c.area.ensures)
