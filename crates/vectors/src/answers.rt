@@ -127,7 +127,7 @@ fn tally(rt: &impl Print, deal: &[u8]) -> io::Result<()> {
 }
 
 fn audit(rt: &impl Print, deal: &[u8], states: &mut [u8]) -> io::Result<()> {
-    show::code(rt, audit::audit(deal, states))?;
+    show::code(rt, rules::code_of(audit::audit(deal, states)))?;
     show::digest(rt, states)
 }
 
@@ -207,7 +207,7 @@ fn book(
     segment: &[u8],
 ) -> io::Result<()> {
     let answer = booking::book(deal, table, house_of(house), segment);
-    booked(rt, answer, deal)?;
+    booked(rt, room::booked_of(answer), deal)?;
     show::digest(rt, table)
 }
 
@@ -220,7 +220,7 @@ fn book_with_tree(
     segment: &[u8],
 ) -> io::Result<()> {
     let answer = booking::book_with_tree(deal, tree, table, house_of(house), segment);
-    booked(rt, answer, deal)?;
+    booked(rt, room::booked_of(answer), deal)?;
     show::digest(rt, tree)?;
     show::digest(rt, table)
 }
@@ -232,7 +232,8 @@ fn cancel(
     house: u64,
     place: u64,
 ) -> io::Result<()> {
-    show::code(rt, cancel::cancel(deal, table, house_of(house), place))?;
+    let answer = cancel::cancel(deal, table, house_of(house), place);
+    show::code(rt, rules::code_of(answer))?;
     show::digest(rt, deal)?;
     show::digest(rt, table)
 }
@@ -245,10 +246,8 @@ fn cancel_with_tree(
     house: u64,
     place: u64,
 ) -> io::Result<()> {
-    show::code(
-        rt,
-        cancel::cancel_with_tree(deal, tree, table, house_of(house), place),
-    )?;
+    let answer = cancel::cancel_with_tree(deal, tree, table, house_of(house), place);
+    show::code(rt, rules::code_of(answer))?;
     show::digest(rt, deal)?;
     show::digest(rt, tree)?;
     show::digest(rt, table)

@@ -3,19 +3,21 @@ ghost use Rattle.std.specs.Prelude.{◌≡◌};
 ghost use Rattle.tree.specs.RowAbove.{row_code, filled_row};
 ghost use Rattle.lent.specs.LentDeal.{lent_deal, tree_deal, deal_refusal};
 ghost use Rattle.lent.specs.FilledTree.{filled_tree};
+ghost use Rattle.room.specs.Decide.{booked_of};
 ghost use Rattle.booking.specs.Booking.{book_answer, booked_deal, booked_table};
 ghost use Rattle.booking.specs.BookedTree.{booked_tree};
 ghost use Rattle.vizhuthamen.specs.Export.{lent_output_or};
 
 use crate::output::{write_u64, written_with};
-use room::Booked;
+use room::{Placed, Unbooked};
 
 // Writes the two numbers of an answer, and gives its code.
-fn write_booked(answer: Booked, offset: &mut u64, place: &mut u64) -> u32
-    ensures value { result ≡ answer.code }
-    ensures offset_after { offset.new ≡ lent_output_or 15 result answer.offset offset.old }
-    ensures place_after { place.new ≡ lent_output_or 15 result answer.place place.old }
+fn write_booked(booked: Result<Placed, Unbooked>, offset: &mut u64, place: &mut u64) -> u32
+    ensures value { result ≡ (booked_of booked).code }
+    ensures offset_after { offset.new ≡ lent_output_or 15 result (booked_of booked).offset offset.old }
+    ensures place_after { place.new ≡ lent_output_or 15 result (booked_of booked).place place.old }
 {
+    let answer = room::booked_of(booked);
     let written = written_with(answer.code, 15);
     write_u64(written, answer.offset, offset);
     write_u64(written, answer.place, place);

@@ -13,7 +13,7 @@ pub extern "C" fn vz_cancel(deal: &mut [u8], table: &mut [u8], house: u8, place:
     ensures table_after { table.new
         ≡ cancelled_table (lent_deal deal.old) table.old house place }
 {
-    cancel::cancel(deal, table, house, place) as u32
+    rules::code_of(cancel::cancel(deal, table, house, place)) as u32
 }
 
 // The same with the tree beside the deal, which is brought up to date.
@@ -34,7 +34,7 @@ pub extern "C" fn vz_cancel_with_tree(
     ensures table_after { table.new
         ≡ cancelled_table (tree_deal deal.old tree.old) table.old house place }
 {
-    cancel::cancel_with_tree(deal, tree, table, house, place) as u32
+    rules::code_of(cancel::cancel_with_tree(deal, tree, table, house, place)) as u32
 }
 
 // Collects a deal and its table of owners into second ones of the same lengths.

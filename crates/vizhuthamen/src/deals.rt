@@ -12,7 +12,7 @@ pub extern "C" fn vz_audit(deal: &[u8], states: &mut [u8]) -> u32
     ensures value { result ≡ audit_code deal.now states.old }
     ensures states_after { states.new ≡ audited_states deal.now states.old }
 {
-    audit::audit(deal, states) as u32
+    rules::code_of(audit::audit(deal, states)) as u32
 }
 
 // How many slots of a deal's index are blank, damaged and valid.

@@ -4,7 +4,8 @@ ghost use Rattle.std.specs.Prelude.{◌≡◌, length};
 use crate::calls;
 use crate::calls::Call;
 use crate::parts::{lent_length, part};
-use room::Booked;
+use room::{Booked, Placed, Unbooked};
+use rules::Refusal;
 
 // A code, with no offset and no entry place.
 fn code_alone(code: u8) -> Booked {
@@ -26,7 +27,7 @@ fn segment_bytes(segment: u8) -> [u8; 4096]
     bytes
 }
 
-fn book(deal: &mut [u8], tree: &mut [u8], table: &mut [u8], call: Call) -> Booked {
+fn book(deal: &mut [u8], tree: &mut [u8], table: &mut [u8], call: Call) -> Result<Placed, Unbooked> {
     let bytes = segment_bytes(call.segment);
     let segment = part(&bytes, 0, call.size);
     let deal_end = lent_length(deal, call.short == calls::DEAL);
@@ -49,7 +50,12 @@ fn book(deal: &mut [u8], tree: &mut [u8], table: &mut [u8], call: Call) -> Booke
     )
 }
 
-fn cancel(deal: &mut [u8], tree: &mut [u8], table: &mut [u8], call: Call) -> u8 {
+fn cancel(
+    deal: &mut [u8],
+    tree: &mut [u8],
+    table: &mut [u8],
+    call: Call,
+) -> Result<(), Refusal> {
     let deal_end = lent_length(deal, call.short == calls::DEAL);
     let table_end = lent_length(table, call.short == calls::TABLE);
     if call.with_tree {
@@ -139,10 +145,10 @@ fn answer(
     call: Call,
 ) -> Booked {
     if call.kind == calls::BOOKING {
-        return book(deal, tree, table, call);
+        return room::booked_of(book(deal, tree, table, call));
     }
     if call.kind == calls::CANCELLING {
-        return code_alone(cancel(deal, tree, table, call));
+        return code_alone(rules::code_of(cancel(deal, tree, table, call)));
     }
     code_alone(collect_and_go_on(deal, tree, table, second, second_tree, second_table, call))
 }

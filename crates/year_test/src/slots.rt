@@ -62,7 +62,7 @@ fn slot_of(deal: &[u8], i: usize, state: u8, owner: u8) -> Slot
 // The slots of a deal and its table. In a deal that an audit refuses nothing stands.
 pub(crate) fn slots_of(deal: &[u8], table: &[u8]) -> Slots {
     let mut states = [0u8; SLOTS];
-    audit::audit(deal, &mut states);
+    let _ = audit::audit(deal, &mut states);
     let none = vacant();
     let mut slots = [none; SLOTS];
     for i in 0..SLOTS {
