@@ -15,14 +15,14 @@ use Rattle.tree.specs.RowAbove.{row_above}
 use Rattle.tree.specs.RowAboveLaws.{above_length, above_split}
 
 module _ (below : List ℕ) (at : ℕ) where
-  pair_is : (l : ℕ) → pair_from below at l ≡ part below (at + 64 * l) 64
+  pub pair_is : (l : ℕ) → pair_from below at l ≡ part below (at + 64 * l) 64
   pair_is l =
       let a : at + l * 64 ≡ at + 64 * l = omega arith in
       let b : at + 32 + l * 64 ≡ at + 64 * l + 32 = omega arith in
       ap₂ (λ (p q : ℕ). part below p 32 ++ part below q 32) a b ∙ part_append below (at + 64 * l) 32 32
 
   -- the nodes over one more pair
-  last_above : (n : ℕ) → row_above (suc n) (drop at below)
+  pub last_above : (n : ℕ) → row_above (suc n) (drop at below)
       ≡ row_above n (drop at below) ++ node_hash (part below (at + 64 * n) 64)
   unfolding row_above part
   last_above n =
@@ -43,6 +43,22 @@ module _ (below : List ℕ) (at : ℕ) where
       (lanes_above nodes n (omega arith) (λ j g. held j (omega arith)))
       (held_hash nodes (pair_from below at n) n (held n (omega arith)) ∙ ap node_hash (pair_is n))
       ∙ sym (last_above n)
+
+-- one more node written behind i of them
+pub one_more : (below above : List ℕ) (first i : ℕ) (now node : List ℕ) → 32 * (first + i) ≤ length above
+    → now ≡ splice above (32 * first) (row_above i (drop (64 * first) below))
+    → node ≡ node_hash (part below (64 * (first + i)) 64)
+    → splice now (32 * (first + i)) node
+    ≡ splice above (32 * first) (row_above (i + 1) (drop (64 * first) below))
+one_more below above first i now node room en ex =
+    let at : ℕ = 64 * first in
+    let e : 64 * (first + i) ≡ at + 64 * i = omega arith in
+    let n : suc i ≡ i + 1 = omega arith in
+    let l = above_length i (drop at below) in
+    ap₂ (λ (d x : List ℕ). splice d (32 * (first + i)) x) en (ex ∙ ap (λ (k : ℕ). node_hash (part below k 64)) e)
+    ∙ splice_append above (32 * first) (32 * (first + i)) (row_above i (drop at below))
+    (node_hash (part below (at + 64 * i) 64)) (omega arith) (omega arith)
+    ∙ ap (splice above (32 * first)) (sym (last_above below at i) ∙ ap (λ (k : ℕ). row_above k (drop at below)) n)
 
 -- no node written
 pub nothing_above : (below above : List ℕ) (first count : ℕ) → count ≡ 0

@@ -1,5 +1,5 @@
 -- What the proofs of several functions use.
 pub mod Rows
-pub mod RowLanes
 pub mod LanesAbove
+pub mod RowPairs
 pub mod Levels

@@ -1,13 +1,27 @@
 // A row of nodes, or a part of one, written from the row below it: the two stand in slices of their own, so parts of
 // one tree can be filled at the same time.
-ghost use Rattle.std.specs.Prelude.{◌≡◌, ◌+◌, ◌*◌, ◌≤◌, ◌<◌, length, drop};
+ghost use Rattle.std.specs.Prelude.{◌≡◌, ℕ, ◌+◌, ◌*◌, ◌≤◌, ◌<◌, length, drop};
 ghost use Rattle.rules.specs.Answers.{code_of};
 ghost use Rattle.octets.specs.Splice.{splice};
+ghost use Rattle.node.specs.Node.{node_hash};
 ghost use Rattle.lanes.specs.Lanes.{lanes};
+ghost use Rattle.lanes.specs.NodeWords.{Holds};
+ghost use Rattle.tree.specs.RowLanes.{pair_from};
 ghost use Rattle.tree.specs.RowAbove.{row_above, row_code, filled_row};
 
-use crate::row::over_pairs;
+use node::node_hash;
+use octets::{array_at, put_array};
 use rules::Refusal;
+
+// The nodes over `count` pairs that stand side by side from `at` on, each in a lane.
+fn over_pairs(run: &[u8], at: usize, count: usize) -> [u32; 128]
+    requires { (0 < count) × (count ≤ lanes) × (at + 64 * count ≤ length run.now) }
+    ensures { (l : ℕ) → l < count → Holds result l (node_hash (pair_from run.now at l)) }
+{
+    let left = lanes::load_nodes(run, 64, at, count);
+    let right = lanes::load_nodes(run, 64, at + 32, count);
+    lanes::hash_nodes(left, right, count)
+}
 
 // Writes one to sixteen nodes from position `first` on, all at once.
 fn fill_lanes(below: &[u8], above: &mut [u8], first: usize, count: usize)
@@ -20,14 +34,28 @@ fn fill_lanes(below: &[u8], above: &mut [u8], first: usize, count: usize)
     lanes::store_nodes(nodes, count, above, 32 * first);
 }
 
-// The same for none to sixteen nodes. Sixteen are a case of their own, for which a compiler makes code without a count.
+// Writes nodes from position `first` on, one after the other.
+fn fill_singly(below: &[u8], above: &mut [u8], first: usize, count: usize)
+    requires { (64 * (first + count) ≤ length below.now) × (32 * (first + count) ≤ length above.old) }
+    ensures { above.new
+        ≡ splice above.old (32 * first) (row_above count (drop (64 * first) below.now)) }
+{
+    for i in 0..count {
+        let node = node_hash(array_at(below, 64 * (first + i)));
+        put_array(above, 32 * (first + i), node);
+    }
+}
+
+// The same for none to sixteen nodes: from four on all at once, fewer one after the other. Sixteen are a case of their
+// own, for which a compiler makes code without a count.
 fn fill_few(below: &[u8], above: &mut [u8], first: usize, count: usize)
     requires { (64 * (first + count) ≤ length below.now) × (32 * (first + count) ≤ length above.old)
         × (count ≤ lanes) }
     ensures { above.new
         ≡ splice above.old (32 * first) (row_above count (drop (64 * first) below.now)) }
 {
-    if count == 0 {
+    if count < 4 {
+        fill_singly(below, above, first, count);
         return;
     }
     if count == 16 {
@@ -37,8 +65,10 @@ fn fill_few(below: &[u8], above: &mut [u8], first: usize, count: usize)
     fill_lanes(below, above, first, count);
 }
 
-// The same for any number of nodes: more than sixteen go by two parts, of which the first is made of sixteens.
-fn fill_part(below: &[u8], above: &mut [u8], first: usize, count: usize)
+// The same for any number of nodes: more than sixteen go by two parts, of which the first is made of sixteens. Two
+// parts and no loop: within the loop over the heights of a tree a compiler would put the loads of the lanes in line, and
+// read them byte by byte.
+pub(crate) fn fill_part(below: &[u8], above: &mut [u8], first: usize, count: usize)
     requires { (64 * (first + count) ≤ length below.now) × (32 * (first + count) ≤ length above.old) }
     ensures { above.new
         ≡ splice above.old (32 * first) (row_above count (drop (64 * first) below.now)) }
@@ -58,7 +88,10 @@ pub fn fill_row(below: &[u8], above: &mut [u8]) -> Result<(), Refusal>
     ensures value { code_of result ≡ row_code below.now above.old }
     ensures above_after { above.new ≡ filled_row below.now above.old }
 {
-    if below.len() % 64 != 0 || above.len() != below.len() / 2 {
+    if below.len() % 64 != 0 {
+        return Err(Refusal::Output);
+    }
+    if above.len() != below.len() / 2 {
         return Err(Refusal::Output);
     }
     fill_part(below, above, 0, below.len() / 64);

@@ -2,8 +2,7 @@
 #![tactic(auto)]
 
 mod nodes; // nodes.rt: where the nodes stand
-mod row; // row.rt: nodes of a row worked out from their children
-mod above; // above.rt: a row written from the row below it, in slices of their own
+mod above; // above.rt: a row written from the row below it
 mod renewal; // renewal.rt: filling the buffer, and bringing it up to date
 
 pub use above::fill_row;

@@ -1,10 +1,27 @@
 // Filling the buffer, and bringing it up to date after a part of the deal was written.
-ghost use Rattle.std.specs.Prelude.{◌≡◌, ◌+◌, ◌*◌, ◌^◌, ◌≤◌, ◌<◌, length};
+ghost use Rattle.std.specs.Prelude.{◌≡◌, suc, ◌+◌, ◌*◌, ◌^◌, ◌≤◌, ◌<◌, length};
+ghost use Rattle.tree.specs.Place.{RowInTree};
 ghost use Rattle.tree.specs.TreeNodes.{SizedFor};
 ghost use Rattle.tree.specs.Filled.{filled};
-ghost use Rattle.tree.specs.Renewed.{renewed};
+ghost use Rattle.tree.specs.Renewed.{renewed_row, renewed};
 
-use crate::row::renew_row;
+use crate::above::fill_part;
+use crate::nodes::node_place;
+
+// Works the nodes at `count` positions from `first` on, one level above `below`, out from their children: the row below
+// stands in the deal, or in the buffer before the row above.
+fn renew_row(deal: &[u8], tree: &mut [u8], below: usize, first: usize, count: usize)
+    requires { RowInTree (length deal.now) (suc below) first count × SizedFor deal.now tree.old }
+    ensures { tree.new ≡ renewed_row deal.now tree.old below first count }
+{
+    if below == 0 {
+        fill_part(deal, tree, first, count);
+        return;
+    }
+    let children = node_place(deal.len(), below, 0);
+    let (rows, above) = tree.split_at_mut(node_place(deal.len(), below + 1, 0));
+    fill_part(rows.split_at(children).1, above, first, count);
+}
 
 // Brings the buffer up to date after `len` bytes of a deal of 2^top nodes were written from a place on.
 pub fn renew(deal: &[u8], tree: &mut [u8], top: usize, from: usize, len: usize)
@@ -14,12 +31,10 @@ pub fn renew(deal: &[u8], tree: &mut [u8], top: usize, from: usize, len: usize)
 {
     let last = from + len - 1;
     let mut span: usize = 32;
-    let mut below: usize = 0;
-    while below < top {
+    for below in 0..top {
         span = span * 2;
         let first = from / span;
         renew_row(deal, tree, below, first, last / span + 1 - first);
-        below += 1;
     }
 }
 

@@ -1,17 +1,11 @@
--- `fill_few`: nothing, or the nodes over the pairs, where a count of 16 may stand as 16.
+-- `fill_few`: the nodes over the pairs, where a count of 16 may stand as 16.
 use mathlib.Core.Path.{◌≡◌, ap, ◌∙◌}
 use Prim.Native.Nat.{ℕ, ◌*◌}
 use native.Mathlib.Omega.{arith}
 use lib.ListN.{drop}
 use Rattle.octets.specs.Splice.{splice}
 use Rattle.tree.specs.RowAbove.{row_above}
-use Rattle.tree.proofs.LanesAbove.{nothing_above}
 use Rattle.tree.proofs.above.fill_few.Goals as goal
-
-pub returns-then-count-eq0 : goal.returns-then-count-eq0
-returns-then-count-eq0 c =
-    let a = c.args in
-    nothing_above a.below.now a.above.now a.first a.count (omega arith)
 
 pub returns-then-count-eq16 : goal.returns-then-count-eq16
 returns-then-count-eq16 c =

@@ -14,7 +14,7 @@ use Rattle.tree.proofs.renewal.renew.Goals as goal
 pub loop-below-init : goal.loop-below-init
 loop-below-init c =
     let a = c.args in
-    (omega arith, refl, refl, up_start a.deal.now a.from a.len a.top a.tree.now)
+    (refl, up_start a.deal.now a.from a.len a.top a.tree.now)
 
 pub overflow_mul-span : goal.overflow_mul-span
 overflow_mul-span c =
@@ -24,7 +24,7 @@ overflow_mul-span c =
       fits = omega (
         arith,
         (span_fits D a.top c.loop-below.span c.loop-below.below c.requires.deal_len.0
-            (omega arith) c.loop-below.invariant.1).1,
+            (omega arith) c.loop-below.invariant.0).1,
       );
     }
 
@@ -35,7 +35,7 @@ nonzero_div-first c =
     omega (
       arith,
       (span_fits D a.top c.loop-below.span c.loop-below.below c.requires.deal_len.0 (omega arith)
-          c.loop-below.invariant.1).0,
+          c.loop-below.invariant.0).0,
     )
 
 pub nonzero_div-last : goal.nonzero_div-last
@@ -45,7 +45,7 @@ nonzero_div-last c =
     omega (
       arith,
       (span_fits D a.top c.loop-below.span c.loop-below.below c.requires.deal_len.0 (omega arith)
-          c.loop-below.invariant.1).0,
+          c.loop-below.invariant.0).0,
     )
 
 pub overflow_add-last-in-loop-below : goal.overflow_add-last-in-loop-below
@@ -58,7 +58,7 @@ overflow_sub-last-in-loop-below c =
     let a = c.args in
     let D = length a.deal.now in
     let p = (span_fits D a.top c.loop-below.span c.loop-below.below c.requires.deal_len.0
-    (omega arith) c.loop-below.invariant.1).0 in
+    (omega arith) c.loop-below.invariant.0).0 in
     omega (
       arith,
       in_order a.from (a.from + a.len - 1) (c.loop-below.span * 2) p
@@ -72,10 +72,10 @@ renew_row-requires c =
     let b = c.loop-below.below in
     let above : a.top ≡ suc b + (a.top - suc b) = omega arith in (
       subst (λ (n : ℕ). RowInTree D (suc b) (a.from / n) ((a.from + a.len - 1) / n + 1 - a.from / n))
-          (sym (next_span c.loop-below.span b c.loop-below.invariant.1))
+          (sym (next_span c.loop-below.span b c.loop-below.invariant.0))
           (level_row a.deal.now a.from a.len c.requires.len_nonzero.0 c.requires.len_nonzero.1 (suc b) (a.top - suc b)
           (c.requires.deal_len.0 ∙ ap (λ (n : ℕ). 32 * 2 ^ n) above)),
-      omega (arith, c.requires.deal_len.1, c.loop-below.invariant.2),
+      omega (arith, c.requires.deal_len.1, c.loop-below.auto.tree),
     )
 
 pub loop-below-preserved : goal.loop-below-preserved
@@ -84,11 +84,9 @@ loop-below-preserved c =
     let b = c.loop-below.below in
     let d = a.deal.now in
     let next : suc b ≡ b + 1 = omega arith in
-    let span = next_span c.loop-below.span b c.loop-below.invariant.1 in (
-      omega arith,
+    let span = next_span c.loop-below.span b c.loop-below.invariant.0 in (
       span ∙ ap (λ (n : ℕ). 32 * 2 ^ n) next,
-      c.renew_row.auto.tree ∙ c.loop-below.invariant.2,
-      c.loop-below.invariant.3
+      c.loop-below.invariant.1
           ∙ up_next d a.from a.len a.top b c.loop-below.tree (omega arith)
           ∙ ap (λ (t : List ℕ). renewed_up d t a.from a.len (b + 1) (a.top - (b + 1)))
           (sym (c.renew_row.ensures
@@ -99,5 +97,5 @@ loop-below-preserved c =
 pub returns : goal.returns
 returns c =
     let a = c.args in
-    sym (c.loop-below.invariant.3 ∙ up_over a.deal.now a.from a.len a.top c.loop-below.below c.loop-below.tree
+    sym (c.loop-below.invariant.1 ∙ up_over a.deal.now a.from a.len a.top c.loop-below.below c.loop-below.tree
     (omega arith))

@@ -1,7 +1,7 @@
 -- `over_pairs`: the left nodes and the right ones, side by side.
 use Prim.Native.Nat.{◌+◌, ◌*◌}
 use Rattle.octets.specs.Splice.{part}
-use Rattle.tree.proofs.row.over_pairs.Goals as goal
+use Rattle.tree.proofs.above.over_pairs.Goals as goal
 
 pub returns : goal.returns
 returns c =
