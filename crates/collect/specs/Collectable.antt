@@ -55,3 +55,10 @@ pub record From (deal : List ℕ) (x : ℕ) : Type 0 where
   pub kept_is : kept_at (lent_deal (collected_deal deal)) x ≡ kept_at (lent_deal deal) old
   pub only : (j : ℕ) → j < entry_count (length deal) → standing (length deal) (slot_at deal j) ≡ true
       → slot_to deal j ≡ x → j ≡ old
+
+-- what the routine that writes asks for: a deal that can be collected, and a table and second ones of its length
+pub record Movable (deal table second second_table : List ℕ) : Type 0 where
+  pub collectable : Collectable deal
+  pub table_sized_lem : table_sized (length deal) table ≡ true
+  pub second_sized : table_sized (length deal) second_table ≡ true
+  pub second_length : length second ≡ length deal

@@ -1,3 +1,4 @@
+pub mod ListLaws
 pub mod Room
 pub mod Decide
 pub mod OverlapLaws

@@ -1,7 +1,8 @@
 -- What the searches for a free slot and a free place say, over ranges.
-use Rattle.std.specs.Prelude.{◌≡◌, refl, Bool, true, false, ◌↔◌, ℕ, ◌+◌, ◌-◌, ◌*◌, ◌/◌, ◌%◌, ◌≤◌, ◌<◌}
+use Rattle.std.specs.Prelude.{List, length, take, position, ◌==◌, ◌≡◌, refl, Bool, true, false, ◌↔◌, ℕ, ◌+◌, ◌-◌, ◌*◌, ◌/◌, ◌%◌, ◌≤◌, ◌<◌}
 use Rattle.std.proofs.Common.{sym, ap, ◌∙◌, true≢false, mul-lt-mul_of_pos_right, lt_of_mul-lt-mul_right, arith}
 use Rattle.std.proofs.lemmas.Bool.{false≢true}
+use Rattle.std.proofs.lemmas.List.{get_or-take, length-take-le}
 use Rattle.std.proofs.Math.Nat.{mul-mod_left}
 use Rattle.rules.specs.RefusalLaws.{not_passed}
 use Rattle.std.specs.Prelude.{Option}
@@ -21,7 +22,10 @@ use Rattle.sizes.specs.Sizes.{lent_size_allowed, entry_count}
 use Rattle.sizes.specs.SizesLaws.{lent_size}
 use Rattle.room.specs.Room.{
   Range,
+  range,
   SameBelow,
+  EndBy,
+  ranges_in,
   is_empty,
   overlaps,
   is_missing,
@@ -30,6 +34,7 @@ use Rattle.room.specs.Room.{
   fits,
   lowest_place,
 }
+use Rattle.room.specs.ListLaws.{position_lowest}
 use Rattle.room.specs.OverlapLaws.{overlap_true, multiple, place_ends, overlap_jump}
 
 -- a lent deal has at most 128 slots
@@ -160,3 +165,44 @@ module _ (slots : ℕ) (r s : ℕ → Range) (same : SameBelow slots r s) where
   place_cong n limit =
       lowest_cong (λ k. fits r slots n (k * n)) (λ k. fits s slots n (k * n)) 0 (limit / n)
       (λ k a b. fits_cong n (k * n))
+
+-- the first ranges of a list: the same, and searched as the list is up to their number
+module _ (n : ℕ) (ranges : List Range) (h : n ≤ length ranges) where
+  pub first_length : length (take n ranges) ≡ n
+  first_length = length-take-le n ranges h
+
+  pub first_same : SameBelow n (ranges_in (take n ranges)) (ranges_in ranges)
+  first_same i l = get_or-take n ranges i (range 0 0) l
+
+  pub first_end : (limit : ℕ) → EndBy limit n (ranges_in ranges)
+      → EndBy limit (length (take n ranges)) (ranges_in (take n ranges))
+  first_end limit e i l =
+      let below : i < n = omega (arith, first_length) in
+      let same = first_same i below in
+      omega (arith, ap (λ (r : Range). r.offset) same, ap (λ (r : Range). r.area) same, e i below)
+
+  pub first_overlap : (o m : ℕ)
+      → lowest_overlap (ranges_in (take n ranges)) (length (take n ranges)) o m ≡ lowest_overlap (ranges_in ranges) n o m
+  first_overlap o m =
+      ap (λ (k : ℕ). lowest_overlap (ranges_in (take n ranges)) k o m) first_length
+      ∙ lowest_cong (λ i. overlaps o m (ranges_in (take n ranges) i)) (λ i. overlaps o m (ranges_in ranges i)) 0 n
+      (λ j a b. ap (overlaps o m) (first_same j (omega arith)))
+
+  pub first_free_slot :
+      lowest_free_slot (ranges_in (take n ranges)) (length (take n ranges)) ≡ lowest_free_slot (ranges_in ranges) n
+  first_free_slot =
+      ap (lowest_free_slot (ranges_in (take n ranges))) first_length
+      ∙ free_slot_cong n (ranges_in (take n ranges)) (ranges_in ranges) first_same
+
+  pub first_place : (m limit : ℕ)
+      → lowest_place (ranges_in (take n ranges)) (length (take n ranges)) m limit
+      ≡ lowest_place (ranges_in ranges) n m limit
+  first_place m limit =
+      ap (λ (k : ℕ). lowest_place (ranges_in (take n ranges)) k m limit) first_length
+      ∙ place_cong n (ranges_in (take n ranges)) (ranges_in ranges) first_same m limit
+
+-- the lowest free slot of a list is the first place of a range that is empty
+pub free_slot_position : (ranges : List Range)
+    → position (λ r. r.area == 0) ranges ≡ lowest_free_slot (ranges_in ranges) (length ranges)
+free_slot_position ranges =
+    position_lowest is_empty (range 0 0) (λ i. is_empty (ranges_in ranges i)) ranges (λ j h. refl)

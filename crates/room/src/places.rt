@@ -1,7 +1,7 @@
 // Overlaps, the lowest free slot and the lowest free place.
-ghost use Rattle.std.specs.Prelude.{◌≡◌, ◌+◌, ◌^◌, ◌≤◌, ◌<◌, length};
+ghost use Rattle.std.specs.Prelude.{◌≡◌, ◌+◌, ◌^◌, ◌≤◌, ◌<◌, length, position, ◌==◌};
 ghost use Rattle.room.specs.Room as R;
-ghost use Rattle.room.specs.Room.{Bounded, ranges_in, overlaps, lowest_overlap, lowest_free_slot, lowest_place};
+ghost use Rattle.room.specs.Room.{Bounded, ranges_in, overlaps, lowest_overlap, lowest_place};
 
 use crate::Range;
 
@@ -26,9 +26,9 @@ pub fn lowest_overlap(ranges: &[Range], range: Range) -> Option<usize>
     None
 }
 
-// The lowest free slot: one whose range is empty.
+// The lowest free slot: one whose range is empty. It is `lowest_free_slot` of the ranges, by `free_slot_position`.
 pub(crate) fn lowest_free_slot(ranges: &[Range]) -> Option<usize>
-    ensures { result ≡ lowest_free_slot (ranges_in ranges.now) (length ranges.now) }
+    ensures { result ≡ position (λ r. r.area == 0) ranges.now }
 {
     ranges.iter().position(|range| range.area == 0)
 }

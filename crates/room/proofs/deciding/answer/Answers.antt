@@ -7,23 +7,23 @@ use Rattle.sizes.specs.Sizes.{entry_count, lent_size_allowed}
 use Rattle.sizes.specs.SizesLaws.{lent_size}
 use Rattle.room.specs.Room.{ranges_in}
 use Rattle.room.specs.RoomLaws.{slots_high}
-use Rattle.room.specs.Decide.{SlotBelow, answer_to}
-use Rattle.room.specs.Decide.{Decision}
+use Rattle.room.specs.Decide.{SlotBelow, answer_to, decision_of}
+use Rattle.room.specs.declared.Decision.{Decision}
 use Rattle.room.specs.declared.Booked.{Booked}
 use Rattle.room.specs.Room.{Range}
 use Rattle.std.specs.Prelude.{List}
-use Rattle.room.specs.Decide.{Already}
+use Rattle.room.specs.declared.Decision.TheVariants.{Already}
 use Rattle.room.proofs.deciding.answer.Goals as goal
 
 -- the answer to a decision
 abbrev answered : ℕ → List Range → Decision → Booked
-answered size ranges x = answer_to size (ranges_in ranges) x
+answered size ranges x = answer_to size (ranges_in ranges) (decision_of x)
 
 -- the slot that keeps the segment is below the count of slots
-keeping_below : (size i : ℕ) (d : Decision) → d ≡ Already i → SlotBelow (entry_count size) d → i < entry_count size
-keeping_below size i d e h = subst (SlotBelow (entry_count size)) e h
+keeping_below : (size i : ℕ) (d : Decision) → d ≡ Already i → SlotBelow (entry_count size) (decision_of d) → i < entry_count size
+keeping_below size i d e h = subst (λ (x : Decision). SlotBelow (entry_count size) (decision_of x)) e h
 
-keeping_high : (size i : ℕ) (d : Decision) → lent_size_allowed size ≡ true → d ≡ Already i → SlotBelow (entry_count size) d
+keeping_high : (size i : ℕ) (d : Decision) → lent_size_allowed size ≡ true → d ≡ Already i → SlotBelow (entry_count size) (decision_of d)
     → i < 128
 keeping_high size i d f e h = omega (arith, keeping_below size i d e h, slots_high size f)
 
@@ -42,20 +42,20 @@ slot_place-requires c = (
 pub slot_place-requires-in-Place : goal.slot_place-requires-in-Place
 slot_place-requires-in-Place c = (
   (lent_size c.args.size c.requires.size_value).allowed,
-  subst (SlotBelow (entry_count c.args.size)) c.in-Place.is c.requires.slot_below,
+  subst (λ (x : Decision). SlotBelow (entry_count c.args.size) (decision_of x)) c.in-Place.is c.requires.slot_below,
 )
 
 pub returns-in-Refuse : goal.returns-in-Refuse
-returns-in-Refuse c = sym (ap (answered c.args.size c.args.ranges) c.in-Refuse.is)
+returns-in-Refuse c = sym (ap (answered c.args.size c.args.ranges.now) c.in-Refuse.is)
 
 pub returns-in-Already : goal.returns-in-Already
 returns-in-Already c =
-    let offset = get_or c.args.ranges.offsets c.in-Already.i 0 in
+    let offset = (ranges_in c.args.ranges.now c.in-Already.i).offset in
     ap (λ (p : ℕ). record { code = 15; offset = offset; place = p }) c.slot_place.ensures
-    ∙ sym (ap (answered c.args.size c.args.ranges) c.in-Already.is)
+    ∙ sym (ap (answered c.args.size c.args.ranges.now) c.in-Already.is)
 
 pub returns-in-Place : goal.returns-in-Place
 returns-in-Place c =
     let offset = c.in-Place.offset in
     ap (λ (p : ℕ). record { code = 0; offset = offset; place = p }) c.slot_place-in-Place.ensures
-    ∙ sym (ap (answered c.args.size c.args.ranges) c.in-Place.is)
+    ∙ sym (ap (answered c.args.size c.args.ranges.now) c.in-Place.is)
