@@ -1,5 +1,7 @@
 -- The ways through comes_first, and the turns of the loop in move_of: a sum over the ranges before that of slot j.
-use mathlib.Core.Path.{◌≡◌, refl, sym, ap₂, ◌∙◌}
+use mathlib.Core.Path.{◌≡◌, refl, sym, ap, ap₂, ◌∙◌}
+use Rattle.std.proofs.Common.{add-zero}
+use mir.Val.{bool_byte}
 use mathlib.Core.Bool.{Bool, true, false, not}
 use mathlib.Core.Logic.{◌≢◌}
 use Prim.Native.Nat.{ℕ, ◌+◌, ◌*◌, ◌≤◌, ◌<◌}
@@ -26,20 +28,10 @@ module _ (a o b p : ℕ) where
   unfolding comes_first
   smaller h e = rw (le-ltb b a h, ne_eqb a b e)
 
--- a range counts if it comes first and has bytes
-module _ (first empty counts : Bool) where
-  abbrev Counted : Type 0
-  Counted = ◌≡◌ {A = ℕ} (choose counts 1 0) (choose first (choose empty 0 1) 0)
-
-  pub count_first : first ≡ true → counts ≡ not empty → Counted
-  count_first e f = rw (e, f) (by_test empty)
-    where
-      by_test : (b : Bool) → ◌≡◌ {A = ℕ} (choose (not b) 1 0) (choose b 0 1)
-      by_test true = refl
-      by_test false = refl
-
-  pub count_later : first ≡ false → counts ≡ first → Counted
-  count_later e f = rw (f ∙ e, e)
+-- 1 for a range that has bytes
+pub byte_count : (b : Bool) → bool_byte (not b) ≡ choose b 0 1
+byte_count true = refl
+byte_count false = refl
 
 module _ (measure : Range → ℕ) (ranges : ℕ → Range) (j : ℕ) where
   -- what slot i adds
@@ -63,6 +55,17 @@ module _ (measure : Range → ℕ) (ranges : ℕ → Range) (j : ℕ) where
       by_test : (b : Bool) (i : ℕ) → choose b (measure (ranges i)) 0 ≤ measure (ranges i)
       by_test true i = omega arith
       by_test false i = omega arith
+
+  -- a turn at a slot that comes first, and at one that does not
+  pub sum_first : (i s m : ℕ) → s ≡ sum_before measure ranges i j → comes_first (ranges i) (ranges j) ≡ true
+      → m ≡ measure (ranges i) → s + m ≡ sum_before measure ranges (i + 1) j
+  sum_first i s m inv e f =
+      sum_turn i s m inv (f ∙ sym (ap (λ (b : Bool). choose b (measure (ranges i)) 0) e))
+
+  pub sum_later : (i s : ℕ) → s ≡ sum_before measure ranges i j → comes_first (ranges i) (ranges j) ≡ false
+      → s ≡ sum_before measure ranges (i + 1) j
+  sum_later i s inv e =
+      sym (add-zero s) ∙ sum_turn i s 0 inv (sym (ap (λ (b : Bool). choose b (measure (ranges i)) 0) e))
 
 -- neither sum overflows
 module _ (ranges : ℕ → Range) (n j : ℕ) where

@@ -1,15 +1,15 @@
 use Rattle.packing.proofs.Sums.{larger, equal, smaller}
 use Rattle.packing.proofs.comes_first.Goals as goal
 
-pub returns-then-b-a : goal.returns-then-b-a
-returns-then-b-a c = let a = c.args in larger a.a a.o a.b a.p c.if-b-a.true
+pub returns-then-s-r : goal.returns-then-s-r
+returns-then-s-r c = let a = c.args in larger a.r.area a.r.offset a.s.area a.s.offset c.if-s-r.true
 
-pub returns-then-a-b : goal.returns-then-a-b
-returns-then-a-b c =
+pub returns-then-r-s : goal.returns-then-r-s
+returns-then-r-s c =
     let a = c.args in
-    equal a.a a.o a.b a.p c.if-b-a.false c.if-a-b.true
+    equal a.r.area a.r.offset a.s.area a.s.offset c.if-s-r.false c.if-r-s.true
 
-pub returns-else-a-b : goal.returns-else-a-b
-returns-else-a-b c =
+pub returns-else-r-s : goal.returns-else-r-s
+returns-else-r-s c =
     let a = c.args in
-    smaller a.a a.o a.b a.p c.if-b-a.false c.if-a-b.false
+    smaller a.r.area a.r.offset a.s.area a.s.offset c.if-s-r.false c.if-r-s.false

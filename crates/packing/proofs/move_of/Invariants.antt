@@ -1,12 +1,9 @@
-use mathlib.Core.Path.{◌≡◌}
-use Prim.Native.Nat.{◌-◌, ◌≤◌}
+use Rattle.std.proofs.Common.{◌≡◌}
 use Rattle.room.specs.Room.{ranges_in}
 use Rattle.packing.specs.Order.{new_slot, new_offset}
 use Rattle.packing.proofs.move_of.Given as goal
 
-abbrev pub invariant-loop-i : goal.invariant-loop-i
-invariant-loop-i l =
-    (l.i ≤ l.slots) × (l.slot ≡ new_slot (ranges_in l.ranges) l.i l.j) × (l.end ≡ new_offset (ranges_in l.ranges) l.i l.j)
-
-abbrev pub decreases-loop-i : goal.decreases-loop-i
-decreases-loop-i l = l.slots - l.i
+abbrev pub invariant-loop-range : goal.invariant-loop-range
+invariant-loop-range l =
+    (l.slot ≡ new_slot (ranges_in l.ranges) l.range-index l.j)
+    × (l.offset ≡ new_offset (ranges_in l.ranges) l.range-index l.j)

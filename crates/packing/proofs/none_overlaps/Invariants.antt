@@ -1,5 +1,4 @@
-use mathlib.Core.Path.{◌≡◌}
-use Prim.Native.Nat.{◌-◌, ◌≤◌}
+use Rattle.std.proofs.Common.{◌≡◌, ◌-◌, length}
 use Rattle.rules.specs.Search.{lowest}
 use Rattle.room.specs.Room.{ranges_in}
 use Rattle.packing.specs.Order.{overlaps_lower}
@@ -7,8 +6,5 @@ use Rattle.packing.proofs.none_overlaps.Given as goal
 
 abbrev pub invariant-loop-i : goal.invariant-loop-i
 invariant-loop-i l =
-    let overlaps_lower_lem = overlaps_lower (ranges_in l.ranges) in
-    (l.i ≤ l.slots) × (lowest overlaps_lower_lem 0 l.slots ≡ lowest overlaps_lower_lem l.i (l.slots - l.i))
-
-abbrev pub decreases-loop-i : goal.decreases-loop-i
-decreases-loop-i l = l.slots - l.i
+    let p = overlaps_lower (ranges_in l.ranges) in
+    lowest p 0 (length l.ranges) ≡ lowest p l.i (length l.ranges - l.i)

@@ -10,7 +10,7 @@ use Rattle.room.specs.RoomLaws.{slots_high, free_slot_position, first_end, first
 use Rattle.room.specs.OverlapLaws.{place_ends}
 use Rattle.room.proofs.Decided.{is_kept_lem, half_held, no_slot, no_place, is_placed}
 use Rattle.room.specs.Room.{Range}
-use Rattle.std.specs.Prelude.{List, length}
+use Rattle.std.specs.Prelude.{List, length, take}
 use Rattle.room.proofs.deciding.decide.Goals as goal
 
 -- the count of slots that was answered is at most 128
@@ -56,7 +56,7 @@ returns-in_default-lowest_free_slot c =
     let s = c.args in
     no_slot s.size (ranges_in s.ranges.now) s.held s.area s.keeping
     c.in_default.is c.entry_count-slots.result c.entry_count-slots.ensures c.if-slots-held.false
-    (sym (c.lowest_free_slot.ensures ∙ free_slot_position _ ∙ first_free_slot _ s.ranges.now (held_in c.args.size _ s.ranges.now c.requires.size_value c.entry_count-slots.ensures c.told-ranges)) ∙ c.in_default-lowest_free_slot.is)
+    (sym (c.lowest_free_slot.ensures ∙ free_slot_position (take c.entry_count-slots.result s.ranges.now) ∙ first_free_slot _ s.ranges.now (held_in c.args.size _ s.ranges.now c.requires.size_value c.entry_count-slots.ensures c.told-ranges)) ∙ c.in_default-lowest_free_slot.is)
 
 pub index_start-requires : goal.index_start-requires
 index_start-requires c = (lent_size c.args.size c.requires.size_value).allowed
@@ -88,7 +88,7 @@ returns-in_default-lowest_place c =
     let s = c.args in
     no_place s.size (ranges_in s.ranges.now) s.held s.area s.keeping
     c.in_default.is c.entry_count-slots.result c.entry_count-slots.ensures c.if-slots-held.false
-    c.in-Some-lowest_free_slot.i (sym (c.lowest_free_slot.ensures ∙ free_slot_position _ ∙ first_free_slot _ s.ranges.now (held_in c.args.size _ s.ranges.now c.requires.size_value c.entry_count-slots.ensures c.told-ranges)) ∙ c.in-Some-lowest_free_slot.is)
+    c.in-Some-lowest_free_slot.i (sym (c.lowest_free_slot.ensures ∙ free_slot_position (take c.entry_count-slots.result s.ranges.now) ∙ first_free_slot _ s.ranges.now (held_in c.args.size _ s.ranges.now c.requires.size_value c.entry_count-slots.ensures c.told-ranges)) ∙ c.in-Some-lowest_free_slot.is)
     c.index_start.result c.index_start.ensures
     (sym (c.lowest_place.ensures ∙ first_place _ s.ranges.now (held_in c.args.size _ s.ranges.now c.requires.size_value c.entry_count-slots.ensures c.told-ranges) _ _) ∙ c.in_default-lowest_place.is)
 
@@ -115,6 +115,6 @@ returns c =
     let s = c.args in
     is_placed s.size (ranges_in s.ranges.now) s.held s.area s.keeping
     c.in_default.is c.entry_count-slots.result c.entry_count-slots.ensures c.if-slots-held.false
-    c.in-Some-lowest_free_slot.i (sym (c.lowest_free_slot.ensures ∙ free_slot_position _ ∙ first_free_slot _ s.ranges.now (held_in c.args.size _ s.ranges.now c.requires.size_value c.entry_count-slots.ensures c.told-ranges)) ∙ c.in-Some-lowest_free_slot.is)
+    c.in-Some-lowest_free_slot.i (sym (c.lowest_free_slot.ensures ∙ free_slot_position (take c.entry_count-slots.result s.ranges.now) ∙ first_free_slot _ s.ranges.now (held_in c.args.size _ s.ranges.now c.requires.size_value c.entry_count-slots.ensures c.told-ranges)) ∙ c.in-Some-lowest_free_slot.is)
     c.index_start.result c.index_start.ensures c.in-Some-lowest_place.k
     (sym (c.lowest_place.ensures ∙ first_place _ s.ranges.now (held_in c.args.size _ s.ranges.now c.requires.size_value c.entry_count-slots.ensures c.told-ranges) _ _) ∙ c.in-Some-lowest_place.is)
