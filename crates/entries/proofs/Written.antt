@@ -9,12 +9,11 @@ use Rattle.octets.specs.Equality.{same_bytes}
 use Rattle.octets.specs.LittleEndian.{bytes_of}
 use Rattle.octets.specs.LittleEndianLaws.{length_bytes_of}
 use Rattle.octets.specs.Splice.{part, splice}
-use Rattle.octets.specs.SpliceLaws.{splice_whole}
 use Rattle.sha256.specs.Fips.{sha256}
-use Rattle.sha256.specs.Answers.{hashed}
+use Rattle.sha256.specs.Answers.{Hashed, digest_answer, hashed}
 use Rattle.sha256.specs.AnswersLaws.{hashed_short}
-use Rattle.sha256.specs.DigestLaws.{sha256_length}
-use Rattle.sha256.specs.Answers.{Hashed}
+use Rattle.std.specs.Prelude.{Result, Ok}
+use Rattle.rules.specs.declared.Refusal.{Refusal}
 use Rattle.entries.specs.Checksum.{entry_digest, checksum_of, checksum_is, checksum_length}
 use Rattle.entries.specs.Entry.{entry_body, entry_of, checksum_right}
 use Rattle.entries.specs.EntryLaws.{body_length}
@@ -28,17 +27,10 @@ written d p s at n l e m =
     ∙ take_at (p ++ s) (drop (at + length s) d) n (length-append p s ∙ omega arith)
 
 -- a message that is as short as an entry is hashed
-pub digest_is : (message : List ℕ) (answer : Hashed) → length message ≡ 64 → answer ≡ hashed message
-    → answer.digest ≡ sha256 message
-digest_is message answer l e = ap (λ (a : Hashed). a.digest) (e ∙ hashed_short message (omega arith))
-
-pub digest_length : (message : List ℕ) (answer : Hashed) → length message ≡ 64 → answer ≡ hashed message
-    → length answer.digest ≡ 32
-digest_length message answer l e = ap length (digest_is message answer l e) ∙ sha256_length message
-
-pub digest_front : (message : List ℕ) (answer : Hashed) → length message ≡ 64 → answer ≡ hashed message
-    → length (take 16 answer.digest) ≡ 16
-digest_front message answer l e = length-take-le 16 answer.digest (omega (arith, digest_length message answer l e))
+pub digest_is : (message : List ℕ) {answer : Result (List ℕ) Refusal} {digest : List ℕ} → length message ≡ 64
+    → digest_answer answer ≡ hashed message → answer ≡ Ok digest → digest ≡ sha256 message
+digest_is message l e o =
+    ap (λ (a : Hashed). a.digest) (ap digest_answer (sym o) ∙ e ∙ hashed_short message (omega arith))
 
 pub front_length : (entry : List ℕ) → length entry ≡ 64 → length (take 48 entry) ≡ 48
 front_length entry l = length-take-le 48 entry (omega arith)
@@ -51,21 +43,16 @@ cleared_is entry l =
     let n : 0 + length (take 48 entry) ≡ 48 = omega (arith, front_length entry l) in
     ap (λ (k : ℕ). take 48 entry ++ drop k (replicate 64 0)) n
 
-pub checksum_written : (entry cleared : List ℕ) (answer : Hashed) (sum : List ℕ)
+pub checksum_written : (entry cleared digest sum : List ℕ)
     → length entry ≡ 64
-    → length cleared ≡ 64
     → cleared ≡ splice (replicate 64 0) 0 (take 48 entry)
-    → answer ≡ hashed cleared
-    → sum ≡ splice (replicate 16 0) 0 (take 16 answer.digest)
-    → set sum 15 (get_or answer.digest 15 0 % 64) ≡ checksum_of (part entry 0 48)
+    → digest ≡ sha256 cleared
+    → sum ≡ part digest 0 16
+    → set sum 15 (get_or digest 15 0 % 64) ≡ checksum_of (part entry 0 48)
 unfolding part
-checksum_written entry cleared answer sum l k e a s =
-    let d : answer.digest ≡ entry_digest (take 48 entry) =
-    digest_is cleared answer k a ∙ ap sha256 (e ∙ cleared_is entry l) in
-    let m = digest_length cleared answer k a in
-    let first = length-take-le 16 answer.digest (omega arith) in
-    let t : sum ≡ take 16 answer.digest = s ∙ splice_whole (replicate 16 0) (take 16 answer.digest) (sym first) in
-    rw (t, d) (sym (checksum_is (take 48 entry)))
+checksum_written entry cleared digest sum l e h s =
+    let d : digest ≡ entry_digest (take 48 entry) = h ∙ ap sha256 (e ∙ cleared_is entry l) in
+    rw (s, d) (sym (checksum_is (take 48 entry)))
 
 pub entry_written : (commitment : List ℕ) (offset size : ℕ) (one two three sum entry : List ℕ)
     → length commitment ≡ 32

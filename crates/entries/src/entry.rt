@@ -17,8 +17,7 @@ fn checksum(entry: &[u8]) -> [u8; 16]
     let mut cleared = [0u8; 64];
     octets::put(&mut cleared, 0, &entry[..48]);
     let digest = sha256::sha256(&cleared).unwrap();
-    let mut sum = [0u8; 16];
-    octets::put(&mut sum, 0, &digest[..16]);
+    let mut sum = octets::array_at(&digest, 0);
     sum[15] = digest[15] % 64;
     sum
 }
@@ -41,8 +40,7 @@ fn checksum_right(entry: &[u8]) -> bool
     requires { length entry.now ≡ 64 }
     ensures { result ≡ checksum_right entry.now }
 {
-    let sum = checksum(entry);
-    sum.as_slice() == &entry[48..]
+    checksum(entry).as_slice() == &entry[48..]
 }
 
 // The kind of an entry: blank where all its bytes are zero, else valid where its checksum is right, else damaged. A
