@@ -16,7 +16,12 @@ pub fn put_head(out: &mut [u8], at: usize, tag: u8, size: usize) -> usize
 }
 
 // Writes the field of a row of a table, with an array as its content.
-pub fn put_field<const N: usize>(out: &mut [u8], at: usize, row: FieldRule, content: [u8; N]) -> usize
+pub fn put_field<const N: usize>(
+    out: &mut [u8],
+    at: usize,
+    row: FieldRule,
+    content: [u8; N],
+) -> usize
     requires { (N < 65536) × (at + 3 + N ≤ length out.old) }
     ensures { (out.new ≡ splice out.old at (put_field row.tag content.entry []))
         × (result ≡ at + 3 + N) × (length content.entry ≡ N) }
