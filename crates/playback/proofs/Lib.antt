@@ -1,6 +1,6 @@
-pub mod Filled
 pub mod Read
-pub mod OwnedRows
+pub mod SlotRow
+pub mod KeepsRow
 pub mod Gathered
 pub mod Parts
 pub mod RowsWritten

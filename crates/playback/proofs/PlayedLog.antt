@@ -1,11 +1,11 @@
 -- A log played line by line: what is left to play of a log, with the ledger so far and the next line's number.
 use Rattle.std.specs.Prelude.{◌≡◌, refl, true, false, ℕ, ◌+◌, ◌<◌, List, length}
-use Rattle.std.proofs.Common.{ap, ◌∙◌, add-one, arith}
+use Rattle.std.proofs.Common.{sym, ap, ◌∙◌, add-one, arith}
 use Rattle.sizes.specs.Sizes.{entry_count}
-use Rattle.clerk_log.specs.Log.{Lines, lines, malformed, add_line, FirstLine, first, first_line, log_lines}
+use Rattle.clerk_log.specs.Log.{Lines, lines, malformed, add_line, FirstLine, first, no_line, first_line, log_lines}
 use Rattle.clerk_log.specs.declared.Line.{Line}
 use Rattle.clerk_log.specs.LineAt.{is_log}
-use Rattle.clerk_log.specs.LineAtLaws.{log_empty, first_on, first_in_form}
+use Rattle.clerk_log.specs.LineAtLaws.{log_empty, no_first, first_on, first_in_form}
 use Rattle.playback.specs.declared.LedgerRow.{LedgerRow}
 use Rattle.playback.specs.Playback.{Playback, Code, LineNumber}
 use Rattle.playback.specs.Ledger.{empty_ledger, ledger_after}
@@ -61,3 +61,11 @@ module _ (d : ℕ) (log : List ℕ) (ledger : List LedgerRow) (number : ℕ) whe
         ap (play_on d ledger number) front
         ∙ other_stops d ledger number line (log_lines d rest)
         (first_in_form d log h line rest there form).1 e
+
+-- in a log that is in form a line stands at the front
+pub never_none : {A : Type 0} (d : ℕ) (log : List ℕ) → 0 < length log → is_log (log_lines d log) ≡ true
+    → first_line log ≡ no_line → A
+never_none d log h form e =
+    let q : is_log (log_lines d log) ≡ false = ap is_log (no_first d log h e) in
+    let z : true ≡ false = sym form ∙ q in
+    let one : ◌≡◌ {A = ℕ} 0 1 = cc in absurd (omega arith)

@@ -15,7 +15,7 @@ use Rattle.playback.specs.RowBytes.{row_bytes, rows_bytes}
 use Rattle.playback.proofs.Parts.{Written, written_next}
 
 -- a row whose commitment has 32 bytes has 57
-row_bytes_length : (row : LedgerRow) → length row.commitment ≡ 32 → length (row_bytes row) ≡ 57
+pub row_bytes_length : (row : LedgerRow) → length row.commitment ≡ 32 → length (row_bytes row) ≡ 57
 row_bytes_length row e =
     let size = length_bytes_of 8 row.size in
     let offset = length_bytes_of 8 row.offset in
@@ -77,12 +77,12 @@ rows_next rows i h =
 
 -- the first rows stand at the front of an output, and one more
 pub row_written : (output : List ℕ) (rows : List LedgerRow) (i : ℕ) (before after : List ℕ) (row : LedgerRow)
-    → i < length rows → row ≡ ledger_row rows i → length row.commitment ≡ 32 → 57 * i ≤ length output
+    → i < length rows → row ≡ ledger_row rows i → length (row_bytes row) ≡ 57 → 57 * i ≤ length output
     → Written output 0 (57 * i) (rows_bytes (take i rows)) before → after ≡ splice before (57 * i) (row_bytes row)
     → Written output 0 (57 * (i + 1)) (rows_bytes (take (i + 1) rows)) after
 row_written output rows i before after row h at sized fits w e =
     let next = written_next output 0 (57 * i) (rows_bytes (take i rows)) before (omega arith) w (57 * i) 57
-    (row_bytes row) after (omega arith) (row_bytes_length row sized) e in
+    (row_bytes row) after (omega arith) sized e in
     let bytes : rows_bytes (take i rows) ++ row_bytes row ≡ rows_bytes (take (i + 1) rows) =
     ap (λ (r : LedgerRow). rows_bytes (take i rows) ++ row_bytes r) at ∙ sym (rows_next rows i h) in
     record {

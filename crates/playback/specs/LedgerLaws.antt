@@ -150,7 +150,7 @@ module _ (d : ℕ) (ledger : List LedgerRow) (line : BookingLine) (t : lent_size
       (omega (arith, sized.area_low)) i offset).0 e).2.free_place.ends
 
   -- and so the ledger fits with its row
-  booking_fits : Fits d ledger → Fits d (ledger_after d ledger (booking line))
+  pub booking_fits : Fits d ledger → Fits d (ledger_after d ledger (booking line))
   unfolding ledger_after
   booking_fits f = by_decision (ledger_decision d ledger line) refl
     where

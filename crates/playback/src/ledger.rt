@@ -66,9 +66,13 @@ impl Ledger {
     fn keeping(&self, line: &BookingLine) -> Option<usize>
         ensures { result ≡ lowest (keeps_at self.now.rows line.now) 0 (entry_count self.now.size) }
     {
-        self.rows[..self.slots()]
-            .iter()
-            .position(|row| row.house == line.house && row.is_for(line))
+        for i in 0..self.slots() {
+            let row = &self.rows[i];
+            if row.house == line.house && row.is_for(line) {
+                return Some(i);
+            }
+        }
+        None
     }
 
     // What booking decides.
@@ -78,7 +82,13 @@ impl Ledger {
     {
         let ranges = self.ranges();
         let held = houses::held_count(&ranges[..self.slots()], &self.owners(), line.house);
-        room::decide(self.size, &ranges, held, sizes::area(line.size), self.keeping(line))
+        room::decide(
+            self.size,
+            &ranges,
+            held,
+            sizes::area(line.size),
+            self.keeping(line),
+        )
     }
 
     // Whether a cancellation is refused: 6 for a place that is not allowed, 16 where no row of the house is.

@@ -33,7 +33,11 @@ impl LedgerRow {
     {
         Range {
             offset: self.offset,
-            area: if self.is_vacant() { 0 } else { sizes::area(self.size) },
+            area: if self.is_vacant() {
+                0
+            } else {
+                sizes::area(self.size)
+            },
         }
     }
 

@@ -35,8 +35,9 @@ impl Ledger {
 
 // Writes the bytes of a row from a place on: house, commitment, size, offset, entry place.
 fn put_row(row: &LedgerRow, out: &mut [u8], at: usize)
-    requires { (at + 57 ≤ length out.old) × (length row.now.commitment ≡ 32) }
-    ensures { out.new ≡ splice out.old at (row_bytes row.now) }
+    requires { at + 57 ≤ length out.old }
+    ensures written { out.new ≡ splice out.old at (row_bytes row.now) }
+    ensures sized { length (row_bytes row.now) ≡ 57 }
 {
     octets::put(out, at, &[row.house]);
     octets::put_array(out, at + 1, row.commitment);

@@ -1,7 +1,5 @@
-use mathlib.Core.Path.{◌≡◌, refl, sym, ◌∙◌}
-use mathlib.Core.Bool.{false}
-use Prim.Native.Nat.{ℕ}
-use native.Mathlib.Omega.{arith}
+use Rattle.std.specs.Prelude.{◌≡◌, refl, false, ℕ}
+use Rattle.std.proofs.Common.{sym, ◌∙◌, arith}
 use Rattle.sizes.specs.Sizes.{lent_size_allowed}
 use Rattle.clerk_log.specs.Log.{Lines, lines, malformed, log_lines}
 use Rattle.clerk_log.specs.LineAt.{is_log}
@@ -20,15 +18,14 @@ unfolding P.playback
 returns-then-not-lent_size_allowed c =
     let small : lent_size_allowed c.args.size ≡ false =
     sym c.lent_size_allowed.ensures ∙ c.if-not-lent_size_allowed.true in
-    rw small c.says.ensures
+    rw small refl
 
 pub returns-then-not-in_form : goal.returns-then-not-in_form
 unfolding P.playback
 returns-then-not-in_form c =
     let a = c.args in
     rw (sym c.lent_size_allowed.ensures ∙ c.if-not-lent_size_allowed.false)
-    (c.says-then-not-in_form.ensures
-    ∙ not_played a.size (log_lines a.size a.log.now)
+    (not_played a.size (log_lines a.size a.log.now)
     (sym c.in_form.ensures ∙ c.if-not-in_form.true))
 
 pub play-requires : goal.play-requires
