@@ -1,13 +1,18 @@
--- `put_words`: the part that is copied over.
-use Rattle.std.proofs.Common.{◌≡◌, ◌∙◌, ap, length, ◌+◌, ◌-◌, ℕ, List, arith}
-use borrow.Rule.Slice.PartMut.{put_mid}
-use Rattle.octets.specs.SpliceLaws.{put_splice}
+-- `put_words`: after t turns the first t words are written.
+use Rattle.std.proofs.Common.{◌≡◌, ◌∙◌, length, length-set, arith, rules}
+use Rattle.octets.specs.PasteLaws.{paste_next, paste_whole}
 use Rattle.lanes.proofs.load.put_words.Goals as goal
 
+pub loop-t-preserved : goal.loop-t-preserved
+loop-t-preserved g c =
+    let o = c.loop-t in
+    let n : length c.args.some ≡ g.row.N = search rules in (
+      simp length-set o.invariant.0,
+      paste_next c.args.words.now c.args.at c.args.some o.words o.t (omega arith) (omega arith) o.invariant.1,
+    )
+
 pub returns : goal.returns
-returns c =
-    let a = c.args in
-    let n = length a.some.now in
-    let k : n ≡ a.at + n - a.at = omega arith in
-    ap (λ (l : List ℕ). put_mid a.at (a.at + n - a.at) a.words.now l) c.copy_from_slice.ensures.after
-    ∙ put_splice a.words.now a.at (a.at + n - a.at) a.some.now k
+returns g c =
+    let o = c.loop-t in
+    let n : length c.args.some ≡ g.row.N = search rules in
+    o.invariant.1 ∙ paste_whole c.args.words.now c.args.at c.args.some o.t (omega arith)
