@@ -15,7 +15,7 @@ fn lane_by_lane(nodes: [u32; 128]) -> [u32; 128]
 {
     let mut words = [0u32; 128];
     for l in 0..16 {
-        put_words(&mut words, 8 * l, lane_of::<8>(&nodes, l));
+        put_words(&mut words, l, lane_of(&nodes, l));
     }
     words
 }
