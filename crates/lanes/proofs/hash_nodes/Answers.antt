@@ -17,9 +17,8 @@ returns c = λ l b x y hx hy.
     = c.compress.ensures.words l b
     ∙ ap₂ compress (c.in_each_lane-hash.ensures l (omega arith))
     (ap₂ ◌++◌ hx.words hy.words) in
-    let second = c.finish-nodes.ensures.words l b ∙ ap (λ (h : List ℕ). compress h padding_block) first in
     record {
       sized = node_hash_length (x ++ y);
-      words = c.clear_last.ensures.words l (omega arith) ∙ ap (λ (h : List ℕ). cleared h) second
+      words = c.finish.ensures.words l b ∙ ap (λ (h : List ℕ). cleared (compress h padding_block)) first
           ∙ node_of_nodes x y hx.sized hy.sized;
     }
