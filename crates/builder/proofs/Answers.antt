@@ -19,7 +19,7 @@ use Rattle.builder.specs.BuildLaws.{InDeal, in_deal, means_build}
 use Rattle.record.specs.Form.{encode, record_length}
 use Rattle.builder.specs.Encode.{record_for}
 use Rattle.builder.specs.EncodeLaws.{record_of_entry, commitment_in_length, record_length_lem}
-use Rattle.builder.specs.declared.BuildAnswer.{BuildAnswer}
+use Rattle.builder.specs.Build.{BuildAnswer}
 
 -- what is asked: a lent deal with its number, an entry place, and the output for the record
 pub record Asked : Type 0 where

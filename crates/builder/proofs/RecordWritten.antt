@@ -4,9 +4,10 @@ use mathlib.Core.List.{List, [], ◌∷◌}
 use Prim.Native.Nat.{ℕ, ◌+◌, ◌-◌, ◌*◌, ◌/◌, ◌≤◌}
 use native.Mathlib.Omega.{arith}
 use lib.ListN.{length}
+use Rattle.std.specs.Int.{w64, to_le_bytes}
 use Rattle.octets.specs.Splice.{splice}
 use Rattle.octets.specs.LittleEndian.{bytes_of}
-use Rattle.octets.specs.LittleEndianLaws.{length_bytes_of}
+use Rattle.octets.specs.LittleEndianLaws.{length_bytes_of, le_bytes_of}
 use Rattle.paths.specs.Start.{path_start, InTree}
 use Rattle.paths.specs.NodesSized.{NodesSized}
 use Rattle.paths.specs.Siblings.{siblings}
@@ -23,10 +24,14 @@ use Rattle.builder.specs.Encode.{record_for}
 use Rattle.builder.specs.EncodeLaws.{record_length_lem}
 
 -- the field of a number was written by a row of the table
-pub wrote_number : {out after : List ℕ} {at next : ℕ} {found : FieldRule} (row : FieldRule) (n : ℕ) → found ≡ row
-    → (after ≡ splice out at (put_field found.tag (bytes_of 8 n) [])) × (next ≡ at + 11)
+pub wrote_number : {out after content : List ℕ} {at next : ℕ} {R : Type 0} (row : FieldRule) (n : ℕ)
+    → content ≡ to_le_bytes w64 n
+    → (after ≡ splice out at (put_field row.tag content [])) × (next ≡ at + 3 + 8) × R
     → Wrote out at (put_field row.tag (bytes_of 8 n) []) after next
-wrote_number row n e w = wrote_field row (bytes_of 8 n) e (length_bytes_of 8 n) w.0 w.1
+wrote_number {out = out} {at = at} row n e w =
+    let k = e ∙ le_bytes_of n in
+    wrote_field row (bytes_of 8 n) refl (length_bytes_of 8 n)
+    (w.0 ∙ ap (λ (l : List ℕ). splice out at (put_field row.tag l [])) k) (omega (arith, w.1))
 
 -- the level and the position of the segment's node, as the code works them out
 pub record WorkedOut (deal : LentDeal) (entry : Row) (place level position : ℕ) : Type 0 where

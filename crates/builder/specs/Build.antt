@@ -1,7 +1,9 @@
 -- Building a record from a lent deal and an entry place (document 01, "Booking, finding, building, settling": build;
 -- document 02, request (vii): the deal may have a tree beside it; request (ix): building takes the deal's number).
-use Rattle.std.specs.Prelude.{ℕ, List, [], ◌∷◌, ◌++◌, length, leb}
+use Rattle.std.specs.Prelude.{ℕ, Result, List, [], ◌∷◌, ◌++◌, length, leb}
+use Rattle.rules.specs.Answers.{answered}
 use Rattle.rules.specs.Choice.{choose}
+use Rattle.rules.specs.declared.Refusal.{Refusal}
 use Rattle.rules.specs.Refusals.{Rule, rule, first_refusal, unless_refused}
 use Rattle.octets.specs.Splice.{splice}
 use Rattle.lent.specs.LentDeal.{LentDeal, deal_size, deal_rules}
@@ -12,7 +14,16 @@ use Rattle.entries.specs.Entry.{commitment_in, offset_in, size_in}
 use Rattle.index.specs.Slots.{entry_at, kept}
 use Rattle.record.specs.Form.{Fields, encode}
 use Rattle.record.specs.Check.{DealTerms, deal_terms}
-use Rattle.builder.specs.declared.BuildAnswer.{BuildAnswer}
+
+-- a code, and the length of the record that was written; 0 on a refusal
+pub record BuildAnswer : Type 0 where
+  pub code : ℕ
+  pub length : ℕ
+
+-- the answer that a result stands for
+abbrev pub length_answer : Result ℕ Refusal → BuildAnswer
+length_answer =
+    answered (λ n. record { code = 0; length = n }) (λ code. record { code = code; length = 0 })
 
 -- the deal's own commitment: its top node
 abbrev pub deal_commitment : LentDeal → List ℕ

@@ -10,7 +10,7 @@ use Rattle.record.specs.Form.{encode}
 use Rattle.lent.specs.LentDeal.{LentDeal}
 use Rattle.builder.specs.Build.{fields_for, built, not_built, build_rules, record_at}
 use Rattle.builder.specs.Build.{answer_for, output_for, build_answer, build_output}
-use Rattle.builder.specs.declared.BuildAnswer.{BuildAnswer}
+use Rattle.builder.specs.Build.{BuildAnswer}
 use Rattle.demands.specs.BuildsExactly.{BuildsExactly}
 
 pub builds_exactly : (deal : LentDeal) (number place : ℕ) (r : List ℕ) → record_at deal number place ≡ built r

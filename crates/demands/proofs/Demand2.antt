@@ -20,7 +20,7 @@ use Rattle.record.specs.Check.{deal_terms, check_of}
 use Rattle.record.specs.CheckLaws.{means_check}
 use Rattle.rules.specs.Refusals.{first_refusal, unless_refused}
 use Rattle.record.specs.Form.{encode}
-use Rattle.builder.specs.declared.BuildAnswer.{BuildAnswer}
+use Rattle.builder.specs.Build.{BuildAnswer}
 use Rattle.lent.specs.LentDeal.{LentDeal, lent_deal, deal_size, deal_refusal}
 use Rattle.lent.specs.LentDealLaws.{refusal_none}
 use Rattle.builder.specs.Build.{build_rules, terms_of, fields_for, Building, built, not_built, record_at}

@@ -16,7 +16,7 @@ use Rattle.record.specs.Check.{deal_terms, check_of}
 use Rattle.lent.specs.LentDeal.{lent_deal}
 use Rattle.builder.specs.Build.{record_at, built}
 use Rattle.settle.specs.Settle.{place_in, settle_records, settle_with_deal}
-use Rattle.settle.specs.declared.Settled.{Settled}
+use Rattle.settle.specs.Settle.{Settled}
 use Rattle.demands.specs.Settles.{Settles}
 use Rattle.demands.specs.BuildsExactly.{BuildsExactly}
 use Rattle.demands.proofs.BuildsExactlyLaws.{builds_exactly, exactly_builds}

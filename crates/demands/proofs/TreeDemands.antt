@@ -19,7 +19,7 @@ use Rattle.booking.specs.BookableLaws.{BookableFor}
 use Rattle.booking.specs.Outcomes.{answer15}
 use Rattle.record.specs.Form.{parse}
 use Rattle.record.specs.Check.{deal_terms, check_of}
-use Rattle.builder.specs.declared.BuildAnswer.{BuildAnswer}
+use Rattle.builder.specs.Build.{BuildAnswer}
 use Rattle.builder.specs.Build.{build_answer, build_output}
 use Rattle.settle.specs.Settle.{place_in, settle_with_deal}
 use Rattle.demands.specs.Settles.{Settles}

@@ -35,7 +35,7 @@ use Rattle.cancel.proofs.TreeCancelLaws as C
 use Rattle.collect.specs.Collect.{collect_code, second_deal, second_owners, second_tree}
 use Rattle.collect.specs.AnswerLaws.{deal_left, owners_left, tree_left}
 use Rattle.collect.proofs.TreeCollectLaws as T
-use Rattle.builder.specs.declared.BuildAnswer.{BuildAnswer}
+use Rattle.builder.specs.Build.{BuildAnswer}
 use Rattle.builder.specs.Build.{Building, built, not_built, record_at, answer_for, output_for, build_answer}
 use Rattle.builder.specs.Build.{build_output}
 use Rattle.builder.specs.TreeBuildLaws.{filled_answer, filled_output}

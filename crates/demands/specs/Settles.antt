@@ -1,7 +1,7 @@
 -- What settling's answer says of a statement.
 use Rattle.std.specs.Prelude.{◌≡◌, ◌⊎◌}
 use Rattle.paths.specs.Collision.{Collision}
-use Rattle.settle.specs.declared.Settled.{Settled}
+use Rattle.settle.specs.Settle.{Settled}
 
 -- 0 exactly where the statement holds, and else 17 and two different 64-byte strings with one node hash
 pub record Settles (Same : Type 0) (a : Settled) : Type 0 where

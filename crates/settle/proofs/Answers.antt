@@ -5,7 +5,7 @@ use Prim.Native.Nat.{ℕ, zero, suc}
 use Rattle.rules.specs.Refusals.{unless_refused}
 use Rattle.paths.specs.Compare.{Compared}
 use Rattle.settle.specs.SettleLaws.{settled_from, or_compared}
-use Rattle.settle.specs.declared.Settled.{Settled}
+use Rattle.settle.specs.Settle.{Settled}
 
 -- a code other than 0 is the answer's
 pub refused_with : {A : Type 0} (code : ℕ) (refused : ℕ → A) (done : A) → (code ≡ 0 → ⊥)

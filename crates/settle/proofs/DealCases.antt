@@ -18,8 +18,6 @@ use Rattle.index.specs.Slots.{entry_at}
 use Rattle.record.specs.Form.{Fields}
 use Rattle.record.specs.Check.{entry_for, check_of}
 use Rattle.record.specs.CheckLaws.{Accepted}
-use Rattle.record.specs.ParsedRecordLaws.{fields_at}
-use Rattle.record.specs.declared.ParsedRecord.{ParsedRecord}
 use Rattle.lent.specs.LentDeal.{LentDeal, deal_size, deal_refusal}
 use Rattle.lent.specs.LentDealLaws.{refusal_none}
 use Rattle.builder.specs.Build.{terms_of}
@@ -43,10 +41,9 @@ module _ (deal : LentDeal) (number : ℕ) (r : List ℕ) where
   check_refused fine {code} e h = rw (fine, ← e) (refused_with code not_settled _ h)
 
 -- an accepted record's number is the deal's
-pub own_number : (deal : LentDeal) {number : ℕ} {r : List ℕ} {x : ParsedRecord}
-    → AcceptedRecord (terms_of deal number) r x → AcceptedRecord (terms_of deal x.number) r x
-own_number deal {number} {r} {x} a =
-    subst (λ (n : ℕ). AcceptedRecord (terms_of deal n) r x) (sym (accepted a).number_same) a
+pub own_number : (deal : LentDeal) {number : ℕ} {x : Fields} → Accepted (terms_of deal number) x
+    → Accepted (terms_of deal x.number) x
+own_number deal {number} {x} a = subst (λ (n : ℕ). Accepted (terms_of deal n) x) (sym a.number_same) a
 
 module _ (deal : LentDeal) (fine : deal_refusal deal ≡ 0) where
   pub lent : lent_size_allowed (deal_size deal) ≡ true
@@ -101,24 +98,22 @@ module _ (deal : LentDeal) (fine : deal_refusal deal ≡ 0) where
         ∙ sym (pairs_length deal.nodes start (entry_at deal.bytes x.place ∷ []))
 
   -- the answer from the two parts
-  module _ {number : ℕ} {r : List ℕ} {x : ParsedRecord} (a : AcceptedRecord (terms_of deal number) r x) where
+  module _ {number : ℕ} {r : List ℕ} {x : Fields} (a : AcceptedRecord (terms_of deal number) r x) where
     settled_is :
-        let X = fields_at r x in
-        settled_from (or_compared (entry_with_deal deal X) (segment_with_deal deal X)) ≡ settle_with_deal deal number r
+        settled_from (or_compared (entry_with_deal deal x) (segment_with_deal deal x)) ≡ settle_with_deal deal number r
     unfolding settle_with_deal
     settled_is =
         let d = deal_size deal in
-        let X = fields_at r x in
         sym
         (rw (fine, a.checked, parses a)
-        (settled_parts (entry_strings d X) (segment_strings d X) (deal_entry_strings deal X) (deal_segment_strings deal X)
+        (settled_parts (entry_strings d x) (segment_strings d x) (deal_entry_strings deal x) (deal_segment_strings deal x)
         (one_length (accepted a))))
 
-    module _ (found : Compared) (e : found ≡ entry_with_deal deal (fields_at r x)) where
+    module _ (found : Compared) (e : found ≡ entry_with_deal deal x) where
       pub entries_differ : found.differs ≡ true → settled_from found ≡ settle_with_deal deal number r
       entries_differ d = entries_decide _ _ _ settled_is found e d
 
       pub entries_same : found.differs ≡ false
-          → {rest : Compared} → rest ≡ segment_with_deal deal (fields_at r x)
+          → {rest : Compared} → rest ≡ segment_with_deal deal x
           → settled_from rest ≡ settle_with_deal deal number r
       entries_same d q = segments_decide _ _ _ settled_is found e d q

@@ -18,8 +18,6 @@ use Rattle.sizes.specs.SizesLaws.{deal_size_lem, segment_size}
 use Rattle.record.specs.Form.{Fields}
 use Rattle.record.specs.Check.{DealTerms, entry_for, check_of}
 use Rattle.record.specs.CheckLaws.{Accepted, check_terms}
-use Rattle.record.specs.ParsedRecordLaws.{fields_at}
-use Rattle.record.specs.declared.ParsedRecord.{ParsedRecord}
 use Rattle.settle.specs.Settle.{not_settled, entry_strings, segment_strings, settle_records}
 use Rattle.settle.specs.SettleLaws.{settled_from, or_compared, settled_parts, same_fields}
 use Rattle.settle.specs.AcceptedRecord.{AcceptedRecord}
@@ -79,14 +77,14 @@ module _ (terms : DealTerms) (r s : List ℕ) where
   unfolding settle_records
   second_refused cr {code} e h = rw (cr, ← e) (refused_with code not_settled _ h)
 
-module _ {terms : DealTerms} {r s : List ℕ} {x y : ParsedRecord} (a : AcceptedRecord terms r x)
+module _ {terms : DealTerms} {r s : List ℕ} {x y : Fields} (a : AcceptedRecord terms r x)
     (b : AcceptedRecord terms s y) where
   pub other_place : (x.place ≡ y.place → ⊥) → not_settled 18 ≡ settle_records terms r s
   unfolding settle_records
   other_place h = rw (a.checked, b.checked, parses a, parses b, ne_eqb x.place y.place h)
 
   -- what the code requires on the way: entry paths of one length, and an area to divide by
-  pub entry_paths : length (fields_at r x).entry_path ≡ length (fields_at s y).entry_path
+  pub entry_paths : length x.entry_path ≡ length y.entry_path
   entry_paths = (accepted a).entry_path_length ∙ sym (accepted b).entry_path_length
 
   pub area_there : 0 < area x.size
@@ -98,25 +96,21 @@ module _ {terms : DealTerms} {r s : List ℕ} {x y : ParsedRecord} (a : Accepted
   module _ (at : x.place ≡ y.place) where
     -- the answer from what is found in the two parts
     settled_is :
-        let X = fields_at r x in
-        let Y = fields_at s y in
-        settled_from (or_compared (entries_found terms.size X Y) (segments_found terms.size X Y))
+        settled_from (or_compared (entries_found terms.size x y) (segments_found terms.size x y))
         ≡ settle_records terms r s
     unfolding settle_records
     settled_is =
         let d = terms.size in
-        let X = fields_at r x in
-        let Y = fields_at s y in
         sym
         (rw (a.checked, b.checked, parses a, parses b, eq-eqb x.place y.place at)
-        (settled_parts (entry_strings d X) (segment_strings d X) (entry_strings d Y) (segment_strings d Y)
-        (entry_strings_length d X Y)))
+        (settled_parts (entry_strings d x) (segment_strings d x) (entry_strings d y) (segment_strings d y)
+        (entry_strings_length d x y)))
 
     module _ (found : Compared)
         (e : found
-        ≡ entries_compared (entry_position x.place) (entry_for (fields_at r x)) (fields_at r x).entry_path
-        (entry_for (fields_at s y)) (fields_at s y).entry_path) where
-      found_is : found ≡ entries_found terms.size (fields_at r x) (fields_at s y)
+        ≡ entries_compared (entry_position x.place) (entry_for x) x.entry_path
+        (entry_for y) y.entry_path) where
+      found_is : found ≡ entries_found terms.size x y
       found_is = e ∙ entries_found_lem (accepted a) (accepted b) at
 
       pub entries_differ : found.differs ≡ true → settled_from found ≡ settle_records terms r s
@@ -127,10 +121,10 @@ module _ {terms : DealTerms} {r s : List ℕ} {x y : ParsedRecord} (a : Accepted
         named : (x.commitment ≡ y.commitment) × (x.offset ≡ y.offset) × (x.size ≡ y.size)
         named =
             let none = sym (ap (λ (c : Compared). c.differs) found_is) ∙ n in
-            same_fields (fields_at r x) (fields_at s y) (sized a br) (sized b bs)
+            same_fields x y (sized a br) (sized b bs)
             (same_entry_named (accepted a) (accepted b) at none)
 
-        pub segment_paths : length (fields_at r x).segment_path ≡ length (fields_at s y).segment_path
+        pub segment_paths : length x.segment_path ≡ length y.segment_path
         segment_paths =
             (accepted a).segment_path_length
             ∙ ap (λ (size : ℕ). 32 * segment_path_levels terms.size size) named.2
@@ -138,8 +132,8 @@ module _ {terms : DealTerms} {r s : List ℕ} {x y : ParsedRecord} (a : Accepted
 
         pub entries_same : {rest : Compared}
             → rest
-            ≡ segments_compared (segment_position x.offset x.size) x.commitment (fields_at r x).segment_path
-            y.commitment (fields_at s y).segment_path
+            ≡ segments_compared (segment_position x.offset x.size) x.commitment x.segment_path
+            y.commitment y.segment_path
             → settled_from rest ≡ settle_records terms r s
         entries_same q =
             segments_decide _ _ _ settled_is found found_is n

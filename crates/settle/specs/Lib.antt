@@ -3,6 +3,7 @@ pub mod AcceptedRecord
 pub mod OwnPaths
 pub mod Comparing
 pub mod SettleLaws
+pub mod Answers
 pub mod AcceptedRecordLaws
 pub mod EntryStringsLaws
 pub mod TreeSettleLaws

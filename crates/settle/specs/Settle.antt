@@ -12,7 +12,12 @@ use Rattle.record.specs.Form.{Fields, Parsed, parsed, broken, parse}
 use Rattle.record.specs.Check.{DealTerms, entry_for, check_of}
 use Rattle.lent.specs.LentDeal.{LentDeal, deal_size, deal_refusal}
 use Rattle.builder.specs.Build.{terms_of}
-use Rattle.settle.specs.declared.Settled.{Settled}
+
+-- an answer: with code 17 the two strings, else two strings of zeros
+pub record Settled : Type 0 where
+  pub code : ℕ
+  pub left : List ℕ
+  pub right : List ℕ
 
 abbrev pub not_settled : ℕ → Settled
 not_settled code = record { code = code; left = replicate 64 0; right = replicate 64 0 }

@@ -11,7 +11,7 @@ use Rattle.record.specs.Form.{Fields}
 use Rattle.record.specs.FormLaws.{Sized}
 use Rattle.record.specs.Check.{entry_for}
 use Rattle.settle.specs.Settle.{not_settled, settled_by}
-use Rattle.settle.specs.declared.Settled.{Settled}
+use Rattle.settle.specs.Settle.{Settled}
 
 -- what comparing found, as an answer
 abbrev pub settled_from : Compared → Settled

@@ -24,7 +24,7 @@ use Rattle.builder.specs.BuildLaws.{in_deal, segment_start_lem, entry_start_lem}
 use Rattle.builder.specs.TreeBuildLaws.{filled_terms}
 use Rattle.settle.specs.Settle.{not_settled, settled_by, strings_of, strings_in, deal_strings, deal_strings_in}
 use Rattle.settle.specs.Settle.{settle_with_deal}
-use Rattle.settle.specs.declared.Settled.{Settled}
+use Rattle.settle.specs.Settle.{Settled}
 
 -- answers behind a code that are the same where nothing is refused
 unless_same : (code : ℕ) (a b : Settled) → (code ≡ 0 → a ≡ b)

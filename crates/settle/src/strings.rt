@@ -1,37 +1,19 @@
-// The strings of an entry and along two paths from one position, compared, and the answer that follows.
+// The entry that a record names, and the strings along two paths from one position, compared.
 ghost use Rattle.std.specs.Prelude.{◌≡◌, [], ◌∷◌, length};
 ghost use Rattle.paths.specs.Difference.{first_difference};
 ghost use Rattle.paths.specs.Compare.{compared, seen_as};
-ghost use Rattle.settle.specs.Settle.{not_settled};
-ghost use Rattle.settle.specs.SettleLaws.{settled_from};
+ghost use Rattle.record.specs.Answers.{read_fields};
+ghost use Rattle.record.specs.Check.{entry_for};
 ghost use Rattle.settle.specs.Comparing.{entries_compared, segments_compared};
 
-use crate::Settled;
 use paths::Difference;
+use record::ParsedRecord;
 
-// A refusal, and with code 0 the answer where nothing differs.
-pub(crate) fn not_settled(code: u8) -> Settled
-    ensures { result ≡ not_settled code }
+// The entry that a record names, rebuilt from its commitment, offset and size.
+pub(crate) fn entry_for(x: &ParsedRecord<'_>) -> [u8; 64]
+    ensures { result ≡ entry_for (read_fields x.now) }
 {
-    Settled {
-        code,
-        left: [0u8; 64],
-        right: [0u8; 64],
-    }
-}
-
-// What comparing found, as an answer.
-pub(crate) fn settled_from(found: Option<Difference>) -> Settled
-    ensures { result ≡ settled_from (seen_as found) }
-{
-    match found {
-        Some(strings) => Settled {
-            code: 17,
-            left: strings.left,
-            right: strings.right,
-        },
-        None => not_settled(0),
-    }
+    entries::entry_of(x.commitment, x.offset, x.size)
 }
 
 // Compares two strings alone.

@@ -8,7 +8,6 @@ use paths::Difference;
 use playback::{NotPlayed, ROWS_BYTES};
 use room::Booked;
 use rules::Refusal;
-use settle::Settled;
 use std::io;
 use stream::Stream;
 
@@ -301,7 +300,7 @@ fn written(rt: &impl Print, code: u8, length: usize, out: &[u8]) -> io::Result<(
 
 fn build(rt: &impl Print, deal: &[u8], number: u64, place: u64, out: &mut [u8]) -> io::Result<()> {
     let answer = builder::build(deal, number, place, out);
-    written(rt, answer.code, answer.length, out)
+    written(rt, refusal_of(&answer), answer.unwrap_or(0), out)
 }
 
 fn build_with_tree(
@@ -313,7 +312,7 @@ fn build_with_tree(
     out: &mut [u8],
 ) -> io::Result<()> {
     let answer = builder::build_with_tree(deal, tree, number, place, out);
-    written(rt, answer.code, answer.length, out)
+    written(rt, refusal_of(&answer), answer.unwrap_or(0), out)
 }
 
 fn pad(rt: &impl Print, raw: &[u8], out: &mut [u8]) -> io::Result<()> {
@@ -326,12 +325,22 @@ fn unpad(rt: &impl Print, raw_length: u64, segment: &[u8], out: &mut [u8]) -> io
     written(rt, refusal_of(&answer), answer.unwrap_or(0), out)
 }
 
-fn settled(rt: &impl Print, answer: Settled) -> io::Result<()> {
-    let left = answer.left;
-    let right = answer.right;
-    show::code(rt, answer.code)?;
-    show::bytes(rt, &left)?;
-    show::bytes(rt, &right)
+// The strings where none differ.
+const NO_STRINGS: Difference = Difference {
+    left: [0u8; 64],
+    right: [0u8; 64],
+};
+
+// 17 and the two strings at the first difference; else 0 or the refusal, and zeros.
+fn settled(rt: &impl Print, answer: Result<Option<Difference>, Refusal>) -> io::Result<()> {
+    let (code, strings) = match answer {
+        Ok(Some(strings)) => (17, strings),
+        Ok(None) => (0, NO_STRINGS),
+        Err(refusal) => (refusal.code(), NO_STRINGS),
+    };
+    show::code(rt, code)?;
+    show::bytes(rt, &strings.left)?;
+    show::bytes(rt, &strings.right)
 }
 
 // The strings of two paths from one position compared, each path after the node that it starts from: 17 and the two
@@ -347,10 +356,7 @@ fn compare(rt: &impl Print, position: u64, a: &[u8], b: &[u8]) -> io::Result<()>
     let y = octets::array_at(b, 0);
     let found = paths::compare_paths(position, x, &a[32..], y, &b[32..], None);
     show::code(rt, if found.is_some() { 17 } else { 0 })?;
-    let strings = found.unwrap_or(Difference {
-        left: [0u8; 64],
-        right: [0u8; 64],
-    });
+    let strings = found.unwrap_or(NO_STRINGS);
     show::bytes(rt, &strings.left)?;
     show::bytes(rt, &strings.right)
 }

@@ -6,7 +6,6 @@ ghost use Rattle.lent.specs.LentDeal.{lent_deal, tree_deal};
 ghost use Rattle.builder.specs.Build.{build_answer, build_output};
 ghost use Rattle.vizhuthamen.specs.Export.{lent_output, field_tag, field_start, field_length, field_next};
 
-use crate::output::write_length;
 
 // Builds the record of the kept entry at a place of a deal with a number.
 #[unsafe(no_mangle)]
@@ -24,8 +23,13 @@ pub extern "C" fn vz_build(
         ≡ lent_output result (build_answer (lent_deal deal.now) number place «record».old).length
         length.old }
 {
-    let answer = builder::build(deal, number, place, record);
-    write_length(answer.code, answer.length, length)
+    match builder::build(deal, number, place, record) {
+        Ok(written) => {
+            *length = written as u64;
+            0
+        }
+        Err(refusal) => refusal.code() as u32,
+    }
 }
 
 // The same with the tree beside the deal.
@@ -46,8 +50,13 @@ pub extern "C" fn vz_build_with_tree(
         (build_answer (tree_deal deal.now tree.now) number place «record».old).length
         length.old }
 {
-    let answer = builder::build_with_tree(deal, tree, number, place, record);
-    write_length(answer.code, answer.length, length)
+    match builder::build_with_tree(deal, tree, number, place, record) {
+        Ok(written) => {
+            *length = written as u64;
+            0
+        }
+        Err(refusal) => refusal.code() as u32,
+    }
 }
 
 // The code of the check of a record against a deal's commitment, size and number.

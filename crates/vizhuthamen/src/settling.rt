@@ -3,16 +3,22 @@ ghost use Rattle.std.specs.Prelude.{◌≡◌};
 ghost use Rattle.record.specs.Check.{deal_terms};
 ghost use Rattle.lent.specs.LentDeal.{lent_deal, tree_deal};
 ghost use Rattle.settle.specs.Settle.{settle_records, settle_with_deal};
+ghost use Rattle.settle.specs.Answers.{settled_answer};
 ghost use Rattle.vizhuthamen.specs.Export.{lent_pair_code, lent_output_or};
 
-use crate::output::{WRONG_LENGTH, write_64_bytes, written_with};
-use settle::Settled;
+use crate::output::WRONG_LENGTH;
+use paths::Difference;
+use rules::Refusal;
 
 // Writes the two strings of an answer where both outputs have their one length, and gives the code.
-fn write_settled(answer: Settled, left: &mut [u8], right: &mut [u8]) -> u32
-    ensures value { result ≡ lent_pair_code left.old right.old answer.code }
-    ensures left_after { left.new ≡ lent_output_or 17 result answer.left left.old }
-    ensures right_after { right.new ≡ lent_output_or 17 result answer.right right.old }
+fn write_settled(
+    answer: Result<Option<Difference>, Refusal>,
+    left: &mut [u8],
+    right: &mut [u8],
+) -> u32
+    ensures value { result ≡ lent_pair_code left.old right.old (settled_answer answer).code }
+    ensures left_after { left.new ≡ lent_output_or 17 result (settled_answer answer).left left.old }
+    ensures right_after { right.new ≡ lent_output_or 17 result (settled_answer answer).right right.old }
 {
     if left.len() != 64 {
         return WRONG_LENGTH;
@@ -20,12 +26,19 @@ fn write_settled(answer: Settled, left: &mut [u8], right: &mut [u8]) -> u32
     if right.len() != 64 {
         return WRONG_LENGTH;
     }
-    let written = written_with(answer.code, 17);
-    let left_string = answer.left;
-    let right_string = answer.right;
-    write_64_bytes(written, left_string, left);
-    write_64_bytes(written, right_string, right);
-    answer.code as u32
+    match answer {
+        Ok(Some(strings)) => {
+            octets::put_array(left, 0, strings.left);
+            octets::put_array(right, 0, strings.right);
+            17
+        }
+        Ok(None) => {
+            left.fill(0);
+            right.fill(0);
+            0
+        }
+        Err(refusal) => refusal.code() as u32,
+    }
 }
 
 // Settles two records for one deal commitment, size and number.

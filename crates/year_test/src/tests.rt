@@ -7,7 +7,6 @@ use crate::counts::count;
 use crate::history::{BookedSegment, Bookings, History, ROWS};
 use crate::parts::part;
 use crate::slots::{SLOTS, Slot, Slots, area_of, slot_at, slots_of, standing_sum};
-use builder::BuildAnswer;
 
 // The tests, counted from 0; as many places on, those that failed are counted.
 pub(crate) const NONE_ALIKE: usize = 0;
@@ -108,12 +107,12 @@ fn is_kept(deal: &[u8], slots: Slots, b: BookedSegment) -> bool {
 }
 
 // Whether a record was built, and the check accepts it against the deal's commitment, its size and this deal number.
-fn accepted(deal: &[u8], number: u64, built: BuildAnswer, out: &[u8]) -> bool {
-    if built.code != 0 {
+fn accepted(deal: &[u8], number: u64, built: Result<usize, Refusal>, out: &[u8]) -> bool {
+    let Ok(length) = built else {
         return false;
-    }
+    };
     let commitment = merkle::commitment(deal).unwrap_or([0u8; 32]);
-    let record = part(out, 0, built.length as u64);
+    let record = part(out, 0, length as u64);
     record::check(&commitment, deal.len() as u64, number, record).is_ok()
 }
 

@@ -1,12 +1,9 @@
-use mathlib.Core.Path.{sym, ap, ◌∙◌}
+use mathlib.Core.Path.{sym, ◌∙◌}
 use mathlib.Core.List.{[]}
-use Rattle.paths.specs.Compare.{compared_above, Compared}
+use Rattle.paths.specs.Difference.{first_difference}
 use Rattle.paths.proofs.CompareLaws.{compared_more}
 use Rattle.settle.proofs.strings.compare_strings.Goals as goal
 
 pub returns : goal.returns
-returns c =
-    let a = c.args in
-    c.compare_above.ensures
-    ∙ ap (λ (seen : Compared). compared_above seen a.left a.right) c.no_difference.ensures
-    ∙ sym (compared_more a.left a.right [] [])
+unfolding first_difference
+returns c = c.compare_above.ensures ∙ sym (compared_more c.args.left c.args.right [] [])

@@ -1,5 +1,5 @@
 -- The record's entry against the 64 bytes at its place, and its entry path against the deal's own pairs.
-use mathlib.Core.Path.{◌≡◌, sym, ap, ◌∙◌, subst}
+use mathlib.Core.Path.{◌≡◌, refl, sym, ap, ◌∙◌, subst}
 use Prim.Native.Nat.{ℕ, ◌/◌}
 use mathlib.Core.List.{List, [], ◌∷◌}
 use lib.ListN.{length}
@@ -13,12 +13,11 @@ use Rattle.paths.specs.DealStarts.{entry_start}
 use Rattle.sizes.specs.Sizes.{deal_level, entry_position}
 use Rattle.record.specs.Form.{Fields}
 use Rattle.record.specs.CheckLaws.{Accepted}
-use Rattle.record.specs.ParsedRecordLaws.{fields_at}
-use Rattle.lent.specs.LentDeal.{LentDeal, deal_size, deal_refusal, lent_with}
-use Rattle.lent.specs.LentDealLaws.{usable}
+use Rattle.record.specs.Answers.{read_fields}
+use Rattle.lent.specs.LentDeal.{LentDeal, deal_size, deal_refusal}
+use Rattle.lent.specs.Seen.{seen}
 use Rattle.builder.specs.Build.{terms_of}
 use Rattle.builder.specs.BuildLaws.{entry_start_lem}
-use Rattle.settle.specs.AcceptedRecordLaws.{accepted, within}
 use Rattle.settle.proofs.DealCases.{inside, entry_levels, entries_found_lem}
 use Rattle.settle.proofs.with_deal.compare_deal_entry.Goals as goal
 
@@ -38,49 +37,44 @@ module _ (deal : LentDeal) (fine : deal_refusal deal ≡ 0) {x : Fields} (a : Ac
   path_inside : InTree (deal_level (deal_size deal)) start
   path_inside = subst (InTree (deal_level (deal_size deal))) (sym start_is) (entry_start_lem (inside deal fine a))
 
-pub pair_at-own_entry-requires : goal.pair_at-own_entry-requires
-pair_at-own_entry-requires c =
+pub array_at-own_entry-requires : goal.array_at-own_entry-requires
+array_at-own_entry-requires c =
     let a = c.args in
-    (inside (lent_with a.has_tree a.deal.now a.tree.now) c.requires.0 (accepted c.requires.1)).place_is.in_deal
-
-pub path_in-entry_path-requires : goal.path_in-entry_path-requires
-path_in-entry_path-requires c = (within c.requires.1).entry_path_within
+    (inside (seen a.deal.now) c.requires.0 c.requires.1).place_is.in_deal
 
 pub node_in-own_node-requires : goal.node_in-own_node-requires
 node_in-own_node-requires c =
     let a = c.args in
-    let deal = lent_with a.has_tree a.deal.now a.tree.now in
+    let deal = seen a.deal.now in
     record {
-      usable = usable deal c.requires.0;
-      in_tree = path_inside deal c.requires.0 (accepted c.requires.1) c.path_in-entry_path.ensures;
+      in_tree = path_inside deal c.requires.0 c.requires.1 refl;
     }
 
 pub compare_with_own-requires : goal.compare_with_own-requires
 compare_with_own-requires c =
     let a = c.args in
-    let deal = lent_with a.has_tree a.deal.now a.tree.now in
-    let taken = accepted c.requires.1 in
+    let deal = seen a.deal.now in
+    let taken = c.requires.1 in
     record {
-      usable = usable deal c.requires.0;
-      in_tree = path_inside deal c.requires.0 taken c.path_in-entry_path.ensures;
+      in_tree = path_inside deal c.requires.0 taken refl;
       own_node_value = c.node_in-own_node.ensures;
       own_value =
           c.requires.2
-          ∙ ap (siblings_from deal.nodes) (sym (start_is deal c.requires.0 taken c.path_in-entry_path.ensures));
+          ∙ ap (siblings_from deal.nodes) (sym (start_is deal c.requires.0 taken refl));
     }
 
 pub returns : goal.returns
 returns c =
     let a = c.args in
-    let deal = lent_with a.has_tree a.deal.now a.tree.now in
-    let x = fields_at a.record.now a.x in
-    let taken = accepted c.requires.1 in
+    let deal = seen a.deal.now in
+    let x = read_fields a.x.now in
+    let taken = c.requires.1 in
     let q = entry_position x.place in
     let entry = c.entry_for-entry.ensures in
     let node = c.node_hash-node.ensures ∙ ap node_hash entry in
-    let seen = c.compare_strings-seen.ensures
-    ∙ (λ i. compared (first_difference (entry i ∷ []) (c.pair_at-own_entry.ensures i ∷ []))) in
-    let levels = levels_are deal c.requires.0 taken c.path_in-entry_path.ensures in
+    let below = c.compare_strings-below.ensures
+    ∙ (λ i. compared (first_difference (entry i ∷ []) (c.array_at-own_entry.ensures i ∷ []))) in
+    let levels = levels_are deal c.requires.0 taken refl in
     c.compare_with_own.ensures
-    ∙ (λ i. compared_with_own deal.nodes (levels i) 1 q (node i) (c.path_in-entry_path.ensures i) (seen i))
+    ∙ (λ i. compared_with_own deal.nodes (levels i) 1 q (node i) x.entry_path (below i))
     ∙ entries_found_lem deal c.requires.0 taken

@@ -7,7 +7,7 @@ use Rattle.octets.specs.Splice.{splice}
 use Rattle.paths.specs.Start.{path_start, InTree}
 use Rattle.paths.specs.Siblings.{siblings}
 use Rattle.sizes.specs.Sizes.{deal_level, area}
-use Rattle.lent.specs.LentDeal.{lent_with}
+use Rattle.lent.specs.Seen.{seen}
 use Rattle.lent.specs.UsableLaws.{nodes_sized}
 use Rattle.builder.specs.Build.{entry_path_of}
 use Rattle.builder.specs.BuildLaws.{segment_start_lem, entry_start_lem}
@@ -39,11 +39,10 @@ write_paths-requires c =
     let l = c.segment_level-level.ensures in
     let q = c.segment_position.ensures in
     let w = c.requires.in_deal in
-    let deal = lent_with a.has_tree a.deal.now a.tree.now in
-    let top = deal_level (length a.deal.now) in
-    let each = nodes_sized a.has_tree a.deal.now a.tree.now c.requires.usable in
+    let deal = seen a.deal.now in
+    let top = deal_level (length a.deal.now.bytes.now) in
+    let each = nodes_sized _ _ a.deal.now.usable in
     record {
-      usable = c.requires.usable;
       level_nonzero = (
         omega (arith, w.size_is.level_low, l),
         subst (InTree top) (λ j. path_start (top - sym l j) (sym l j) (sym q j)) (segment_start_lem w),
@@ -67,8 +66,8 @@ returns c =
     let a = c.args in
     let l = c.segment_level-level.ensures in
     let q = c.segment_position.ensures in
-    let deal = lent_with a.has_tree a.deal.now a.tree.now in
-    let top = deal_level (length a.deal.now) in (
+    let deal = seen a.deal.now in
+    let top = deal_level (length a.deal.now.bytes.now) in (
       c.write_paths.ensures.0,
       c.write_paths.ensures.1
           ∙ (λ j. splice (splice a.out.now 0 (siblings deal.nodes (top - l j) (l j) (q j)))
