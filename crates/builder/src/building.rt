@@ -10,7 +10,7 @@ use rules::Refusal;
 
 // Building over a lent deal that is not refused.
 fn build_in(
-    deal: &Lent<'_>,
+    deal: &Lent,
     number: u64,
     place: u64,
     out: &mut [u8],

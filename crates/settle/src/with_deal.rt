@@ -64,7 +64,7 @@ fn allowed_offset(d: u64, offset: u64, size: u64) -> u64
 // Writes the deal's own paths for a segment, whose node is in hand, and for an entry place into `out`: the segment's
 // from 0 on, and the entry's behind it. The answer is the deal's commitment.
 fn write_own(
-    deal: &Lent<'_>,
+    deal: &Lent,
     offset: u64,
     size: u64,
     node: [u8; 32],
@@ -90,7 +90,7 @@ fn write_own(
 // Compares the entry strings of an accepted record with those of the deal: the 64 bytes at the entry place, and the
 // pairs of nodes above. The deal's own entry path at that place is in hand.
 fn compare_deal_entry(
-    deal: &Lent<'_>,
+    deal: &Lent,
     own_path: &[u8],
     x: &ParsedRecord<'_>,
 ) -> Option<Difference>
@@ -111,7 +111,7 @@ fn compare_deal_entry(
 // Compares the segment strings of an accepted record with those of the deal: the pairs of nodes above the segment. The
 // deal's own node over the segment is in hand, and its segment path.
 fn compare_deal_segment(
-    deal: &Lent<'_>,
+    deal: &Lent,
     own_node: [u8; 32],
     own_path: &[u8],
     x: &ParsedRecord<'_>,
@@ -130,7 +130,7 @@ fn compare_deal_segment(
 // Settling over a lent deal that is not refused. The deal's own two paths are written in one pass; they lead to the
 // commitment, and for an accepted record they are the ones to compare.
 fn settle_in(
-    deal: &Lent<'_>,
+    deal: &Lent,
     number: u64,
     record: &[u8],
 ) -> Result<Option<Difference>, Refusal>

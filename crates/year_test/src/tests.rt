@@ -7,6 +7,7 @@ use crate::counts::count;
 use crate::history::{BookedSegment, Bookings, History, ROWS};
 use crate::parts::part;
 use crate::slots::{SLOTS, Slot, Slots, area_of, slot_at, slots_of, standing_sum};
+use rules::Refusal;
 
 // The tests, counted from 0; as many places on, those that failed are counted.
 pub(crate) const NONE_ALIKE: usize = 0;
