@@ -1,91 +1,50 @@
--- What collection leaves, by its code: the second deal, the tree beside it and the second table afterwards.
-use mathlib.Core.Path.{◌≡◌, refl, sym, ◌∙◌}
-use mathlib.Core.Bool.{Bool, true, false}
-use mathlib.Core.Logic.{◌≢◌}
+-- What is ready where nothing refuses a collection.
+use mathlib.Core.Path.{◌≡◌, ap, ◌∙◌}
 use mathlib.Core.List.{List}
 use Prim.Native.Nat.{ℕ}
-use lib.ListN.{length}
-use Rattle.rules.specs.Choice.{choose}
-use Rattle.sizes.specs.Sizes.{entry_count, deal_level}
-use Rattle.tree.specs.Filled.{filled}
-use Rattle.lent.specs.LentDeal.{LentDeal, lent_with}
-use Rattle.room.specs.Room.{SameBelow, ranges_in}
-use Rattle.room.specs.declared.Ranges.{Ranges}
+use lib.ListN.{length, take}
+use Rattle.sizes.specs.Sizes.{lent_size_allowed, entry_count}
+use Rattle.sizes.specs.SizesLaws.{LentSize, lent_size}
+use Rattle.lent.specs.LentDeal.{LentDeal}
+use Rattle.room.specs.Room.{Range, SameBelow, ranges_in}
 use Rattle.ranges.specs.Ranges.{ranges_of}
 use Rattle.houses.specs.HousesLaws.{sized_length}
 use Rattle.packing.specs.NoOverlapLaws.{none_overlaps_lem}
-use Rattle.collect.specs.Collect.{
-  collect_code,
-  collected_deal,
-  collected_table,
-  second_deal,
-  second_owners,
-  second_tree,
-}
-use Rattle.collect.specs.Collectable.{Collects}
+use Rattle.collect.specs.Collect.{collected_deal}
+use Rattle.collect.specs.Collectable.{Collects, Movable}
 use Rattle.collect.specs.Ready.{Ready}
-use Rattle.collect.specs.AnswerLaws.{
-  deal_collected,
-  deal_left,
-  owners_collected,
-  owners_left,
-  tree_collected,
-  tree_left,
-}
+use Rattle.collect.proofs.CollectLaws.{collected_length}
+use Rattle.collect.proofs.Gathered.{first_gathered, first_slots}
 
--- where nothing refuses, the gathered ranges are ready to be written by
-pub ready : {deal table : List ℕ} {second : LentDeal} {second_table : List ℕ}
-    → Collects deal table second second_table → (ranges : Ranges)
-    → SameBelow (entry_count (length deal)) (ranges_in ranges) (ranges_of deal) → Ready deal ranges (length table)
-ready {deal} {table} c ranges gathered =
+-- the ranges of a deal that can be collected are ready to be written by
+pub ready : {deal table second second_table : List ℕ} → Movable deal table second second_table → (ranges : List Range)
+    → SameBelow (entry_count (length deal)) (ranges_in ranges) (ranges_of deal) → length ranges ≡ 128
+    → Ready deal (take (length table) ranges)
+ready {deal} {table} m ranges gathered long =
+    let slots_are = sized_length (length deal) table m.table_sized_lem in
     record {
-      lent = c.collectable.lent;
-      none_overlaps_lem = (none_overlaps_lem (ranges_of deal) (entry_count (length deal))).1 c.collectable.apart;
-      gathered = gathered;
-      slots_are = sized_length (length deal) table c.table_sized_lem;
+      lent = m.collectable.lent;
+      none_overlaps_lem = (none_overlaps_lem (ranges_of deal) (entry_count (length deal))).1 m.collectable.apart;
+      gathered = first_gathered deal ranges (length table) m.collectable.lent gathered slots_are long;
+      slots_are = first_slots deal ranges (length table) m.collectable.lent gathered slots_are long;
     }
 
-module _ (has_tree : Bool) (deal table second tree second_table : List ℕ) where
-  abbrev lent : LentDeal
-  lent = lent_with has_tree second tree
+-- where nothing refuses, the deal can be collected into the second one
+pub movable : (deal table : List ℕ) (second : LentDeal) (second_table : List ℕ)
+    → Collects deal table second second_table → Movable deal table second.bytes second_table
+movable deal table second second_table c =
+    record {
+      collectable = c.collectable;
+      table_sized_lem = c.table_sized_lem;
+      second_sized = c.second_sized;
+      second_length = c.second_length;
+    }
 
-  pub record Outcome (new_deal new_tree new_table : List ℕ) : Type 0 where
-    pub deal_is : new_deal ≡ second_deal deal table lent second_table
-    pub tree_is : new_tree ≡ choose has_tree (second_tree deal table second tree second_table) tree
-    pub table_is : new_table ≡ second_owners deal table lent second_table
+-- the length of the new deal allows the level that its tree is filled to
+module _ {deal table second second_table new : List ℕ} (m : Movable deal table second second_table)
+    (e : new ≡ collected_deal deal) where
+  pub same_length : length new ≡ length deal
+  same_length = ap length e ∙ collected_length m.collectable
 
-  -- with code 0 all are written
-  pub collected : collect_code deal table lent second_table ≡ 0 → (new_deal new_tree new_table : List ℕ)
-      → new_deal ≡ collected_deal deal
-      → new_tree ≡ choose has_tree (filled (deal_level (length deal)) (collected_deal deal)) tree
-      → new_table ≡ collected_table deal table
-      → Outcome new_deal new_tree new_table
-  collected code new_deal new_tree new_table d f t =
-      record {
-        deal_is = d ∙ sym (deal_collected deal table lent second_table code);
-        tree_is = f ∙ by_tree has_tree code;
-        table_is = t ∙ sym (owners_collected deal table lent second_table code);
-      }
-    where
-      by_tree : (b : Bool) → collect_code deal table (lent_with b second tree) second_table ≡ 0
-          → choose b (filled (deal_level (length deal)) (collected_deal deal)) tree
-          ≡ choose b (second_tree deal table second tree second_table) tree
-      by_tree true q = sym (tree_collected deal table second tree second_table q)
-      by_tree false q = refl
-
-  -- with any other code all stay
-  pub left : (code : ℕ) → code ≡ collect_code deal table lent second_table → code ≢ 0 → Outcome second tree second_table
-  left code answered refuses =
-      record {
-        deal_is = sym (deal_left deal table lent second_table refused);
-        tree_is = by_tree has_tree refused;
-        table_is = sym (owners_left deal table lent second_table refused);
-      }
-    where
-      refused : collect_code deal table lent second_table ≢ 0
-      refused e = refuses (answered ∙ e)
-
-      by_tree : (b : Bool) → collect_code deal table (lent_with b second tree) second_table ≢ 0
-          → tree ≡ choose b (second_tree deal table second tree second_table) tree
-      by_tree true q = sym (tree_left deal table second tree second_table q)
-      by_tree false q = refl
+  pub new_lent : LentSize (length new)
+  new_lent = lent_size (length new) (ap lent_size_allowed same_length ∙ m.collectable.lent)

@@ -5,12 +5,12 @@ use mathlib.Core.Logic.{◌≢◌}
 use mathlib.Core.List.{List, [], ◌∷◌, ◌++◌}
 use Prim.Native.Nat.{ℕ, zero, suc, ◌+◌, ◌<◌}
 use native.Mathlib.Omega.{arith}
-use lib.ListN.{length, take, drop, get_or, set}
+use lib.ListN.{length, take, drop, set}
 use borrow.Author.Tests.{eq-eqb, ne_eqb}
 use Rattle.octets.specs.Splice.{splice}
 use Rattle.octets.specs.SpliceLaws.{splice_nothing}
 use Rattle.index.specs.Slots.{slot_at, standing, row_at, row_area}
-use Rattle.room.specs.declared.Ranges.{Ranges}
+use Rattle.room.specs.Room.{Range, ranges_in}
 use Rattle.ranges.specs.RangesLaws.{empty_free}
 use Rattle.collect.specs.Collect.{slot_to, owner_to}
 use Rattle.collect.specs.Ready.{Ready}
@@ -28,9 +28,9 @@ one_written (y ∷ xs) (suc i) x h =
     ap (λ (l : List ℕ). y ∷ l) (one_written xs i x (omega arith))
     ∙ ap (λ (n : ℕ). y ∷ (take i xs ++ (x ∷ []) ++ drop n (y ∷ xs))) next
 
-module _ {deal : List ℕ} {ranges : Ranges} {slots : ℕ} (r : Ready deal ranges slots) (j : ℕ) (h : j < slots) where
+module _ {deal : List ℕ} {ranges : List Range} (r : Ready deal ranges) (j : ℕ) (h : j < length ranges) where
   -- a slot without bytes brings none
-  pub nothing_written : get_or ranges.areas j 0 ≡ 0 → (table new : List ℕ)
+  pub nothing_written : (ranges_in ranges j).area ≡ 0 → (table new : List ℕ)
       → new ≡ splice new (slot_to deal j) (owner_to deal table j)
   nothing_written e table new =
       let empty = eq-eqb (row_area (row_at deal j)) 0 (sym (area_at_lem r j h) ∙ e) in
@@ -38,7 +38,7 @@ module _ {deal : List ℕ} {ranges : Ranges} {slots : ℕ} (r : Ready deal range
       sym (ap (splice new (slot_to deal j)) (none_brought deal table j free) ∙ splice_nothing new (slot_to deal j))
 
   -- in any other an entry stands
-  pub entry_stands : get_or ranges.areas j 0 ≢ 0 → standing (length deal) (slot_at deal j) ≡ true
+  pub entry_stands : (ranges_in ranges j).area ≢ 0 → standing (length deal) (slot_at deal j) ≡ true
   entry_stands ne =
       full_stands deal (sized (collectable r)) j
       (ne_eqb (row_area (row_at deal j)) 0 (λ e. ne (area_at_lem r j h ∙ e)))

@@ -48,11 +48,13 @@ pub fn held_count(ranges: &[Range], table: &[u8], house: u8) -> usize
     requires { length ranges.now ≤ length table.now }
     ensures { result ≡ held_count (ranges_in ranges.now) table.now house (length ranges.now) }
 {
-    ranges
-        .iter()
-        .zip(table)
-        .filter(|(range, owner)| range.area != 0 && **owner == house)
-        .count()
+    let mut held = 0;
+    for (i, range) in ranges.iter().enumerate() {
+        if range.area != 0 && table[i] == house {
+            held += 1;
+        }
+    }
+    held
 }
 
 // The slot at an entry place of a lent deal.

@@ -1,5 +1,5 @@
 -- A turn of the gathering: slot i is added to the ranges of the slots before it.
-use Rattle.std.proofs.Common.{◌≡◌, sym, ap, ◌∙◌, subst, ⊎_elim, eq-or-lt_of_le, ℕ, ◌+◌, ◌≤◌, ◌<◌, List, length, get_or, set, get_or-set_same, get_or-set_other, arith, Option, Some, None}
+use Rattle.std.proofs.Common.{◌≡◌, refl, zero, suc, replicate, sym, ap, ◌∙◌, subst, ⊎_elim, eq-or-lt_of_le, ℕ, ◌+◌, ◌≤◌, ◌<◌, List, length, get_or, set, get_or-set_same, get_or-set_other, arith, Option, Some, None}
 use Rattle.entries.specs.declared.Fields.{Fields}
 use Rattle.sizes.specs.Sizes.{area, slot_place}
 use Rattle.index.specs.Slots.{Row, entry_at, row_as, row_of, row_at}
@@ -38,3 +38,9 @@ module _ (deal : List ℕ) (i place : ℕ) (answer : Option Fields) (p : place �
         (z ∙ sym (ap (λ (x : Option Fields). row_range (row_as x)) f) ∙ read_range))
         (λ less. g j less)
         (eq-or-lt_of_le within)
+
+-- an array of one range has it in each place, and from its end on
+pub all_none : (n j : ℕ) → get_or (replicate n (range 0 0)) j (range 0 0) ≡ range 0 0
+all_none zero j = refl
+all_none (suc n) zero = refl
+all_none (suc n) (suc j) = all_none n j
