@@ -8,20 +8,26 @@ ghost use Rattle.booking.specs.Booking.{book_answer, booked_deal, booked_table};
 ghost use Rattle.booking.specs.BookedTree.{booked_tree};
 ghost use Rattle.vizhuthamen.specs.Export.{lent_output_or};
 
-use crate::output::{write_u64, written_with};
 use room::{Placed, Unbooked};
 
-// Writes the two numbers of an answer, and gives its code.
+// The code where a segment is kept already.
+const KEPT_ALREADY: u32 = 15;
+
+// Writes the two numbers of an answer, where it has them, and gives its code.
 fn write_booked(booked: Result<Placed, Unbooked>, offset: &mut u64, place: &mut u64) -> u32
     ensures value { result ≡ (booked_of booked).code }
-    ensures offset_after { offset.new ≡ lent_output_or 15 result (booked_of booked).offset offset.old }
+    ensures offset_after { offset.new
+        ≡ lent_output_or 15 result (booked_of booked).offset offset.old }
     ensures place_after { place.new ≡ lent_output_or 15 result (booked_of booked).place place.old }
 {
-    let answer = room::booked_of(booked);
-    let written = written_with(answer.code, 15);
-    write_u64(written, answer.offset, offset);
-    write_u64(written, answer.place, place);
-    answer.code as u32
+    let (placed, code) = match booked {
+        Ok(placed) => (placed, 0),
+        Err(Unbooked::Already(placed)) => (placed, KEPT_ALREADY),
+        Err(Unbooked::Refused(refusal)) => return refusal.code() as u32,
+    };
+    *offset = placed.offset;
+    *place = placed.place;
+    code
 }
 
 // Books a segment in a deal for a house.
@@ -47,8 +53,7 @@ pub extern "C" fn vz_book(
         (book_answer (lent_deal deal.old) table.old house segment.now).place
         place.old }
 {
-    let answer = booking::book(deal, table, house, segment);
-    write_booked(answer, offset, place)
+    write_booked(booking::book(deal, table, house, segment), offset, place)
 }
 
 // The same with the tree beside the deal, which is brought up to date.
@@ -80,8 +85,8 @@ pub extern "C" fn vz_book_with_tree(
         (book_answer (tree_deal deal.old tree.old) table.old house
         segment.now).place place.old }
 {
-    let answer = booking::book_with_tree(deal, tree, table, house, segment);
-    write_booked(answer, offset, place)
+    let booked = booking::book_with_tree(deal, tree, table, house, segment);
+    write_booked(booked, offset, place)
 }
 
 // Fills the tree beside a deal with every inner node of the deal's tree.

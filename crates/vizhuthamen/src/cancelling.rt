@@ -55,7 +55,7 @@ pub extern "C" fn vz_collect(
         ≡ second_owners deal.now table.now (lent_deal second.old)
         second_table.old }
 {
-    collect::collect(deal, table, second, second_table) as u32
+    rules::code_of(collect::collect(deal, table, second, second_table)) as u32
 }
 
 // The same with the tree beside the second deal, which is filled for it.
@@ -80,5 +80,5 @@ pub extern "C" fn vz_collect_with_tree(
         ≡ second_owners deal.now table.now (tree_deal second.old tree.old)
         second_table.old }
 {
-    collect::collect_with_tree(deal, table, second, tree, second_table) as u32
+    rules::code_of(collect::collect_with_tree(deal, table, second, tree, second_table)) as u32
 }

@@ -17,7 +17,7 @@ pub extern "C" fn vz_sha256(message: &[u8], digest: &mut [u8]) -> u32
     }
     match sha256::sha256(message) {
         Ok(bytes) => {
-            octets::put_array(digest, 0, bytes);
+            digest.copy_from_slice(&bytes);
             0
         }
         Err(refusal) => refusal.code() as u32,
@@ -35,7 +35,7 @@ pub extern "C" fn vz_commitment(run: &[u8], node: &mut [u8]) -> u32
     }
     match merkle::commitment(run) {
         Ok(commitment) => {
-            octets::put_array(node, 0, commitment);
+            node.copy_from_slice(&commitment);
             0
         }
         Err(refusal) => refusal.code() as u32,

@@ -43,7 +43,7 @@ pub extern "C" fn vz_make_entry(commitment: &[u8], offset: u64, size: u64, entry
     }
     match entries::make_entry(commitment, offset, size) {
         Ok(made) => {
-            octets::put(entry, 0, &made);
+            entry.copy_from_slice(&made);
             0
         }
         Err(refusal) => refusal.code() as u32,
@@ -81,7 +81,7 @@ pub extern "C" fn vz_read_entry(
         ReadEntry::Valid(fields) => (2, fields),
     };
     *kind = number;
-    octets::put(commitment, 0, &fields.commitment);
+    commitment.copy_from_slice(&fields.commitment);
     *offset = fields.offset;
     *size = fields.size;
     0

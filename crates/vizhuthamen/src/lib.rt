@@ -7,8 +7,7 @@ pub mod cancelling; // cancelling.rt: cancelling an entry, and collecting a deal
 pub mod deals; // deals.rt: the audit and the tally of an index, finding a segment
 pub mod hashing; // hashing.rt: SHA-256 and commitments
 pub mod index_entries; // index_entries.rt: index numbers and entries
-mod numbers; // numbers.rt: what stands for the kind of an entry
-mod output; // output.rt: what is written to lent outputs
+mod output; // output.rt: the code for an output of another length
 pub mod padding; // padding.rt: raw archives to segments and back
 pub mod playing; // playing.rt: playing a log back
 pub mod records; // records.rt: building and checking a record, and reading its fields

@@ -10,15 +10,26 @@ use crate::output::WRONG_LENGTH;
 use paths::Difference;
 use rules::Refusal;
 
+// The code where two strings are a proof against a sealed segment.
+const DIFFERENT: u32 = 17;
+
+// What is written where nothing differs.
+const NO_DIFFERENCE: Difference = Difference {
+    left: [0; 64],
+    right: [0; 64],
+};
+
 // Writes the two strings of an answer where both outputs have their one length, and gives the code.
 fn write_settled(
-    answer: Result<Option<Difference>, Refusal>,
+    settled: Result<Option<Difference>, Refusal>,
     left: &mut [u8],
     right: &mut [u8],
 ) -> u32
-    ensures value { result ≡ lent_pair_code left.old right.old (settled_answer answer).code }
-    ensures left_after { left.new ≡ lent_output_or 17 result (settled_answer answer).left left.old }
-    ensures right_after { right.new ≡ lent_output_or 17 result (settled_answer answer).right right.old }
+    ensures value { result ≡ lent_pair_code left.old right.old (settled_answer settled).code }
+    ensures left_after { left.new
+        ≡ lent_output_or 17 result (settled_answer settled).left left.old }
+    ensures right_after { right.new
+        ≡ lent_output_or 17 result (settled_answer settled).right right.old }
 {
     if left.len() != 64 {
         return WRONG_LENGTH;
@@ -26,19 +37,14 @@ fn write_settled(
     if right.len() != 64 {
         return WRONG_LENGTH;
     }
-    match answer {
-        Ok(Some(strings)) => {
-            octets::put_array(left, 0, strings.left);
-            octets::put_array(right, 0, strings.right);
-            17
-        }
-        Ok(None) => {
-            left.fill(0);
-            right.fill(0);
-            0
-        }
-        Err(refusal) => refusal.code() as u32,
-    }
+    let (strings, code) = match settled {
+        Ok(None) => (NO_DIFFERENCE, 0),
+        Ok(Some(difference)) => (difference, DIFFERENT),
+        Err(refusal) => return refusal.code() as u32,
+    };
+    left.copy_from_slice(&strings.left);
+    right.copy_from_slice(&strings.right);
+    code
 }
 
 // Settles two records for one deal commitment, size and number.
@@ -62,8 +68,8 @@ pub extern "C" fn vz_settle_records(
         (settle_records (deal_terms commitment.now size number) first.now
         second.now).right right.old }
 {
-    let answer = settle::settle_records(commitment, size, number, first, second);
-    write_settled(answer, left, right)
+    let settled = settle::settle_records(commitment, size, number, first, second);
+    write_settled(settled, left, right)
 }
 
 // Settles a record with a deal and its number.
@@ -82,8 +88,7 @@ pub extern "C" fn vz_settle_with_deal(
     ensures right_after { right.new ≡ lent_output_or 17 result
         (settle_with_deal (lent_deal deal.now) number «record».now).right right.old }
 {
-    let answer = settle::settle_with_deal(deal, number, record);
-    write_settled(answer, left, right)
+    write_settled(settle::settle_with_deal(deal, number, record), left, right)
 }
 
 // The same with the tree beside the deal.
@@ -105,6 +110,6 @@ pub extern "C" fn vz_settle_with_tree(
         (settle_with_deal (tree_deal deal.now tree.now) number «record».now).right
         right.old }
 {
-    let answer = settle::settle_with_tree(deal, tree, number, record);
-    write_settled(answer, left, right)
+    let settled = settle::settle_with_tree(deal, tree, number, record);
+    write_settled(settled, left, right)
 }

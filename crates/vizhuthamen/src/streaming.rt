@@ -52,7 +52,7 @@ pub extern "C" fn vz_stream_end(state: &[u8], node: &mut [u8], count: &mut u64) 
     }
     match stream::unpack(state).end() {
         Ok(ended) => {
-            octets::put_array(node, 0, ended.node);
+            node.copy_from_slice(&ended.node);
             *count = ended.count;
             0
         }
