@@ -192,10 +192,7 @@ fn booked(rt: &impl Print, answer: Booked, deal: &[u8]) -> io::Result<()> {
 
 // The house that a number names; 0 is none.
 fn house_of(number: u64) -> u8 {
-    if 255 < number {
-        return 0;
-    }
-    number as u8
+    u8::try_from(number).unwrap_or(0)
 }
 
 fn book(
@@ -259,7 +256,8 @@ fn collect(
     second: &mut [u8],
     second_table: &mut [u8],
 ) -> io::Result<()> {
-    show::code(rt, collect::collect(deal, table, second, second_table))?;
+    let answer = collect::collect(deal, table, second, second_table);
+    show::code(rt, rules::code_of(answer))?;
     show::digest(rt, second)?;
     show::digest(rt, second_table)
 }
@@ -272,10 +270,8 @@ fn collect_with_tree(
     tree: &mut [u8],
     second_table: &mut [u8],
 ) -> io::Result<()> {
-    show::code(
-        rt,
-        collect::collect_with_tree(deal, table, second, tree, second_table),
-    )?;
+    let answer = collect::collect_with_tree(deal, table, second, tree, second_table);
+    show::code(rt, rules::code_of(answer))?;
     show::digest(rt, second)?;
     show::digest(rt, tree)?;
     show::digest(rt, second_table)
@@ -292,15 +288,15 @@ fn fill_row(rt: &impl Print, below: &[u8], above: &mut [u8]) -> io::Result<()> {
 }
 
 // The answer of a call that writes to an output, and the output afterwards.
-fn written(rt: &impl Print, code: u8, length: usize, out: &[u8]) -> io::Result<()> {
-    show::code(rt, code)?;
-    show::number(rt, length as u64)?;
+fn written(rt: &impl Print, answer: Result<usize, Refusal>, out: &[u8]) -> io::Result<()> {
+    show::code(rt, refusal_of(&answer))?;
+    show::number(rt, answer.unwrap_or(0) as u64)?;
     show::digest(rt, out)
 }
 
 fn build(rt: &impl Print, deal: &[u8], number: u64, place: u64, out: &mut [u8]) -> io::Result<()> {
     let answer = builder::build(deal, number, place, out);
-    written(rt, refusal_of(&answer), answer.unwrap_or(0), out)
+    written(rt, answer, out)
 }
 
 fn build_with_tree(
@@ -312,31 +308,29 @@ fn build_with_tree(
     out: &mut [u8],
 ) -> io::Result<()> {
     let answer = builder::build_with_tree(deal, tree, number, place, out);
-    written(rt, refusal_of(&answer), answer.unwrap_or(0), out)
+    written(rt, answer, out)
 }
 
 fn pad(rt: &impl Print, raw: &[u8], out: &mut [u8]) -> io::Result<()> {
     let answer = fr32::pad(raw, out);
-    written(rt, refusal_of(&answer), answer.unwrap_or(0), out)
+    written(rt, answer, out)
 }
 
 fn unpad(rt: &impl Print, raw_length: u64, segment: &[u8], out: &mut [u8]) -> io::Result<()> {
     let answer = fr32::unpad(raw_length, segment, out);
-    written(rt, refusal_of(&answer), answer.unwrap_or(0), out)
+    written(rt, answer, out)
 }
 
-// The strings where none differ.
-const NO_STRINGS: Difference = Difference {
-    left: [0u8; 64],
-    right: [0u8; 64],
-};
-
-// 17 and the two strings at the first difference; else 0 or the refusal, and zeros.
-fn settled(rt: &impl Print, answer: Result<Option<Difference>, Refusal>) -> io::Result<()> {
+// A code, and two strings: with 17 those of a difference, else zeros.
+fn strings(rt: &impl Print, answer: Result<Option<Difference>, Refusal>) -> io::Result<()> {
+    let none = Difference {
+        left: [0u8; 64],
+        right: [0u8; 64],
+    };
     let (code, strings) = match answer {
-        Ok(Some(strings)) => (17, strings),
-        Ok(None) => (0, NO_STRINGS),
-        Err(refusal) => (refusal.code(), NO_STRINGS),
+        Ok(Some(difference)) => (17, difference),
+        Ok(None) => (0, none),
+        Err(refusal) => (refusal.code(), none),
     };
     show::code(rt, code)?;
     show::bytes(rt, &strings.left)?;
@@ -355,10 +349,7 @@ fn compare(rt: &impl Print, position: u64, a: &[u8], b: &[u8]) -> io::Result<()>
     let x = octets::array_at(a, 0);
     let y = octets::array_at(b, 0);
     let found = paths::compare_paths(position, x, &a[32..], y, &b[32..], None);
-    show::code(rt, if found.is_some() { 17 } else { 0 })?;
-    let strings = found.unwrap_or(NO_STRINGS);
-    show::bytes(rt, &strings.left)?;
-    show::bytes(rt, &strings.right)
+    strings(rt, Ok(found))
 }
 
 // The fields in turn from place 0, and the first place that is no field.
@@ -378,16 +369,31 @@ fn fields(rt: &impl Print, record: &[u8]) -> io::Result<()> {
     show::number(rt, place as u64)
 }
 
-// The calls that only read.
-fn answer_reading(
-    rt: &impl Print,
-    operation: u64,
-    a: &[u8],
-    b: &[u8],
-    c: &[u8],
-    x: u64,
-    y: u64,
-) -> io::Result<()> {
+// A call: five byte strings and two numbers, of which each routine takes some. A table of owners is in d, a second one in
+// e, and a house in y.
+pub(crate) struct Call<'a> {
+    pub(crate) operation: u64,
+    pub(crate) a: &'a mut [u8],
+    pub(crate) b: &'a mut [u8],
+    pub(crate) c: &'a mut [u8],
+    pub(crate) d: &'a mut [u8],
+    pub(crate) e: &'a mut [u8],
+    pub(crate) x: u64,
+    pub(crate) y: u64,
+}
+
+// Answers a call.
+fn answer_call(rt: &impl Print, call: Call) -> io::Result<()> {
+    let Call {
+        operation,
+        a,
+        b,
+        c,
+        d,
+        e,
+        x,
+        y,
+    } = call;
     match operation {
         1 => hash(rt, a),
         2 => commit(rt, a),
@@ -395,113 +401,34 @@ fn answer_reading(
         4 => make_entry(rt, a, x, y),
         5 => read_entry(rt, a),
         6 => find(rt, a, b),
+        7 => book(rt, a, d, y, b),
+        8 => build(rt, a, y, x, b),
         9 => show::code(rt, rules::code_of(record::check(b, x, y, a))),
-        10 => settled(rt, settle::settle_records(c, x, y, a, b)),
-        11 => settled(rt, settle::settle_with_deal(a, y, b)),
+        10 => strings(rt, settle::settle_records(c, x, y, a, b)),
+        11 => strings(rt, settle::settle_with_deal(a, y, b)),
         12 => fields(rt, a),
         13 => show::code(rt, rules::code_of(check_input::check_input(a))),
+        14 => audit(rt, a, b),
         15 => compare(rt, x, a, b),
         16 => stream(rt, a, b),
+        17 => pad(rt, a, b),
+        18 => unpad(rt, x, a, b),
         19 => tally(rt, a),
-        23 => settled(rt, settle::settle_with_tree(a, c, y, b)),
+        20 => fill_tree(rt, a, c),
+        21 => book_with_tree(rt, a, c, d, y, b),
+        22 => build_with_tree(rt, a, c, y, x, b),
+        23 => strings(rt, settle::settle_with_tree(a, c, y, b)),
+        24 => cancel(rt, a, d, y, x),
+        25 => cancel_with_tree(rt, a, c, d, y, x),
+        26 => collect(rt, a, d, b, e),
+        27 => collect_with_tree(rt, a, d, b, c, e),
+        28 => fill_row(rt, a, b),
+        29 => playback(rt, a, x),
         _ => Ok(()),
     }
 }
 
-// The calls that write with a tree in hand; every other only reads.
-fn answer_with_tree(
-    rt: &impl Print,
-    operation: u64,
-    a: &mut [u8],
-    b: &mut [u8],
-    c: &mut [u8],
-    x: u64,
-    y: u64,
-) -> io::Result<()> {
-    if operation == 20 {
-        return fill_tree(rt, a, c);
-    }
-    if operation == 22 {
-        return build_with_tree(rt, a, c, y, x, b);
-    }
-    answer_reading(rt, operation, a, b, c, x, y)
-}
-
-// All calls without a table of owners: those that write without a tree too.
-fn answer_any(
-    rt: &impl Print,
-    operation: u64,
-    a: &mut [u8],
-    b: &mut [u8],
-    c: &mut [u8],
-    x: u64,
-    y: u64,
-) -> io::Result<()> {
-    if operation == 8 {
-        return build(rt, a, y, x, b);
-    }
-    if operation == 14 {
-        return audit(rt, a, b);
-    }
-    if operation == 17 {
-        return pad(rt, a, b);
-    }
-    if operation == 18 {
-        return unpad(rt, x, a, b);
-    }
-    if operation == 28 {
-        return fill_row(rt, a, b);
-    }
-    if operation == 29 {
-        return playback(rt, a, x);
-    }
-    answer_with_tree(rt, operation, a, b, c, x, y)
-}
-
-// All calls: those with a table of owners, in d, too. A house is in y, a second table in e.
-fn answer_housed(
-    rt: &impl Print,
-    operation: u64,
-    a: &mut [u8],
-    b: &mut [u8],
-    c: &mut [u8],
-    d: &mut [u8],
-    e: &mut [u8],
-    x: u64,
-    y: u64,
-) -> io::Result<()> {
-    if operation == 7 {
-        return book(rt, a, d, y, b);
-    }
-    if operation == 21 {
-        return book_with_tree(rt, a, c, d, y, b);
-    }
-    if operation == 24 {
-        return cancel(rt, a, d, y, x);
-    }
-    if operation == 25 {
-        return cancel_with_tree(rt, a, c, d, y, x);
-    }
-    if operation == 26 {
-        return collect(rt, a, d, b, e);
-    }
-    if operation == 27 {
-        return collect_with_tree(rt, a, d, b, c, e);
-    }
-    answer_any(rt, operation, a, b, c, x, y)
-}
-
-pub(crate) fn answer(
-    rt: &impl Print,
-    operation: u64,
-    a: &mut [u8],
-    b: &mut [u8],
-    c: &mut [u8],
-    d: &mut [u8],
-    e: &mut [u8],
-    x: u64,
-    y: u64,
-) -> io::Result<()> {
-    answer_housed(rt, operation, a, b, c, d, e, x, y)?;
+pub(crate) fn answer(rt: &impl Print, call: Call) -> io::Result<()> {
+    answer_call(rt, call)?;
     show::end(rt)
 }

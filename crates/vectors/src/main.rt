@@ -7,6 +7,7 @@ mod show; // show.rt: numbers and bytes on standard output
 
 ghost use Rattle.std.specs.Prelude.{◌≡◌, length};
 
+use answers::Call;
 use intake::read_full;
 use std::io;
 use std::io::Read;
@@ -15,27 +16,6 @@ fn buffer() -> [u8; 8192]
     ensures { 8192 ≡ length result }
 {
     [0; 8192]
-}
-
-// Reads the bytes a, b, c, d and e of a call, and answers it.
-fn replay(
-    rt: &impl Print,
-    reader: &mut impl Read,
-    operation: u64,
-    a: &mut [u8],
-    b: &mut [u8],
-    c: &mut [u8],
-    d: &mut [u8],
-    e: &mut [u8],
-    x: u64,
-    y: u64,
-) -> io::Result<()> {
-    read_full(reader, a)?;
-    read_full(reader, b)?;
-    read_full(reader, c)?;
-    read_full(reader, d)?;
-    read_full(reader, e)?;
-    answers::answer(rt, operation, a, b, c, d, e, x, y)
 }
 
 // Reads a call: eight little-endian numbers (operation, lengths of a, b, c, d and e, x, y), then the bytes a, b, c, d
@@ -61,18 +41,22 @@ fn replay_next(rt: &impl Print, reader: &mut impl Read) -> io::Result<bool> {
     let mut c = buffer();
     let mut d = buffer();
     let mut e = buffer();
-    replay(
-        rt,
-        reader,
+    let call = Call {
         operation,
-        &mut a[..length_a as usize],
-        &mut b[..length_b as usize],
-        &mut c[..length_c as usize],
-        &mut d[..length_d as usize],
-        &mut e[..length_e as usize],
+        a: &mut a[..length_a as usize],
+        b: &mut b[..length_b as usize],
+        c: &mut c[..length_c as usize],
+        d: &mut d[..length_d as usize],
+        e: &mut e[..length_e as usize],
         x,
         y,
-    )?;
+    };
+    read_full(reader, call.a)?;
+    read_full(reader, call.b)?;
+    read_full(reader, call.c)?;
+    read_full(reader, call.d)?;
+    read_full(reader, call.e)?;
+    answers::answer(rt, call)?;
     Ok(true)
 }
 

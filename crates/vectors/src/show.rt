@@ -1,12 +1,8 @@
 // Numbers and bytes on standard output, each with a space before it; a line starts with its code.
 use std::io;
 
-fn wide(x: u8) -> u64 {
-    x as u64
-}
-
 pub(crate) fn code(rt: &impl Print, x: u8) -> io::Result<()> {
-    print!(rt; "{}", wide(x))
+    print!(rt; "{x}")
 }
 
 pub(crate) fn number(rt: &impl Print, n: u64) -> io::Result<()> {
@@ -16,7 +12,7 @@ pub(crate) fn number(rt: &impl Print, n: u64) -> io::Result<()> {
 pub(crate) fn bytes(rt: &impl Print, s: &[u8]) -> io::Result<()> {
     print!(rt; " ")?;
     for byte in s {
-        print!(rt; "{:02x}", wide(*byte))?;
+        print!(rt; "{byte:02x}")?;
     }
     Ok(())
 }
