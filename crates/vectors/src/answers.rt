@@ -371,6 +371,7 @@ fn fields(rt: &impl Print, record: &[u8]) -> io::Result<()> {
 
 // A call: five byte strings and two numbers, of which each routine takes some. A table of owners is in d, a second one in
 // e, and a house in y.
+#[derive(Drop)]
 pub(crate) struct Call<'a> {
     pub(crate) operation: u64,
     pub(crate) a: &'a mut [u8],

@@ -83,7 +83,7 @@ fn collect(
     second_tree: &mut [u8],
     second_table: &mut [u8],
     call: Call,
-) -> u8 {
+) -> Result<(), Refusal> {
     let deal_end = lent_length(deal, call.short == calls::DEAL);
     let table_end = lent_length(table, call.short == calls::TABLE);
     let second_end = lent_length(second, call.short == calls::SECOND);
@@ -123,15 +123,12 @@ fn collect_and_go_on(
     second_tree: &mut [u8],
     second_table: &mut [u8],
     call: Call,
-) -> u8 {
-    let code = collect(deal, table, second, second_tree, second_table, call);
-    if code != 0 {
-        return code;
-    }
+) -> Result<(), Refusal> {
+    collect(deal, table, second, second_tree, second_table, call)?;
     take_place(deal, second);
     take_place(tree, second_tree);
     take_place(table, second_table);
-    0
+    Ok(())
 }
 
 // The answer of a call.
@@ -150,7 +147,8 @@ fn answer(
     if call.kind == calls::CANCELLING {
         return code_alone(rules::code_of(cancel(deal, tree, table, call)));
     }
-    code_alone(collect_and_go_on(deal, tree, table, second, second_tree, second_table, call))
+    let collected = collect_and_go_on(deal, tree, table, second, second_tree, second_table, call);
+    code_alone(rules::code_of(collected))
 }
 
 // Fills the tree beside a deal, if it is to be.
