@@ -3,7 +3,8 @@ use mathlib.Core.Path.{◌≡◌, refl, sym, ap, ◌∙◌}
 use mathlib.Core.List.{List}
 use Prim.Native.Nat.{ℕ, ◌*◌, ◌^◌, ◌≤◌, ◌<◌}
 use native.Mathlib.Omega.{arith}
-use lib.ListN.{length}
+use lib.ListN.{length, take}
+use Rattle.std.proofs.lemmas.List.{get_or-take, length-take-le}
 use Rattle.rules.specs.SearchLaws.{found_below}
 use Rattle.octets.specs.Fill.{zero_filled}
 use Rattle.merkle.specs.Tree.{commitment_of}
@@ -12,12 +13,11 @@ use Rattle.sizes.specs.SizesLaws.{LentSize, SegmentSize}
 use Rattle.lent.specs.LentDeal.{LentDeal, deal_size}
 use Rattle.index.specs.Slots.{slot_at}
 use Rattle.index.specs.KeptRowsLaws.{row_ends}
-use Rattle.room.specs.Room.{Range, SameBelow, EndBy, ranges_in}
+use Rattle.room.specs.Room.{Range, SameBelow, EndBy, range, ranges_in}
 use Rattle.room.specs.RoomLaws.{slots_high}
 use Rattle.room.specs.Decide.{SlotBelow, decide, answer_to}
 use Rattle.room.specs.DecideLaws.{decides_below, decide_cong, answer_cong}
 use Rattle.room.specs.Decide.{Decision}
-use Rattle.room.specs.Room.{Range}
 use Rattle.ranges.specs.Ranges.{ranges_of}
 use Rattle.houses.specs.Houses.{held_count}
 use Rattle.houses.specs.HousesLaws.{held_cong, held_most}
@@ -72,11 +72,21 @@ module _ (deal : LentDeal) (table : List ℕ) (house : ℕ) (segment : List ℕ)
         let a = ap (λ (r : Range). r.area) (g i h) in
         omega arith
 
-    pub held_by_lem : held_count (ranges_in ranges) table house (length table) ≡ held_in deal.bytes table house
-    held_by_lem =
-        ap (held_count (ranges_in ranges) table house) (table_length_lem b)
-        ∙ held_cong (entry_count (deal_size deal)) (ranges_in ranges) (ranges_of deal.bytes) table table house g
-        (λ i h. refl)
+    -- as many ranges are counted as the table has bytes
+    module _ (full : length ranges ≡ 128) where
+      pub counted_length : length (take (length table) ranges) ≡ length table
+      counted_length = length-take-le (length table) ranges (omega (arith, slots_fit))
+
+      pub held_by_lem :
+          held_count (ranges_in (take (length table) ranges)) table house (length (take (length table) ranges))
+          ≡ held_in deal.bytes table house
+      held_by_lem =
+          ap (held_count (ranges_in (take (length table) ranges)) table house) (counted_length ∙ table_length_lem b)
+          ∙ held_cong (entry_count (deal_size deal)) (ranges_in (take (length table) ranges)) (ranges_of deal.bytes)
+          table table house
+          (λ i h.
+          get_or-take (length table) ranges i (range 0 0) (omega (arith, table_length_lem b)) ∙ g i h)
+          (λ i h. refl)
 
     abbrev decided : Decision
     decided =

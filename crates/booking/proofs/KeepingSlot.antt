@@ -1,7 +1,10 @@
 -- Whether a slot keeps a segment, by the tests on the way. Without a tree the deal is not hashed: over equal bytes
 -- the node is the segment's own commitment.
 use mathlib.Core.Path.{◌≡◌, refl, sym, ap, ap₂, ◌∙◌}
-use mathlib.Core.Bool.{Bool, true, false, ◌&&◌}
+use mathlib.Core.Bool.{Bool, true, false, ◌&&◌, not}
+use Rattle.std.specs.Prelude.{nat_eq}
+use Rattle.std.specs.Cmp.Lexicographic.{pointwise}
+use Rattle.std.proofs.lemmas.Bool.{not-true, not-false}
 use mathlib.Core.List.{List}
 use Prim.Native.Nat.{ℕ, ◌+◌, ◌≤◌, ◌<◌}
 use native.Mathlib.Nat.{add-zero}
@@ -11,7 +14,7 @@ use lib.ListN.{length}
 use borrow.Author.Tests.{eqb-true, eq-eqb}
 use Rattle.std.specs.Prelude.{Option, Some, None}
 use Rattle.octets.specs.Equality.{same_bytes}
-use Rattle.octets.specs.EqualityLaws.{same_true, same_of, same_false}
+use Rattle.octets.specs.EqualityLaws.{pointwise_same, same_true, same_of, same_false}
 use Rattle.octets.specs.Fill.{zero_filled}
 use Rattle.octets.specs.LittleEndian.{number_of}
 use Rattle.rules.specs.RefusalLaws.{and_left, and_right, not_passed}
@@ -34,6 +37,14 @@ use Rattle.booking.specs.Write.{area_bytes, segment_commitment}
 use Rattle.booking.specs.AreaNode.{area_node}
 use Rattle.booking.specs.Booking.{keeps_segment}
 use Rattle.booking.specs.KeepLaws.{keeps_stands}
+
+-- what the test whether two strings differ says
+module _ (x y : List ℕ) (differ : Bool) (e : differ ≡ not (pointwise nat_eq x y)) where
+  pub unequal : differ ≡ true → x ≡ y → ⊥
+  unequal t = same_false x y (sym (pointwise_same x y) ∙ not-true (pointwise nat_eq x y) (sym e ∙ t))
+
+  pub equal : differ ≡ false → x ≡ y
+  equal t = same_true x y (sym (pointwise_same x y) ∙ not-false (pointwise nat_eq x y) (sym e ∙ t))
 
 module _ (deal : LentDeal) (segment : List ℕ) (i : ℕ) where
   -- the entry in the slot, whether it has the segment's size, and the bytes at its offset

@@ -3,10 +3,11 @@ use mathlib.Core.Path.{◌≡◌, refl, sym, ap, ap₂, ◌∙◌}
 use mathlib.Core.Bool.{true}
 use mathlib.Core.Logic.{◌≢◌}
 use mathlib.Core.List.{List}
-use Prim.Native.Nat.{ℕ, ◌+◌, ◌≤◌}
+use Prim.Native.Nat.{ℕ, ◌+◌, ◌≤◌, ◌<◌}
 use native.Mathlib.Omega.{arith}
 use lib.ListN.{length}
 use Rattle.std.specs.Prelude.{Result, Ok, Err}
+use Rattle.std.specs.Result.{IsErrAnd}
 use Rattle.rules.specs.Answers.{number}
 use Rattle.rules.specs.declared.Refusal.{Refusal}
 use Rattle.rules.specs.Refusals.{first_refusal}
@@ -30,10 +31,11 @@ use Rattle.houses.specs.Houses.{table_sized, with_owner}
 use Rattle.booking.specs.Write.{segment_commitment, written_at}
 use Rattle.booking.specs.WriteLaws.{Fits, written_at_lem}
 use Rattle.booking.specs.Booking.{book_rules, decision, book_answer, booked_deal, booked_table}
+use Rattle.booking.specs.Decided.{placed_in}
 use Rattle.booking.specs.BookedTree.{renewed_for, booked_tree}
-use Rattle.booking.specs.BookableLaws.{Bookable, BookableFor, bookable_deal, bookable_segment, bookable_usable}
+use Rattle.booking.specs.BookableLaws.{BookableFor, bookable_deal, bookable_segment, bookable_usable, area_some}
 use Rattle.booking.proofs.BookingLaws.{refused_is, answer_is, deal_is, code_0, refused_same, refused_table}
-use Rattle.booking.proofs.BookedLaws.{booked_fits, booked_is, booked_length, booked_table_is}
+use Rattle.booking.proofs.BookedLaws.{booked_unkept, booked_fits, booked_is, booked_length, booked_table_is}
 use Rattle.booking.proofs.BookedTreeLaws.{refused_tree, tree_is}
 
 -- code 0: a place was found, and the segment and its entry fit there
@@ -45,6 +47,9 @@ module _ (deal : LentDeal) (table : List ℕ) (house : ℕ) (segment : List ℕ)
 
     room : Fits deal.bytes segment placed.0 placed.1
     room = booked_fits deal table house segment placed.0 placed.1 placed.2
+
+    pub place_bookable : BookableFor deal table house segment
+    place_bookable = (booked_unkept deal table house segment placed.0 placed.1 placed.2).bookable
 
     answer_placed : answer ≡ answer_to (deal_size deal) (ranges_of deal.bytes) (Place placed.0 placed.1)
     answer_placed = e ∙ answer_is deal table house segment (Place placed.0 placed.1) placed.2
@@ -100,73 +105,71 @@ pub no_place : (why : Unbooked) → (booked_of (Err why)).code ≢ 0
 no_place (Refused r) = some_number r
 no_place (Un.Already at) = λ z. omega arith
 
+-- a refusal that `?` passes on
+pub refusal_passed_on : {A : Type 0} (found : Result (A × Placed) Unbooked) (r : Refusal)
+    → IsErrAnd found (λ y. y ≡ Refused r) → booked_of (placed_in found) ≡ booked_of (Err (Refused r))
+refusal_passed_on (Ok x) r k = absurd k
+refusal_passed_on (Err why) r k = ap (λ (w : Unbooked). booked_of (Err w)) k
+
 -- answer, deal and table: for a deal with a tree beside it or without one
 module _ (deal : LentDeal) (table : List ℕ) (house : ℕ) (segment : List ℕ) where
-  pub record Outcome (answer : Result Placed Unbooked) (new_deal new_table : List ℕ) : Type 0 where
-    pub answered : booked_of answer ≡ book_answer deal table house segment
-    pub deal_left : new_deal ≡ booked_deal deal table house segment
-    pub table_left : new_table ≡ booked_table deal table house segment
-
   -- without a place both stay
-  pub nothing_written : (why : Unbooked) → booked_of (Err why) ≡ book_answer deal table house segment
-      → Outcome (Err why) deal.bytes table
-  nothing_written why e =
-      record {
-        answered = e;
-        deal_left = deal_kept deal table house segment (booked_of (Err why)) e (no_place why);
-        table_left = table_kept deal table house segment (booked_of (Err why)) e (no_place why);
-      }
+  module _ (why : Unbooked) (e : booked_of (Err why) ≡ book_answer deal table house segment) where
+    pub deal_stays : deal.bytes ≡ booked_deal deal table house segment
+    deal_stays = deal_kept deal table house segment (booked_of (Err why)) e (no_place why)
+
+    pub table_stays : table ≡ booked_table deal table house segment
+    table_stays = table_kept deal table house segment (booked_of (Err why)) e (no_place why)
 
   -- a refusal by the rules
   pub refused_by : (r : Refusal) → number r ≡ first_refusal (book_rules deal table house segment)
-      → Outcome (Err (Refused r)) deal.bytes table
+      → booked_of (Err (Refused r)) ≡ book_answer deal table house segment
   refused_by r c =
       let d = refused_is deal table house segment (λ z. some_number r (c ∙ z)) in
-      nothing_written (Refused r)
-      (sym (answer_is deal table house segment (Refuse (number r)) (d ∙ ap Refuse (sym c))))
+      sym (answer_is deal table house segment (Refuse (number r)) (d ∙ ap Refuse (sym c)))
 
   -- with a place the segment is written, and the owner set
-  module _ (at : Placed) (e : booked_of (Ok at) ≡ book_answer deal table house segment) (new commitment : List ℕ)
-      (w : new ≡ written_at deal.bytes segment commitment at.offset at.place)
-      (c : commitment ≡ segment_commitment segment) where
+  module _ (at : Placed) (e : booked_of (Ok at) ≡ book_answer deal table house segment) (new commitment bytes : List ℕ)
+      (s : bytes ≡ segment) (c : commitment ≡ segment_commitment bytes)
+      (w : new ≡ written_at deal.bytes bytes commitment at.offset at.place) where
     abbrev answer : Booked
     answer = booked_of (Ok at)
 
     pub deal_is_written : new ≡ booked_deal deal table house segment
-    deal_is_written = w ∙ deal_written deal table house segment answer e refl commitment c
+    deal_is_written =
+        w
+        ∙ ap (λ (x : List ℕ). written_at deal.bytes x commitment at.offset at.place) s
+        ∙ deal_written deal table house segment answer e refl commitment (c ∙ ap segment_commitment s)
 
     pub new_length : length new ≡ deal_size deal
     new_length = ap length deal_is_written ∙ booked_length deal table house segment
 
-    pub new_within : (at.offset + area (length segment) ≤ length new) × (at.place + 64 ≤ length new)
+    facts : BookableFor deal table house segment
+    facts = place_bookable deal table house segment answer e refl
+
+    pub new_within :
+        (0 < area (length segment)) × (at.offset + area (length segment) ≤ length new) × (at.place + 64 ≤ length new)
     new_within =
         let l = new_length in (
+          area_some facts.bookable,
           omega (arith, area_within deal table house segment answer e refl),
           omega (arith, entry_within deal table house segment answer e refl),
         )
 
-    pub owner_fits : BookableFor deal table house segment
-        → ((lent_size_allowed (length new) ≡ true) × (place_allowed (length new) at.place ≡ true))
+    pub owner_fits : ((lent_size_allowed (length new) ≡ true) × (place_allowed (length new) at.place ≡ true))
         × (table_sized (length new) table ≡ true)
-    owner_fits b = (
+    owner_fits = (
       (
-        ap lent_size_allowed new_length ∙ b.bookable.deal_allowed,
+        ap lent_size_allowed new_length ∙ facts.bookable.deal_allowed,
         ap (λ (d : ℕ). place_allowed d at.place) new_length ∙ place_fits deal table house segment answer e refl,
       ),
-      ap (λ (d : ℕ). table_sized d table) new_length ∙ b.table_sized_lem,
+      ap (λ (d : ℕ). table_sized d table) new_length ∙ facts.table_sized_lem,
     )
 
-    pub segment_written : (new_table : List ℕ) → new_table ≡ with_owner table (slot_of (length new) at.place) house
-        → Outcome (Ok at) new new_table
-    segment_written new_table o =
-        record {
-          answered = e;
-          deal_left = deal_is_written;
-          table_left =
-              o
-              ∙ ap (λ (d : ℕ). with_owner table (slot_of d at.place) house) new_length
-              ∙ owner_set deal table house segment answer e refl;
-        }
+    pub table_is_written : with_owner table (slot_of (length new) at.place) house ≡ booked_table deal table house segment
+    table_is_written =
+        ap (λ (d : ℕ). with_owner table (slot_of d at.place) house) new_length
+        ∙ owner_set deal table house segment answer e refl
 
 -- the tree beside the deal
 module _ (deal tree table : List ℕ) (house : ℕ) (segment : List ℕ) where
@@ -183,8 +186,9 @@ module _ (deal tree table : List ℕ) (house : ℕ) (segment : List ℕ) where
   -- with one it is brought up to date
   module _ (at : Placed) (e : booked_of (Ok at) ≡ book_answer (tree_deal deal tree) table house segment)
       (new : List ℕ) (w : new ≡ booked_deal (tree_deal deal tree) table house segment) where
-    pub new_usable : Bookable (tree_deal deal tree) segment → Usable (tree_deal new tree)
-    new_usable b =
+    pub new_usable : Usable (tree_deal new tree)
+    new_usable =
+        let b = (place_bookable beside table house segment (booked_of (Ok at)) e refl).bookable in
         usable_same deal tree new tree (ap length w ∙ booked_length beside table house segment) refl (bookable_usable b)
 
     pub tree_renewed : renewed_for new tree at.offset (area (length segment)) at.place

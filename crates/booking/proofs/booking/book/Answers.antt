@@ -1,47 +1,71 @@
-use Rattle.std.proofs.Common.{rules, ◌≡◌, ◌+◌, ◌≤◌, ◌<◌, length, option_map, IfOk, ℕ, ◌-◌, ◌*◌, ◌/◌, ◌%◌, Bool, true, false, nat_eq, nat_lt, List, [], ◌∷◌, ◌++◌, slice_index_or, slice_set, bit_and, bit_or, Fits, w8, w32, w64, Bor, MutBor}
-use Rattle.sizes.specs.Sizes.{area}
-use Rattle.lent.specs.LentDeal.{lent_of, lent_deal, tree_deal}
-use Rattle.lent.specs.Seen.{seen}
-use Rattle.lent.specs.Usable.{Usable}
+use Rattle.std.proofs.Common.{refl, ◌∙◌}
+use Rattle.lent.specs.LentDeal.{lent_deal}
 use Rattle.room.specs.Decide.{booked_of}
-use Rattle.booking.specs.Decided.{placed_in}
-use Rattle.booking.specs.Booking.{book_answer, booked_deal, booked_table}
-use Rattle.booking.specs.BookedTree.{renewed_for, booked_tree}
-use Rattle.booking.specs.BookableLaws.{BookableFor}
+use Rattle.std.specs.Prelude.{Ok}
+use Rattle.booking.proofs.Outcome.{
+  size_within,
+  area_within,
+  entry_within,
+  deal_stays,
+  table_stays,
+  deal_is_written,
+  owner_fits,
+  table_is_written,
+}
 use Rattle.booking.proofs.booking.book.Goals as goal
 
--- src/booking.rt:88:25
+-- no place
 pub returns-in_err-segment-clause-deal_after : goal.returns-in_err-segment-clause-deal_after
-returns-in_err-segment-clause-deal_after c = ?
+returns-in_err-segment-clause-deal_after c =
+    deal_stays (lent_deal c.args.deal.now) c.args.table.now c.args.house c.args.segment.now
+    c.in_err-segment.field-0.0 c.in_err-segment.ensures.answer
 
--- src/booking.rt:88:25
 pub returns-in_err-segment-clause-table_after : goal.returns-in_err-segment-clause-table_after
-returns-in_err-segment-clause-table_after c = ?
+returns-in_err-segment-clause-table_after c =
+    table_stays (lent_deal c.args.deal.now) c.args.table.now c.args.house c.args.segment.now
+    c.in_err-segment.field-0.0 c.in_err-segment.ensures.answer
 
--- src/booking.rt:89:5
+-- the segment is written
 pub put-requires-clause-segment_len_bound : goal.put-requires-clause-segment_len_bound
-put-requires-clause-segment_len_bound c = ?
+put-requires-clause-segment_len_bound c =
+    rw c.in_ok-segment.ensures.segment
+    (size_within (lent_deal c.args.deal.now) c.args.table.now c.args.house c.args.segment.now
+    (booked_of (Ok c.in_ok-segment.at)) c.in_ok-segment.ensures.answer refl)
 
--- src/booking.rt:89:5
 pub put-requires-clause-segment_in_bounds : goal.put-requires-clause-segment_in_bounds
-put-requires-clause-segment_in_bounds c = ?
+put-requires-clause-segment_in_bounds c =
+    rw c.in_ok-segment.ensures.segment
+    (area_within (lent_deal c.args.deal.now) c.args.table.now c.args.house c.args.segment.now
+    (booked_of (Ok c.in_ok-segment.at)) c.in_ok-segment.ensures.answer refl)
 
--- src/booking.rt:89:5
 pub put-requires-clause-place_in_bounds : goal.put-requires-clause-place_in_bounds
-put-requires-clause-place_in_bounds c = ?
+put-requires-clause-place_in_bounds c =
+    entry_within (lent_deal c.args.deal.now) c.args.table.now c.args.house c.args.segment.now
+    (booked_of (Ok c.in_ok-segment.at)) c.in_ok-segment.ensures.answer refl
 
--- src/booking.rt:90:5
 pub put_owner-requires-clause-size_value : goal.put_owner-requires-clause-size_value
-put_owner-requires-clause-size_value c = ?
+put_owner-requires-clause-size_value c =
+    (owner_fits (lent_deal c.args.deal.now) c.args.table.now c.args.house c.args.segment.now c.in_ok-segment.at
+    c.in_ok-segment.ensures.answer c.put.new.deal c.in_ok-segment.segment.commitment
+    c.in_ok-segment.segment.bytes.now c.in_ok-segment.ensures.segment c.in_ok-segment.segment.committed
+    c.put.ensures).0
 
--- src/booking.rt:90:5
 pub put_owner-requires-clause-table_value : goal.put_owner-requires-clause-table_value
-put_owner-requires-clause-table_value c = ?
+put_owner-requires-clause-table_value c =
+    (owner_fits (lent_deal c.args.deal.now) c.args.table.now c.args.house c.args.segment.now c.in_ok-segment.at
+    c.in_ok-segment.ensures.answer c.put.new.deal c.in_ok-segment.segment.commitment
+    c.in_ok-segment.segment.bytes.now c.in_ok-segment.ensures.segment c.in_ok-segment.segment.committed
+    c.put.ensures).1
 
--- src/booking.rt:75:1
 pub returns-clause-deal_after : goal.returns-clause-deal_after
-returns-clause-deal_after c = ?
+returns-clause-deal_after c =
+    deal_is_written (lent_deal c.args.deal.now) c.args.table.now c.args.house c.args.segment.now c.in_ok-segment.at
+    c.in_ok-segment.ensures.answer c.put.new.deal c.in_ok-segment.segment.commitment
+    c.in_ok-segment.segment.bytes.now c.in_ok-segment.ensures.segment c.in_ok-segment.segment.committed c.put.ensures
 
--- src/booking.rt:75:1
 pub returns-clause-table_after : goal.returns-clause-table_after
-returns-clause-table_after c = ?
+returns-clause-table_after c =
+    c.put_owner.ensures
+    ∙ table_is_written (lent_deal c.args.deal.now) c.args.table.now c.args.house c.args.segment.now
+    c.in_ok-segment.at c.in_ok-segment.ensures.answer c.put.new.deal c.in_ok-segment.segment.commitment
+    c.in_ok-segment.segment.bytes.now c.in_ok-segment.ensures.segment c.in_ok-segment.segment.committed c.put.ensures

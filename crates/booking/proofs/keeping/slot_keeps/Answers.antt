@@ -1,6 +1,5 @@
 use Rattle.std.proofs.Common.{◌≡◌, sym, ap, ◌∙◌, ◌+◌, ◌≤◌, length, arith}
 use Rattle.std.specs.Prelude.{option_map}
-use Rattle.octets.specs.EqualityLaws.{pointwise_same, same_true, same_false}
 use Rattle.sizes.specs.SizesLaws.{segment_size, index_start_le}
 use Rattle.lent.specs.Seen.{seen}
 use Rattle.lent.specs.UsableLaws.{usable_size}
@@ -9,6 +8,8 @@ use Rattle.index.specs.KeptRowsLaws.{slot_within, row_ends}
 use Rattle.room.specs.Room.{Range}
 use Rattle.booking.specs.AreaNode.{area_node}
 use Rattle.booking.proofs.KeepingSlot.{
+  unequal,
+  equal,
   other_area,
   other_size,
   offset_here,
@@ -97,7 +98,7 @@ returns-then-ne c =
     (c.area_node-node.ensures
     ∙ ap (area_node d (option_map (λ t. t.now) a.deal.now.tree) a.range.offset (length a.segment.now.bytes.now))
     a.segment.now.committed)
-    (λ e. ?))
+    (λ e. unequal c.array_at.result c.area_node-node.result c.ne.result c.ne.ensures c.if-ne.true (read ∙ e)))
 
 pub same_filled-requires : goal.same_filled-requires
 same_filled-requires c =
@@ -132,4 +133,4 @@ returns c =
     (c.area_node-node.ensures
     ∙ ap (area_node d (option_map (λ t. t.now) a.deal.now.tree) a.range.offset (length a.segment.now.bytes.now))
     a.segment.now.committed)
-    ?
+    (sym read ∙ equal c.array_at.result c.area_node-node.result c.ne.result c.ne.ensures c.if-ne.false)
