@@ -1,4 +1,4 @@
-use Rattle.std.proofs.Common.{sym, ap, ap₂, ◌∙◌, subst, ℕ, length, arith}
+use Rattle.std.proofs.Common.{◌≡◌, sym, ap, ap₂, ◌∙◌, subst, ℕ, length, arith}
 use Rattle.sizes.specs.Sizes.{area, entry_count}
 use Rattle.lent.specs.Seen.{seen}
 use Rattle.room.specs.Room.{ranges_in}
@@ -26,12 +26,13 @@ pub slice_bounds-held_count-end : goal.slice_bounds-held_count-end
 slice_bounds-held_count-end c =
     sym
     (counted_length (seen c.args.deal.now) c.args.table.now c.args.house c.args.segment.now.bytes.now c.requires
-    c.gather-ranges.result c.gather-ranges.ensures (omega (arith, c.gather-ranges.type_inv)))
+    c.gather-ranges.result c.gather-ranges.ensures (omega arith))
 
 pub held_count-held-requires : goal.held_count-held-requires
 held_count-held-requires c =
+    let full : length c.gather-ranges.result ≡ 128 = omega arith in
     omega (arith, counted_length (seen c.args.deal.now) c.args.table.now c.args.house c.args.segment.now.bytes.now
-    c.requires c.gather-ranges.result c.gather-ranges.ensures c.gather-ranges.type_inv.0)
+    c.requires c.gather-ranges.result c.gather-ranges.ensures full)
 
 pub decide-decision-requires-clause-area_nonzero : goal.decide-decision-requires-clause-area_nonzero
 decide-decision-requires-clause-area_nonzero c =
