@@ -9,12 +9,7 @@ use lent::Lent;
 use rules::Refusal;
 
 // Building over a lent deal that is not refused.
-fn build_in(
-    deal: &Lent,
-    number: u64,
-    place: u64,
-    out: &mut [u8],
-) -> Result<usize, Refusal>
+fn build_in(deal: &Lent, number: u64, place: u64, out: &mut [u8]) -> Result<usize, Refusal>
     requires { deal_refusal (seen deal.now) ≡ 0 }
     ensures { (length_answer result ≡ build_answer (seen deal.now) number place out.old)
         × (out.new ≡ build_output (seen deal.now) number place out.old) }
@@ -38,12 +33,7 @@ fn build_in(
 // answers its length; the rest of `out` stays. 2 for a deal size that is not allowed, 11 for a deal with stray bits, 6
 // for a place that is not allowed, 16 for no kept entry there, 12 for an output shorter than the record: then nothing
 // is written.
-pub fn build(
-    deal: &[u8],
-    number: u64,
-    place: u64,
-    out: &mut [u8],
-) -> Result<usize, Refusal>
+pub fn build(deal: &[u8], number: u64, place: u64, out: &mut [u8]) -> Result<usize, Refusal>
     ensures { (length_answer result ≡ build_answer (lent_deal deal.now) number place out.old)
         × (out.new ≡ build_output (lent_deal deal.now) number place out.old) }
 {

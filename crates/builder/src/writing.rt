@@ -61,25 +61,13 @@ fn put_paths(
     let entry_row = record::ENTRY_PATH;
     let entry_size = 32 * (top - 1);
     let entry_content = fields::put_head(out, content + size, entry_row.tag, entry_size);
-    deal.write_paths(level,
-        segment,
-        entry_position,
-        out,
-        content,
-        entry_content,
-    );
+    deal.write_paths(level, segment, entry_position, out, content, entry_content);
     entry_content + entry_size
 }
 
 // Writes the record for the kept entry at a place of a lent deal with a number into the first bytes of `out`: the
 // fields of the table in its order, each where the one before it ends. Its commitment is the node over the segment.
-pub(crate) fn write_record(
-    deal: &Lent,
-    number: u64,
-    entry: Fields,
-    place: u64,
-    out: &mut [u8],
-)
+pub(crate) fn write_record(deal: &Lent, number: u64, entry: Fields, place: u64, out: &mut [u8])
     requires in_deal { InDeal (length deal.now.bytes.now) place entry.offset entry.size }
     requires commitment_value { entry.commitment
         ≡ (seen deal.now).nodes (segment_level entry.size)
@@ -101,12 +89,6 @@ pub(crate) fn write_record(
         position,
         node: commitment,
     };
-    let at = put_paths(
-        out,
-        at,
-        deal, level,
-        segment,
-        entry_position,
-    );
+    let at = put_paths(out, at, deal, level, segment, entry_position);
     fields::put_field(out, at, record::NUMBER, number.to_le_bytes());
 }

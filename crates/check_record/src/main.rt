@@ -4,14 +4,10 @@
 
 use std::io;
 
-fn wide(code: u8) -> u64 {
-    code as u64
-}
-
 fn main(rt: HostRuntime) -> io::Result<()> {
     // one byte more than the longest input that is checked: a longer one gets 3, whatever comes after
     let mut input = [0u8; 4145];
     let length = intake::read_full(&mut rt.reader(), &mut input)?;
     let code = rules::code_of(check_input::check_input(&input[..length]));
-    println!(rt; "{}", wide(code))
+    println!(rt; "{code}")
 }

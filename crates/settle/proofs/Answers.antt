@@ -1,9 +1,11 @@
 -- From a code, and from what was found to differ in the two parts, to the answer.
 use mathlib.Core.Path.{◌≡◌, refl, sym, ap, ◌∙◌}
-use mathlib.Core.Bool.{true, false}
+use mathlib.Core.Bool.{Bool, true, false}
 use Prim.Native.Nat.{ℕ, zero, suc}
+use Rattle.std.specs.Prelude.{Option, Some, None, is_some}
 use Rattle.rules.specs.Refusals.{unless_refused}
-use Rattle.paths.specs.Compare.{Compared}
+use Rattle.paths.specs.Compare.{Compared, seen_as}
+use Rattle.paths.specs.declared.Difference.{Difference}
 use Rattle.settle.specs.SettleLaws.{settled_from, or_compared}
 use Rattle.settle.specs.Settle.{Settled}
 
@@ -27,3 +29,12 @@ module _ (entries segments : Compared) (answer : Settled) (e : settled_from (or_
       let t : entries.differs ≡ false = sym (ap (λ (c : Compared). c.differs) p) ∙ d in
       let q : or_compared entries segments ≡ segments = rw t in
       ap settled_from (r ∙ sym q) ∙ e
+
+-- a difference was found, or none
+pub some_differs : (found : Option Difference) → is_some found ≡ true → (seen_as found).differs ≡ true
+some_differs (Some strings) e = refl
+some_differs None e = e
+
+pub none_differs : (found : Option Difference) → is_some found ≡ false → (seen_as found).differs ≡ false
+none_differs (Some strings) e = e
+none_differs None e = refl

@@ -1,5 +1,5 @@
 -- The ways through settling a record with a deal, one law for each answer of the code. The deal's nodes may be any.
-use mathlib.Core.Path.{◌≡◌, sym, ◌∙◌, subst}
+use mathlib.Core.Path.{◌≡◌, sym, ap, ◌∙◌, subst}
 use mathlib.Core.Bool.{true, false}
 use Prim.Native.Nat.{ℕ, ◌/◌}
 use native.Mathlib.Omega.{arith}
@@ -13,14 +13,20 @@ use Rattle.paths.specs.Compare.{compared, Compared}
 use Rattle.paths.specs.CompareOwn.{compared_with_own}
 use Rattle.paths.proofs.CompareOwnLaws.{own_up}
 use Rattle.paths.specs.DealStarts.{segment_start, entry_start}
-use Rattle.sizes.specs.Sizes.{lent_size_allowed, entry_path_levels, segment_path_levels}
+use Rattle.sizes.specs.Sizes.{lent_size_allowed, deal_level, entry_path_levels, segment_path_levels}
+use Rattle.sizes.specs.SizesLaws.{lent_size}
+use Rattle.paths.specs.Start.{path_start}
+use Rattle.paths.specs.NodesSized.{NodesSized}
 use Rattle.index.specs.Slots.{entry_at}
-use Rattle.record.specs.Form.{Fields}
+use Rattle.record.specs.Form.{Fields, parsed, broken, parse}
+use Rattle.record.specs.ParsedRecord.{ParsedRecord, unread, parsed_record}
+use Rattle.record.specs.ParsedRecordLaws.{record_read, not_read}
+use Rattle.record.proofs.CheckCases.{malformed}
 use Rattle.record.specs.Check.{entry_for, check_of}
 use Rattle.record.specs.CheckLaws.{Accepted}
 use Rattle.lent.specs.LentDeal.{LentDeal, deal_size, deal_refusal}
 use Rattle.lent.specs.LentDealLaws.{refusal_none}
-use Rattle.builder.specs.Build.{terms_of}
+use Rattle.builder.specs.Build.{deal_commitment, terms_of}
 use Rattle.builder.specs.BuildLaws.{InDeal, in_deal}
 use Rattle.settle.specs.Settle.{not_settled, entry_strings, segment_strings, deal_entry_strings, deal_segment_strings, settle_with_deal}
 use Rattle.settle.specs.SettleLaws.{settled_from, or_compared, settled_parts}
@@ -28,6 +34,9 @@ use Rattle.settle.specs.AcceptedRecord.{AcceptedRecord}
 use Rattle.settle.specs.AcceptedRecordLaws.{parses, accepted}
 use Rattle.settle.specs.Comparing.{entry_with_deal, segment_with_deal}
 use Rattle.settle.proofs.Answers.{refused_with, entries_decide, segments_decide}
+
+never : {A : Type 0} {x : Fields} → broken ≡ parsed x → A
+never e = let z : ◌≡◌ {A = ℕ} 0 1 = cc in absurd (omega arith)
 
 module _ (deal : LentDeal) (number : ℕ) (r : List ℕ) where
   pub deal_refused : {code : ℕ} → code ≡ deal_refusal deal → (code ≡ 0 → ⊥)
@@ -39,6 +48,18 @@ module _ (deal : LentDeal) (number : ℕ) (r : List ℕ) where
       → not_settled code ≡ settle_with_deal deal number r
   unfolding settle_with_deal
   check_refused fine {code} e h = rw (fine, ← e) (refused_with code not_settled _ h)
+
+  -- bytes that are no record
+  pub parse_refused : deal_refusal deal ≡ 0 → NodesSized deal.nodes (deal_level (deal_size deal)) → {code : ℕ}
+      → unread code ≡ parsed_record r → broken ≡ parse r → not_settled code ≡ settle_with_deal deal number r
+  parse_refused fine each {code} e h =
+      let t = lent_size (deal_size deal) (refusal_none deal fine).0 in
+      let l : length (deal_commitment deal) ≡ 32 =
+      each.sized (path_start 0 (deal_level (deal_size deal)) 0) (record { up = omega arith; among = omega arith }) in
+      let m = not_read r (λ z. never (h ∙ record_read r z)) in
+      let three : code ≡ 3 = ap (λ (x : ParsedRecord). x.code) e ∙ m.0 in
+      check_refused fine (three ∙ malformed (deal_commitment deal) (deal_size deal) number r l t.allowed h)
+      (λ z. absurd (omega arith))
 
 -- an accepted record's number is the deal's
 pub own_number : (deal : LentDeal) {number : ℕ} {x : Fields} → Accepted (terms_of deal number) x

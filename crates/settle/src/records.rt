@@ -34,5 +34,11 @@ pub fn settle_records(
         return Ok(found);
     }
     let position = sizes::segment_position(x.offset, x.size);
-    Ok(compare_segments(position, x.commitment, x.segment_path, y.commitment, y.segment_path))
+    Ok(compare_segments(
+        position,
+        x.commitment,
+        x.segment_path,
+        y.commitment,
+        y.segment_path,
+    ))
 }

@@ -37,7 +37,9 @@ pub(crate) fn compare_entries(
     let below = compare_strings(left, right);
     let left_node = node::node_hash(left);
     let right_node = node::node_hash(right);
-    paths::compare_paths(position, left_node, left_path, right_node, right_path, below)
+    paths::compare_paths(
+        position, left_node, left_path, right_node, right_path, below,
+    )
 }
 
 // Compares the strings of two segment paths from one position.

@@ -89,11 +89,7 @@ fn write_own(
 
 // Compares the entry strings of an accepted record with those of the deal: the 64 bytes at the entry place, and the
 // pairs of nodes above. The deal's own entry path at that place is in hand.
-fn compare_deal_entry(
-    deal: &Lent,
-    own_path: &[u8],
-    x: &ParsedRecord<'_>,
-) -> Option<Difference>
+fn compare_deal_entry(deal: &Lent, own_path: &[u8], x: &ParsedRecord<'_>) -> Option<Difference>
     requires { (deal_refusal (seen deal.now) ≡ 0)
         × Accepted (terms_of (seen deal.now) x.now.number) (read_fields x.now)
         × (own_path.now ≡ entry_path_of (seen deal.now) x.now.place) }
@@ -124,16 +120,20 @@ fn compare_deal_segment(
 {
     let level = sizes::segment_level(x.size);
     let position = sizes::segment_position(x.offset, x.size) as usize;
-    deal.compare_with_own(level, position, own_node, own_path, x.commitment, x.segment_path, None)
+    deal.compare_with_own(
+        level,
+        position,
+        own_node,
+        own_path,
+        x.commitment,
+        x.segment_path,
+        None,
+    )
 }
 
 // Settling over a lent deal that is not refused. The deal's own two paths are written in one pass; they lead to the
 // commitment, and for an accepted record they are the ones to compare.
-fn settle_in(
-    deal: &Lent,
-    number: u64,
-    record: &[u8],
-) -> Result<Option<Difference>, Refusal>
+fn settle_in(deal: &Lent, number: u64, record: &[u8]) -> Result<Option<Difference>, Refusal>
     requires { deal_refusal (seen deal.now) ≡ 0 }
     ensures { settled_answer result ≡ settle_with_deal (seen deal.now) number «record».now }
 {

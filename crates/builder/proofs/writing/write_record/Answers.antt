@@ -29,8 +29,7 @@ put_field-at-requires c =
     let a = c.args in
     let w = worked_out a.deal.now (row_as (Some a.entry)) a.place c.requires.in_deal
     c.segment_level-level.ensures c.segment_position-position.ensures in
-    let room = fields_room w c.requires.size_in_bounds in
-    (
+    let room = fields_room w c.requires.size_in_bounds in (
       omega arith,
       omega (arith, room),
     )
@@ -40,8 +39,7 @@ put_field-at-requires-2 c =
     let a = c.args in
     let w = worked_out a.deal.now (row_as (Some a.entry)) a.place c.requires.in_deal
     c.segment_level-level.ensures c.segment_position-position.ensures in
-    let room = fields_room w c.requires.size_in_bounds in
-    (
+    let room = fields_room w c.requires.size_in_bounds in (
       omega arith,
       omega (arith, room, c.put_field-at.ensures.1, c.put_field-at.auto.out),
     )
@@ -51,8 +49,7 @@ put_field-at-requires-3 c =
     let a = c.args in
     let w = worked_out a.deal.now (row_as (Some a.entry)) a.place c.requires.in_deal
     c.segment_level-level.ensures c.segment_position-position.ensures in
-    let room = fields_room w c.requires.size_in_bounds in
-    (
+    let room = fields_room w c.requires.size_in_bounds in (
       omega arith,
       omega (
         arith,
@@ -69,8 +66,7 @@ put_field-at-requires-4 c =
     let a = c.args in
     let w = worked_out a.deal.now (row_as (Some a.entry)) a.place c.requires.in_deal
     c.segment_level-level.ensures c.segment_position-position.ensures in
-    let room = fields_room w c.requires.size_in_bounds in
-    (
+    let room = fields_room w c.requires.size_in_bounds in (
       omega arith,
       omega (
         arith,
@@ -115,8 +111,7 @@ put_field-requires c =
     let a = c.args in
     let w = worked_out a.deal.now (row_as (Some a.entry)) a.place c.requires.in_deal
     c.segment_level-level.ensures c.segment_position-position.ensures in
-    let room = fields_room w c.requires.size_in_bounds in
-    (
+    let room = fields_room w c.requires.size_in_bounds in (
       omega arith,
       omega (
         arith,

@@ -1,6 +1,7 @@
 -- The record's entry against the 64 bytes at its place, and its entry path against the deal's own pairs.
 use mathlib.Core.Path.{◌≡◌, refl, sym, ap, ◌∙◌, subst}
 use Prim.Native.Nat.{ℕ, ◌/◌}
+use native.Mathlib.Omega.{arith}
 use mathlib.Core.List.{List, [], ◌∷◌}
 use lib.ListN.{length}
 use Rattle.node.specs.Node.{node_hash}
@@ -40,15 +41,13 @@ module _ (deal : LentDeal) (fine : deal_refusal deal ≡ 0) {x : Fields} (a : Ac
 pub array_at-own_entry-requires : goal.array_at-own_entry-requires
 array_at-own_entry-requires c =
     let a = c.args in
-    (inside (seen a.deal.now) c.requires.0 c.requires.1).place_is.in_deal
+    (omega arith, (inside (seen a.deal.now) c.requires.0 c.requires.1).place_is.in_deal)
 
 pub node_in-own_node-requires : goal.node_in-own_node-requires
 node_in-own_node-requires c =
     let a = c.args in
     let deal = seen a.deal.now in
-    record {
-      in_tree = path_inside deal c.requires.0 c.requires.1 refl;
-    }
+    path_inside deal c.requires.0 c.requires.1 refl
 
 pub compare_with_own-requires : goal.compare_with_own-requires
 compare_with_own-requires c =
