@@ -1,7 +1,6 @@
-use Rattle.std.proofs.Common.{◌≡◌, ◌∙◌, ap, sym, length, ◌+◌, ◌-◌, ℕ, arith}
+use Rattle.std.proofs.Common.{◌≡◌, ◌∙◌, ap, length, ◌+◌, ◌-◌, ℕ, arith}
 use Rattle.std.specs.Prelude.{List}
 use borrow.Rule.Slice.PartMut.{put_mid}
-use Rattle.octets.specs.Splice.{splice}
 use Rattle.octets.specs.SpliceLaws.{put_splice}
 use Rattle.octets.proofs.put.Goals as goal
 

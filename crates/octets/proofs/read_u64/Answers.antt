@@ -1,4 +1,4 @@
-use Rattle.std.proofs.Common.{◌≡◌, ◌∙◌, ap}
+use Rattle.std.proofs.Common.{◌∙◌, ap}
 use Rattle.std.specs.Prelude.{List, ℕ}
 use Rattle.std.specs.Int.{w64, from_le_bytes}
 use Rattle.octets.specs.Bytes.{bytes_of_slice}

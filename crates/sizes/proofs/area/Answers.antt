@@ -1,4 +1,4 @@
-use Rattle.std.proofs.Common.{◌≡◌, ap, ◌∙◌, subst, ℕ, ◌/◌, ◌≤◌, ◌<◌}
+use Rattle.std.proofs.Common.{subst, ℕ, ◌/◌, ◌≤◌, ◌<◌}
 use Rattle.std.specs.Prelude.{max}
 use Rattle.sizes.proofs.NextPower.{area_next}
 use Rattle.sizes.proofs.area.Goals as goal
