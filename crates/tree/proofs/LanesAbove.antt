@@ -1,12 +1,13 @@
 -- Lanes written side by side are the nodes over the pairs.
 use mathlib.Core.Path.{◌≡◌, refl, sym, ap, ap₂, ◌∙◌}
-use Prim.Native.Nat.{ℕ, zero, suc, ◌+◌, ◌-◌, ◌*◌, ◌≤◌, ◌<◌}
+use Prim.Native.Nat.{ℕ, zero, suc, ◌+◌, ◌*◌, ◌≤◌, ◌<◌}
 use native.Mathlib.Omega.{arith}
 use mathlib.Core.List.{List, ◌++◌, append-nil}
 use lib.ListN.{length, take, drop}
 use lib.Seq.{drop-drop}
+use Rattle.std.proofs.lemmas.List.{take-take, drop-take}
 use Rattle.octets.specs.Splice.{part, splice}
-use Rattle.octets.specs.SpliceLaws.{part_append, splice_nothing, splice_append}
+use Rattle.octets.specs.SpliceLaws.{part_append, splice_whole, splice_nothing, splice_append}
 use Rattle.node.specs.Node.{node_hash}
 use Rattle.lanes.specs.NodeWords.{lane_bytes, Holds}
 use Rattle.lanes.specs.NodeWordsLaws.{held_hash}
@@ -45,43 +46,43 @@ module _ (below : List ℕ) (at : ℕ) where
       ∙ sym (last_above n)
 
 -- one more node written behind i of them
-pub one_more : (below above : List ℕ) (first i : ℕ) (now node : List ℕ) → 32 * (first + i) ≤ length above
-    → now ≡ splice above (32 * first) (row_above i (drop (64 * first) below))
-    → node ≡ node_hash (part below (64 * (first + i)) 64)
-    → splice now (32 * (first + i)) node
-    ≡ splice above (32 * first) (row_above (i + 1) (drop (64 * first) below))
-one_more below above first i now node room en ex =
-    let at : ℕ = 64 * first in
-    let e : 64 * (first + i) ≡ at + 64 * i = omega arith in
+pub one_more : (below above : List ℕ) (i : ℕ) (now node : List ℕ) → 32 * i ≤ length above
+    → now ≡ splice above 0 (row_above i below) → node ≡ node_hash (part below (64 * i) 64)
+    → splice now (32 * i) node ≡ splice above 0 (row_above (i + 1) below)
+one_more below above i now node room en ex =
+    let e : 64 * i ≡ 0 + 64 * i = omega arith in
     let n : suc i ≡ i + 1 = omega arith in
-    let l = above_length i (drop at below) in
-    ap₂ (λ (d x : List ℕ). splice d (32 * (first + i)) x) en (ex ∙ ap (λ (k : ℕ). node_hash (part below k 64)) e)
-    ∙ splice_append above (32 * first) (32 * (first + i)) (row_above i (drop at below))
-    (node_hash (part below (at + 64 * i) 64)) (omega arith) (omega arith)
-    ∙ ap (splice above (32 * first)) (sym (last_above below at i) ∙ ap (λ (k : ℕ). row_above k (drop at below)) n)
+    let l = above_length i below in
+    ap₂ (λ (d x : List ℕ). splice d (32 * i) x) en (ex ∙ ap (λ (k : ℕ). node_hash (part below k 64)) e)
+    ∙ splice_append above 0 (32 * i) (row_above i below) (node_hash (part below (0 + 64 * i) 64)) (omega arith)
+    (omega arith)
+    ∙ ap (splice above 0) (sym (last_above below 0 i) ∙ ap (λ (k : ℕ). row_above k below) n)
 
 -- no node written
-pub nothing_above : (below above : List ℕ) (first count : ℕ) → count ≡ 0
-    → above ≡ splice above (32 * first) (row_above count (drop (64 * first) below))
+pub nothing_above : (below above : List ℕ) → above ≡ splice above 0 (row_above 0 below)
 unfolding row_above
-nothing_above below above first count e =
-    sym (splice_nothing above (32 * first))
-    ∙ ap (λ (n : ℕ). splice above (32 * first) (row_above n (drop (64 * first) below))) (sym e)
+nothing_above below above = sym (splice_nothing above 0)
 
--- two parts of a row, written one after the other
-pub parts_above : (below above : List ℕ) (first left count : ℕ) → left ≤ count → 32 * (first + count) ≤ length above
-    → splice (splice above (32 * first) (row_above left (drop (64 * first) below))) (32 * (first + left))
-    (row_above (count - left) (drop (64 * (first + left)) below))
-    ≡ splice above (32 * first) (row_above count (drop (64 * first) below))
-parts_above below above first left count h room =
-    let x = row_above left (drop (64 * first) below) in
-    let y = row_above (count - left) (drop (64 * (first + left)) below) in
-    let l : length x ≡ 32 * left = above_length left (drop (64 * first) below) in
-    let a : 64 * first + 64 * left ≡ 64 * (first + left) = omega arith in
-    let e : left + (count - left) ≡ count = omega arith in
-    splice_append above (32 * first) (32 * (first + left)) x y (omega arith) (omega arith)
-    ∙ ap (splice above (32 * first))
-    (ap (λ (l : List ℕ). x ++ row_above (count - left) l)
-    (ap (λ (n : ℕ). drop n below) (sym a) ∙ sym (drop-drop (64 * left) (64 * first) below))
-    ∙ sym (above_split left (count - left) (drop (64 * first) below))
-    ∙ ap (λ (n : ℕ). row_above n (drop (64 * first) below)) e)
+-- all of them written
+pub all_above : (below above : List ℕ) (n : ℕ) → length above ≡ 32 * n
+    → splice above 0 (row_above n below) ≡ row_above n below
+all_above below above n e = splice_whole above (row_above n below) (e ∙ sym (above_length n below))
+
+-- a row above does not depend on what follows its pairs
+above_first : (n m : ℕ) (below : List ℕ) → m ≡ 64 * n → row_above n (take m below) ≡ row_above n below
+unfolding row_above
+above_first zero m below e = refl
+above_first (suc n) m below e =
+    let s : m ≡ 64 + 64 * n = omega arith in
+    ap₂ (λ (x y : List ℕ). node_hash x ++ row_above n y) (take-take 64 m below (omega arith))
+    (ap (λ (k : ℕ). drop 64 (take k below)) s ∙ drop-take 64 (64 * n) below)
+    ∙ ap (λ (l : List ℕ). node_hash (take 64 below) ++ l) (above_first n (64 * n) (drop 64 below) refl)
+
+-- a row in two parts
+pub parts_above : (below left right : List ℕ) (a b n : ℕ) → n ≡ a + b → left ≡ take (64 * a) below
+    → right ≡ drop (64 * a) below → row_above a left ++ row_above b right ≡ row_above n below
+parts_above below left right a b n e el er =
+    ap₂ (λ (x y : List ℕ). row_above a x ++ row_above b y) el er
+    ∙ ap (λ (x : List ℕ). x ++ row_above b (drop (64 * a) below)) (above_first a (64 * a) below refl)
+    ∙ sym (above_split a b below)
+    ∙ ap (λ (k : ℕ). row_above k below) (sym e)

@@ -1,13 +1,13 @@
 -- Nodes of a row at once: none of them is a child of another, so the order of the reads and the writes does not show.
-use mathlib.Core.Path.{◌≡◌, refl, sym, ap, ap₂, ◌∙◌}
-use Prim.Native.Nat.{ℕ, zero, suc, ◌+◌, ◌-◌, ◌*◌, ◌/◌, ◌^◌, ◌≤◌, ◌<◌}
+use mathlib.Core.Path.{◌≡◌, sym, ap, ap₂, ◌∙◌}
+use Prim.Native.Nat.{ℕ, zero, suc, ◌+◌, ◌-◌, ◌*◌, ◌^◌, ◌≤◌, ◌<◌}
 use native.Mathlib.Nat.{pow-suc}
 use lib.Pow.{pow_pos}
-use Rattle.std.proofs.lemmas.List.{drop-take}
+use Rattle.std.proofs.lemmas.List.{drop-take, take-take}
 use native.Mathlib.Omega.{arith}
 use mathlib.Core.List.{List, ◌++◌, append_assoc}
 use lib.ListN.{length, take, drop}
-use lib.Seq.{drop_at, drop-drop, take-append-add}
+use lib.Seq.{drop-drop}
 use Rattle.octets.specs.Splice.{part, splice}
 use Rattle.octets.specs.SpliceLaws.{part_part, splice_nothing, splice_append}
 use Rattle.node.specs.Node.{node_hash}
@@ -50,29 +50,28 @@ module _ (bytes tree : List ℕ) (h q l : ℕ) where
       (node_of_buffer bytes tree h ((q + l) * 2) up ∙ ap (λ (p : ℕ). part tree p 32) a)
       (node_of_buffer bytes tree h ((q + l) * 2 + 1) up ∙ ap (λ (p : ℕ). part tree p 32) b)
 
--- the same children as a pair of the row that stands below: in the deal, or in the part of the buffer from its place on
-module _ (bytes tree : List ℕ) (h q l : ℕ) where
-  pub deal_pair : h ≡ 0 → part bytes (64 * q + 64 * l) 64 ≡ children bytes tree h (q + l)
-  deal_pair z =
+-- the same children as a pair of the row that stands below: in the deal, or in the buffer
+module _ (bytes tree : List ℕ) (h q n l : ℕ) (below : l < n) (run : List ℕ) where
+  pub deal_pair : h ≡ 0 → run ≡ part bytes (64 * q) (64 * n) → 64 * (q + n) ≤ length bytes
+      → part run (64 * l) 64 ≡ children bytes tree h (q + l)
+  deal_pair z is inside =
       let e : 64 * q + 64 * l ≡ q * 64 + 64 * l = omega arith in
-      ap (λ (at : ℕ). part bytes at 64) e
+      ap (λ (r : List ℕ). part r (64 * l) 64) is
+      ∙ part_part bytes (64 * q) (64 * n) (64 * l) 64 (omega arith) (omega arith)
+      ∙ ap (λ (at : ℕ). part bytes at 64) e
       ∙ sym (children_in_deal bytes tree h q l z ∙ pair_is bytes (q * 64) l)
 
   place_first : node_place (length bytes) h (q * 2) ≡ node_place (length bytes) h 0 + 64 * q
   unfolding node_place
   place_first = omega arith
 
-  pub buffer_pair : (run : List ℕ) (n : ℕ) → 0 < h → run ≡ part tree (node_place (length bytes) h 0) n
-      → 64 * q + 64 * l + 64 ≤ n → node_place (length bytes) h 0 + n ≤ length tree
-      → part run (64 * q + 64 * l) 64 ≡ children bytes tree h (q + l)
-  buffer_pair run n up is room inside =
-      let p : ℕ = node_place (length bytes) h 0 in
-      let at : ℕ = node_place (length bytes) h (q * 2) in
-      let e : p + (64 * q + 64 * l) ≡ at + 64 * l = omega (arith, place_first) in
-      ap (λ (r : List ℕ). part r (64 * q + 64 * l) 64) is
-      ∙ part_part tree p n (64 * q + 64 * l) 64 room inside
-      ∙ ap (λ (k : ℕ). part tree k 64) e
-      ∙ sym (children_in_buffer bytes tree h q l at refl up ∙ pair_is tree at l)
+  pub buffer_pair : (at : ℕ) → 0 < h → at ≡ node_place (length bytes) h 0 + 64 * q → run ≡ part tree at (64 * n)
+      → at + 64 * n ≤ length tree → part run (64 * l) 64 ≡ children bytes tree h (q + l)
+  buffer_pair at up place is inside =
+      let e : at ≡ node_place (length bytes) h (q * 2) = place ∙ sym place_first in
+      ap (λ (r : List ℕ). part r (64 * l) 64) is
+      ∙ part_part tree at (64 * n) (64 * l) 64 (omega arith) inside
+      ∙ sym (children_in_buffer bytes tree h q l at e up ∙ pair_is tree at l)
 
 module _ (bytes tree run : List ℕ) (s : SizedFor bytes tree) (h q : ℕ) where
   place_next : (at n : ℕ) → at ≡ node_place (length bytes) (suc h) q
@@ -83,44 +82,41 @@ module _ (bytes tree run : List ℕ) (s : SizedFor bytes tree) (h q : ℕ) where
   -- the nodes over the pairs, written side by side, are the row worked out one node after the other
   module _ (at : ℕ) (place : at ≡ node_place (length bytes) (suc h) q) where
     abbrev Pairs : ℕ → Type 0
-    Pairs n = (l : ℕ) → l < n → part run (64 * q + 64 * l) 64 ≡ children bytes tree h (q + l)
+    Pairs n = (l : ℕ) → l < n → part run (64 * l) 64 ≡ children bytes tree h (q + l)
 
     next_node : (n : ℕ) → RowInTree (length bytes) (suc h) q (suc n) → Pairs (suc n)
-        → node_hash (part run (64 * q + 64 * n) 64)
+        → node_hash (part run (0 + 64 * n) 64)
         ≡ node_hash (children bytes (renewed_row bytes tree h q n) h (q + n))
     next_node n t k =
         let here = row_part (length bytes) (suc h) q (suc n) (q + n) 1 t (omega arith) (omega arith) in
         let before = row_part (length bytes) (suc h) q (suc n) q n t (omega arith) (omega arith) in
-        ap node_hash (k n (omega arith)
+        let e : 0 + 64 * n ≡ 64 * n = omega arith in
+        ap node_hash (ap (λ (p : ℕ). part run p 64) e ∙ k n (omega arith)
         ∙ same_children bytes tree (renewed_row bytes tree h q n) h (q + n) here
         (λ r w. sym (row_stays bytes h n q tree s before h r w (λ a b c. omega arith))))
 
     pub pairs_written : (n : ℕ) → RowInTree (length bytes) (suc h) q n → Pairs n
-        → splice tree at (row_above n (drop (64 * q) run)) ≡ renewed_row bytes tree h q n
+        → splice tree at (row_above n run) ≡ renewed_row bytes tree h q n
     unfolding row_above renewed_node renewed_row
     pairs_written zero t k = splice_nothing tree at
     pairs_written (suc n) t k =
         let before = row_part (length bytes) (suc h) q (suc n) q n t (omega arith) (omega arith) in
         let written = pairs_written n before (λ l g. k l (omega arith)) in
-        let l = above_length n (drop (64 * q) run) in
+        let l = above_length n run in
         let room = row_inside (length bytes) (suc h) q n before (omega arith) in
-        ap (splice tree at) (last_above run (64 * q) n)
-        ∙ sym (splice_append tree at (at + 32 * n) (row_above n (drop (64 * q) run))
-        (node_hash (part run (64 * q + 64 * n) 64)) (omega arith) (omega arith))
+        ap (splice tree at) (last_above run 0 n)
+        ∙ sym (splice_append tree at (at + 32 * n) (row_above n run) (node_hash (part run (0 + 64 * n) 64))
+        (omega arith) (omega arith))
         ∙ (λ j. splice (written j) (place_next at n place j) (next_node n t k j))
         ∙ sym (row_last bytes h n q tree)
 
--- what is written behind another string
-pub splice_behind : (a b : List ℕ) (at : ℕ) (s : List ℕ) → a ++ splice b at s ≡ splice (a ++ b) (length a + at) s
+-- a part written between two others
+pub splice_parts : (d rows rest tail s : List ℕ) (at : ℕ) → rows ≡ take at d → rest ≡ drop at d
+    → tail ≡ drop (length s) rest → rows ++ (s ++ tail) ≡ splice d at s
 unfolding splice
-splice_behind a b at s =
-    let e : length a + (at + length s) ≡ length a + at + length s = omega arith in
-    sym (append_assoc a (take at b ++ s) (drop (at + length s) b))
-    ∙ ap (λ (x : List ℕ). x ++ drop (at + length s) b) (sym (append_assoc a (take at b) s))
-    ∙ ap₂ (λ (x y : List ℕ). x ++ s ++ y) (sym (take-append-add a b at))
-    (sym (ap (drop (at + length s)) (drop_at a b (length a) refl))
-    ∙ drop-drop (at + length s) (length a) (a ++ b)
-    ∙ ap (λ (n : ℕ). drop n (a ++ b)) e)
+splice_parts d rows rest tail s at a b c =
+    sym (append_assoc rows s tail)
+    ∙ ap₂ (λ (x y : List ℕ). x ++ s ++ y) a (c ∙ ap (drop (length s)) b ∙ drop-drop (length s) at d)
 
 -- where two rows stand, one above the other
 module _ (D h q n : ℕ) (t : RowInTree D (suc h) q n) where
@@ -149,19 +145,12 @@ module _ (D h q n : ℕ) (t : RowInTree D (suc h) q n) where
   unfolding node_place
   row_place = omega arith
 
-  lowest : node_place D 1 q ≡ 32 * q
-  unfolding node_place
-  lowest = let e : D / 2 ^ (1 - 1) ≡ D = omega arith in omega arith
-
-  pub lowest_place : h ≡ 0 → 32 * q ≡ node_place D (suc h) q
-  lowest_place z = sym (ap (λ (k : ℕ). node_place D (suc k) q) z ∙ lowest)
-
 -- the row below as a part of the buffer
-pub row_below_part : (tree rows run : List ℕ) (place cut : ℕ) → place ≤ cut → rows ≡ take cut tree
-    → run ≡ drop place rows → run ≡ part tree place (cut - place)
+pub row_below_part : (tree rows rest run : List ℕ) (place cut n : ℕ) → place + n ≤ cut → rows ≡ take cut tree
+    → rest ≡ drop place rows → run ≡ take n rest → run ≡ part tree place n
 unfolding part
-row_below_part tree rows run place cut h er ed =
+row_below_part tree rows rest run place cut n h er ed et =
     let e : cut ≡ place + (cut - place) = omega arith in
-    ed
-    ∙ ap (drop place) (er ∙ ap (λ (k : ℕ). take k tree) e)
-    ∙ drop-take place (cut - place) tree
+    et
+    ∙ ap (take n) (ed ∙ ap (drop place) (er ∙ ap (λ (k : ℕ). take k tree) e) ∙ drop-take place (cut - place) tree)
+    ∙ take-take n (cut - place) (drop place tree) (omega arith)

@@ -1,6 +1,6 @@
--- A row is a part of it and then the rest: two parts, the last node, a turn of the loop over the nodes.
-use mathlib.Core.Path.{◌≡◌, sym, ap, ap₂, ◌∙◌}
-use Prim.Native.Nat.{ℕ, zero, suc, ◌+◌, ◌-◌, ◌*◌, ◌/◌, ◌≤◌, ◌<◌}
+-- A row is a part of it and then the rest: two parts, the last node.
+use mathlib.Core.Path.{◌≡◌, ap, ap₂, ◌∙◌}
+use Prim.Native.Nat.{ℕ, zero, suc, ◌+◌, ◌*◌, ◌/◌, ◌<◌}
 use native.Mathlib.Omega.{arith}
 use mathlib.Core.List.{List}
 use Rattle.tree.specs.Renewed.{renewed_node, renewed_row}
@@ -27,37 +27,8 @@ module _ (bytes : List ℕ) (h : ℕ) where
       ∙ row_append k n (suc q) (renewed_node bytes tree h q)
       ∙ ap (λ (r : ℕ). renewed_row bytes (renewed_row bytes (renewed_node bytes tree h q) h (suc q) k) h r n) p
 
-  -- a row is two parts of it, one after the other
-  pub row_parts : (q k n : ℕ) (tree : List ℕ) → k ≤ n
-      → renewed_row bytes (renewed_row bytes tree h q k) h (q + k) (n - k) ≡ renewed_row bytes tree h q n
-  row_parts q k n tree l =
-      let e : k + (n - k) ≡ n = omega arith in
-      sym (row_append k (n - k) q tree) ∙ ap (renewed_row bytes tree h q) e
-
   -- the last node after the others
   pub row_last : (n q : ℕ) (tree : List ℕ)
       → renewed_row bytes tree h q (suc n) ≡ renewed_node bytes (renewed_row bytes tree h q n) h (q + n)
   unfolding renewed_row
   row_last n q tree = let e : suc n ≡ n + 1 = omega arith in ap (renewed_row bytes tree h q) e ∙ row_append n 1 q tree
-
-  -- i nodes are worked out, and then one more
-  pub row_next : (q n i j : ℕ) (tree : List ℕ) → j ≡ i + 1 → j ≤ n
-      → renewed_row bytes tree h (q + i) (n - i)
-      ≡ renewed_row bytes (renewed_node bytes tree h (q + i)) h (q + j) (n - j)
-  unfolding renewed_row
-  row_next q n i j tree e l =
-      let a : n - i ≡ suc (n - j) = omega arith in
-      let b : suc (q + i) ≡ q + j = omega arith in
-      ap (renewed_row bytes tree h (q + i)) a
-      ∙ ap (λ (r : ℕ). renewed_row bytes (renewed_node bytes tree h (q + i)) h r (n - j)) b
-
-  pub row_start : (q n i : ℕ) (tree : List ℕ) → i ≡ 0
-      → renewed_row bytes tree h q n ≡ renewed_row bytes tree h (q + i) (n - i)
-  row_start q n i tree e =
-      let a : q ≡ q + i = omega arith in
-      let b : n ≡ n - i = omega arith in
-      ap₂ (renewed_row bytes tree h) a b
-
-  pub row_over : (q n i : ℕ) (tree : List ℕ) → n ≤ i → renewed_row bytes tree h q (n - i) ≡ tree
-  unfolding renewed_row
-  row_over q n i tree l = let e : n - i ≡ 0 = omega arith in ap (renewed_row bytes tree h q) e

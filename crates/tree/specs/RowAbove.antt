@@ -13,6 +13,10 @@ unfoldable pub row_above : ℕ → List ℕ → List ℕ
 row_above zero below = []
 row_above (suc n) below = node_hash (take 64 below) ++ row_above n (drop 64 below)
 
+-- n pairs of nodes, and room for the n nodes over them
+abbrev pub RowSized : ℕ → List ℕ → List ℕ → Type 0
+RowSized n below above = (length below ≡ 64 * n) × (length above ≡ 32 * n)
+
 -- `below` is a whole number of pairs, and `above` half as long
 abbrev pub row_fits : List ℕ → List ℕ → Bool
 row_fits below above = eqb (length below % 64) 0 && eqb (length above) (length below / 2)

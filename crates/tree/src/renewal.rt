@@ -14,13 +14,18 @@ fn renew_row(deal: &[u8], tree: &mut [u8], below: usize, first: usize, count: us
     requires { RowInTree (length deal.now) (suc below) first count × SizedFor deal.now tree.old }
     ensures { tree.new ≡ renewed_row deal.now tree.old below first count }
 {
+    let place = node_place(deal.len(), below + 1, 0) + 32 * first;
+    let (rows, rest) = tree.split_at_mut(place);
+    let above = rest.split_at_mut(32 * count).0;
     if below == 0 {
-        fill_part(deal, tree, first, count);
+        let children = deal.split_at(64 * first).1;
+        fill_part(children.split_at(64 * count).0, above);
         return;
     }
-    let children = node_place(deal.len(), below, 0);
-    let (rows, above) = tree.split_at_mut(node_place(deal.len(), below + 1, 0));
-    fill_part(rows.split_at(children).1, above, first, count);
+    let children = rows
+        .split_at(node_place(deal.len(), below, 0) + 64 * first)
+        .1;
+    fill_part(children.split_at(64 * count).0, above);
 }
 
 // Brings the buffer up to date after `len` bytes of a deal of 2^top nodes were written from a place on.

@@ -1,9 +1,7 @@
 -- `fill_few`: the nodes over the pairs, where a count of 16 may stand as 16.
 use mathlib.Core.Path.{◌≡◌, ap, ◌∙◌}
-use Prim.Native.Nat.{ℕ, ◌*◌}
+use Prim.Native.Nat.{ℕ}
 use native.Mathlib.Omega.{arith}
-use lib.ListN.{drop}
-use Rattle.octets.specs.Splice.{splice}
 use Rattle.tree.specs.RowAbove.{row_above}
 use Rattle.tree.proofs.above.fill_few.Goals as goal
 
@@ -11,6 +9,4 @@ pub returns-then-count-eq16 : goal.returns-then-count-eq16
 returns-then-count-eq16 c =
     let a = c.args in
     let sixteen : 16 ≡ a.count = omega arith in
-    c.fill_lanes.ensures
-    ∙ ap (λ (n : ℕ). splice a.above.now (32 * a.first) (row_above n (drop (64 * a.first) a.below.now)))
-    sixteen
+    c.fill_lanes.ensures ∙ ap (λ (n : ℕ). row_above n a.below.now) sixteen

@@ -1,11 +1,10 @@
 -- `fill_row`: the two lengths, and the whole row as one part.
-use mathlib.Core.Path.{sym, ◌∙◌}
+use mathlib.Core.Path.{◌≡◌, sym, ap, ◌∙◌}
 use Prim.Native.Nat.{ℕ, ◌/◌}
 use native.Mathlib.Omega.{arith}
 use lib.ListN.{length}
-use Rattle.octets.specs.SpliceLaws.{splice_whole}
 use Rattle.tree.specs.RowAbove.{row_above}
-use Rattle.tree.specs.RowAboveLaws.{above_length, no_pairs, not_half, row_written}
+use Rattle.tree.specs.RowAboveLaws.{no_pairs, not_half, row_written}
 use Rattle.tree.proofs.above.fill_row.Goals as goal
 
 pub returns-then-below-ne0 : goal.returns-then-below-ne0
@@ -26,10 +25,8 @@ returns c =
     let below = a.below.now in
     let n : ℕ = length below / 64 in
     let w = row_written below a.above.now c.if-below-ne0.false c.if-above-below.false in
-    let l = above_length n below in
+    let e : length a.above.now / 32 ≡ n = omega (arith, c.if-below-ne0.false, c.if-above-below.false) in
     record {
       value = sym w.0;
-      above_after = c.fill_part.ensures
-          ∙ splice_whole a.above.now (row_above n below) (omega (arith, c.if-below-ne0.false, c.if-above-below.false))
-          ∙ sym w.1;
+      above_after = c.fill_part.ensures ∙ ap (λ (m : ℕ). row_above m below) e ∙ sym w.1;
     }

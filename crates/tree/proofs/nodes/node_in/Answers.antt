@@ -31,8 +31,7 @@ node_place-requires c = (omega arith, c.requires.0)
 pub array_at-requires-2 : goal.array_at-requires-2
 array_at-requires-2 c =
     let a = c.args in
-    let D = length a.deal.now in
-    (
+    let D = length a.deal.now in (
       omega arith,
       omega (arith, c.node_place.ensures, c.requires.1, place_inside D a.level a.position c.requires.0 (omega arith)),
     )
