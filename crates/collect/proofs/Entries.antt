@@ -1,37 +1,28 @@
 -- The entry of a slot as it is read, and as it is written in its new slot.
-use mathlib.Core.Path.{◌≡◌, sym, ap, ◌∙◌}
-use mathlib.Core.Bool.{Bool, true, false}
-use mathlib.Core.List.{List, []}
-use Prim.Native.Nat.{ℕ}
-use lib.ListN.{length}
-use Rattle.rules.specs.Choice.{choose}
+use Rattle.std.proofs.Common.{◌≡◌, refl, sym, ap, ◌∙◌, true, ℕ, List, length, Option, Some, None}
 use Rattle.octets.specs.Splice.{splice}
 use Rattle.octets.specs.SpliceLaws.{splice_nothing}
 use Rattle.sizes.specs.Sizes.{slot_place}
 use Rattle.entries.specs.Entry.{entry_of}
-use Rattle.index.specs.Slots.{entry_at, slot_at, standing, row_of, row_at, Row}
+use Rattle.entries.specs.declared.Fields.{Fields}
+use Rattle.index.specs.Slots.{Row, entry_at, slot_at, standing, row_as, row_of, row_at}
 use Rattle.index.specs.SlotsLaws.{answer_stands}
 use Rattle.collect.specs.Collect.{entry_moved}
 
-module _ (deal : List ℕ) (j place : ℕ) (row : Row) (p : place ≡ slot_place (length deal) j)
-    (e : row ≡ row_of (length deal) (entry_at deal place)) where
-  here : row ≡ row_at deal j
+module _ (deal : List ℕ) (j place : ℕ) (read : Option Fields) (p : place ≡ slot_place (length deal) j)
+    (e : row_as read ≡ row_of (length deal) (entry_at deal place)) where
+  here : row_as read ≡ row_at deal j
   here = e ∙ ap (λ (at : ℕ). row_of (length deal) (entry_at deal at)) p
 
-  -- the row's entry, by the test whether it stands
-  moved : (b : Bool) → row.stands ≡ b → (o : ℕ)
-      → choose b (entry_of row.commitment o row.size) [] ≡ entry_moved (row_at deal j) o
-  moved b h o =
-      sym (ap (λ (s : Bool). choose s (entry_of row.commitment o row.size) []) h)
-      ∙ ap (λ (r : Row). entry_moved r o) here
+  pub nothing_written : read ≡ None → (new : List ℕ) (at o : ℕ) → new ≡ splice new at (entry_moved (row_at deal j) o)
+  nothing_written h new at o =
+      let none : entry_moved (row_at deal j) o ≡ entry_moved (row_as None) o =
+      ap (λ (r : Row). entry_moved r o) (sym here ∙ ap row_as h) in
+      sym (ap (splice new at) none ∙ splice_nothing new at)
 
-  pub nothing_written : row.stands ≡ false → (new : List ℕ) (at o : ℕ)
-      → new ≡ splice new at (entry_moved (row_at deal j) o)
-  nothing_written h new at o = sym (ap (splice new at) (sym (moved false h o)) ∙ splice_nothing new at)
-
-  module _ (h : row.stands ≡ true) where
+  module _ (row : Fields) (h : read ≡ Some row) where
     pub slot_stands : standing (length deal) (slot_at deal j) ≡ true
-    slot_stands = (answer_stands (length deal) (slot_at deal j) row here h).is_standing
+    slot_stands = (answer_stands (length deal) (slot_at deal j) (row_as read) here (ap (λ (x : Option Fields). (row_as x).stands) h)).is_standing
 
     pub entry_is : (o : ℕ) → entry_of row.commitment o row.size ≡ entry_moved (row_at deal j) o
-    entry_is o = moved true h o
+    entry_is o = ap (λ (r : Row). entry_moved r o) (sym (ap row_as h) ∙ here)

@@ -51,6 +51,16 @@ module _ (deal : List ℕ) (ranges : List Range) (lent : lent_size_allowed (leng
       ap (none_overlaps (ranges_in ranges)) slots_are
       ∙ none_overlaps_same (entry_count (length deal)) (ranges_in ranges) (ranges_of deal) gathered
 
+-- the test over the first ranges
+pub first_test : (deal : List ℕ) (ranges : List Range) (n : ℕ) → lent_size_allowed (length deal) ≡ true
+    → SameBelow (entry_count (length deal)) (ranges_in ranges) (ranges_of deal) → n ≡ entry_count (length deal)
+    → length ranges ≡ 128
+    → none_overlaps (ranges_in (take n ranges)) (length (take n ranges))
+    ≡ none_overlaps (ranges_of deal) (entry_count (length deal))
+first_test deal ranges n lent gathered n_is long =
+    test_is deal (take n ranges) lent (first_gathered deal ranges n lent gathered n_is long)
+    (first_slots deal ranges n lent gathered n_is long)
+
 module _ {deal : List ℕ} {ranges : List Range} (r : Ready deal ranges) where
   lent : LentSize (length deal)
   lent = lent_size (length deal) r.lent

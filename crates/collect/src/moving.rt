@@ -9,7 +9,7 @@ ghost use Rattle.collect.specs.Collect.{collected_deal, collected_table};
 use room::Range;
 
 // A deal that can be collected, with the ranges of its slots, one a slot.
-#[derive(Drop)]
+#[derive(Clone, Copy)]
 pub(crate) struct Source<'a> {
     pub(crate) deal: &'a [u8],
     pub(crate) ranges: &'a [Range],
