@@ -63,7 +63,7 @@ returns c =
     let place_is = c.slot_place-at.ensures
     ∙ ap (slot_place (length deal)) (c.move_of-to.ensures.slot_value ∙ slot_is r j c.requires.0) in
     let o = c.move_of-to.ensures.offset_value ∙ offset_is r j c.requires.0 in
-    c.put_array.ensures
+    c.put_array.ensures.0
     ∙ ap₂ (splice c.args.new.now) place_is
     (c.entry_of-entry.ensures
     ∙ ap (λ (x : ℕ). entry_of row.commitment x row.size) o
