@@ -2,34 +2,41 @@
 ghost use Rattle.std.specs.Prelude.{◌<◌, ◌≤◌};
 
 // The kinds of calls.
-pub(crate) const BOOKING: usize = 0;
-
-pub(crate) const CANCELLING: usize = 1;
-
-pub(crate) const COLLECTING: usize = 2;
+#[derive(Clone, Copy, Debug, PartialEq, Eq)]
+pub(crate) enum Kind {
+    Booking,
+    Cancelling,
+    Collecting,
+}
 
 // The buffers that a call may lend one byte too short.
-pub(crate) const DEAL: u64 = 0;
-
-pub(crate) const TABLE: u64 = 1;
-
-pub(crate) const TREE: u64 = 2;
-
-pub(crate) const SECOND: u64 = 3;
-
-pub(crate) const SECOND_TABLE: u64 = 4;
+#[derive(Clone, Copy, Debug, PartialEq, Eq)]
+pub(crate) enum Buffer {
+    Deal,
+    Table,
+    Tree,
+    Second,
+    SecondTable,
+}
 
 // A call: its kind, whether a tree is in hand, whose it is; which segment is booked, and its T; which entry place is
 // cancelled; which buffer is lent too short, none for most numbers.
 #[derive(Clone, Copy)]
 pub(crate) struct Call {
-    pub(crate) kind: usize,
+    pub(crate) kind: Kind,
     pub(crate) with_tree: bool,
     pub(crate) house: u8,
     pub(crate) segment: u8,
     pub(crate) size: u64,
     pub(crate) place: u64,
-    pub(crate) short: u64,
+    pub(crate) short: Option<Buffer>,
+}
+
+impl Call {
+    // Whether a buffer is lent too short.
+    pub(crate) fn shortens(&self, buffer: Buffer) -> bool {
+        self.short == Some(buffer)
+    }
 }
 
 // The number after a number other than 0, of the 2^64 - 1 that come in turn (Marsaglia's xorshift).
@@ -40,16 +47,26 @@ pub(crate) fn next_number(x: u64) -> u64 {
 }
 
 // Of 16: 8 bookings, 7 cancellations, a collection.
-fn kind_of(digit: u64) -> usize
-    ensures { result ≤ 2 }
-{
+fn kind_of(digit: u64) -> Kind {
     if digit < 8 {
-        return BOOKING;
+        return Kind::Booking;
     }
     if digit < 15 {
-        return CANCELLING;
+        return Kind::Cancelling;
     }
-    COLLECTING
+    Kind::Collecting
+}
+
+// Of 64: each of the five buffers once.
+fn short_of(digit: u64) -> Option<Buffer> {
+    match digit {
+        0 => Some(Buffer::Deal),
+        1 => Some(Buffer::Table),
+        2 => Some(Buffer::Tree),
+        3 => Some(Buffer::Second),
+        4 => Some(Buffer::SecondTable),
+        _ => None,
+    }
 }
 
 // Of 32: 15 for each house, and two that are none.
@@ -147,7 +164,6 @@ fn place_of(size: u64, digits: u64) -> u64
 // The call that a number stands for on a deal of this many bytes.
 pub(crate) fn call_of(size: u64, tree_in_hand: bool, number: u64) -> Call
     requires { (512 ≤ size) × (size ≤ 4096) }
-    ensures { result.kind ≤ 2 }
 {
     Call {
         kind: kind_of(number % 16),
@@ -156,7 +172,7 @@ pub(crate) fn call_of(size: u64, tree_in_hand: bool, number: u64) -> Call
         segment: segment_of(number / 1024 % 16),
         size: size_of(size / 2, number / 16384),
         place: place_of(size, number / 16384),
-        short: number / 4294967296 % 64,
+        short: short_of(number / 4294967296 % 64),
     }
 }
 

@@ -14,7 +14,9 @@ mod tests; // tests.rt: the five tests
 
 ghost use Rattle.std.specs.Prelude.{◌≡◌, ◌≤◌, length};
 
+use counts::Counts;
 use history::History;
+use parts::Buffers;
 use std::io;
 
 // A year: the size of its deal, how many calls, whether each has the tree in hand, and the number before the first.
@@ -26,119 +28,51 @@ struct Plan {
     seed: u64,
 }
 
-// What goes on from call to call beside the deal: the history, the number that the latest call was made of, and whether
-// the tree is the deal's own.
+// What goes on from call to call beside the buffers: the history, the number that the latest call was made of, whether
+// the tree is the deal's own, and the counts.
 #[derive(Clone, Copy)]
 struct Going {
     history: History,
     number: u64,
     own_tree: bool,
+    counts: Counts,
 }
 
 // Makes the next call, and all tests after it. The tree is the deal's own after a call that had it in hand, until one
 // that had not changes the deal.
-fn go_on(
-    deal: &mut [u8],
-    tree: &mut [u8],
-    table: &mut [u8],
-    second: &mut [u8],
-    second_tree: &mut [u8],
-    second_table: &mut [u8],
-    codes: &mut [u64],
-    tests: &mut [u64],
-    plan: Plan,
-    going: Going,
-) -> Going
+fn go_on(buffers: &mut Buffers, plan: Plan, going: &mut Going)
     requires { (512 ≤ plan.size) × (plan.size ≤ 4096) }
 {
-    let number = calls::next_number(going.number);
-    let call = calls::call_of(plan.size, plan.tree_in_hand, number);
-    let answer = making::make(
-        deal,
-        tree,
-        going.own_tree,
-        table,
-        second,
-        second_tree,
-        second_table,
-        call,
-    );
-    counts::count_code(codes, call.kind, answer.code);
-    let was = going.history;
-    let history = history::after_call(was, plan.size, call, answer);
-    let own_tree = call.with_tree || (going.own_tree && answer.code != 0);
-    tests::test_all(deal, tree, own_tree, table, history, number, tests);
-    Going {
-        history,
-        number,
-        own_tree,
-    }
+    going.number = calls::next_number(going.number);
+    let call = calls::call_of(plan.size, plan.tree_in_hand, going.number);
+    let answer = making::make(buffers, going.own_tree, call);
+    going.counts.count_call(call.kind, answer.code);
+    going.history.go_on(plan.size, call, answer);
+    going.own_tree = call.with_tree || (going.own_tree && answer.code != 0);
+    let state = tests::State {
+        deal: buffers.deal,
+        tree: if going.own_tree { Some(&*buffers.tree) } else { None },
+        slots: slots::slots_of(buffers.deal, buffers.table),
+        number: going.number,
+    };
+    state.test_all(&going.history, &mut going.counts.tests);
 }
 
-// Makes all calls of a year on a deal with its tree and its table; their history.
-fn play(
-    deal: &mut [u8],
-    tree: &mut [u8],
-    table: &mut [u8],
-    second: &mut [u8],
-    second_tree: &mut [u8],
-    second_table: &mut [u8],
-    codes: &mut [u64],
-    tests: &mut [u64],
-    plan: Plan,
-) -> History
+// Makes all calls of a year on a deal with its tree and its table, and shows what it came to.
+fn play_and_show(rt: &impl Print, buffers: &mut Buffers, plan: Plan) -> io::Result<()>
     requires { (512 ≤ plan.size) × (plan.size ≤ 4096) }
 {
     let mut going = Going {
         history: history::none(),
         number: plan.seed,
         own_tree: false,
+        counts: Counts::none(),
     };
     for _ in 0..plan.calls {
-        going = go_on(
-            deal,
-            tree,
-            table,
-            second,
-            second_tree,
-            second_table,
-            codes,
-            tests,
-            plan,
-            going,
-        );
+        go_on(buffers, plan, &mut going);
     }
-    going.history
-}
-
-// Plays a year, and shows what it came to.
-fn play_and_show(
-    rt: &impl Print,
-    deal: &mut [u8],
-    tree: &mut [u8],
-    table: &mut [u8],
-    second: &mut [u8],
-    second_tree: &mut [u8],
-    second_table: &mut [u8],
-    plan: Plan,
-) -> io::Result<()>
-    requires { (512 ≤ plan.size) × (plan.size ≤ 4096) }
-{
-    let mut codes = [0u64; 96];
-    let mut tests = [0u64; 10];
-    let history = play(
-        deal,
-        tree,
-        table,
-        second,
-        second_tree,
-        second_table,
-        &mut codes,
-        &mut tests,
-        plan,
-    );
-    show::year(rt, plan.size, plan.calls, &codes, &tests, history)?;
-    show::state(rt, deal, table)
+    show::year(rt, plan.size, plan.calls, &going.counts, &going.history)?;
+    show::state(rt, buffers.deal, buffers.table)
 }
 
 // A buffer full of one byte.
@@ -160,16 +94,15 @@ fn year(rt: &impl Print, plan: Plan) -> io::Result<()>
     let mut second_table = [2u8, 2, 1, 7];
     let size = plan.size as usize;
     let nodes = size - 32;
-    play_and_show(
-        rt,
-        &mut deal[..size],
-        &mut tree[..nodes],
-        &mut table,
-        &mut second[..size],
-        &mut second_tree[..nodes],
-        &mut second_table,
-        plan,
-    )
+    let mut buffers = Buffers {
+        deal: &mut deal[..size],
+        tree: &mut tree[..nodes],
+        table: &mut table,
+        second: &mut second[..size],
+        second_tree: &mut second_tree[..nodes],
+        second_table: &mut second_table,
+    };
+    play_and_show(rt, &mut buffers, plan)
 }
 
 // A year in which some calls have the tree in hand, and one in which all have, so that it is filled once alone.

@@ -1,5 +1,15 @@
 // Parts of buffers.
-ghost use Rattle.std.specs.Prelude.{◌≡◌, ◌≤◌, length, take};
+
+// The buffers of a year: a deal with its tree and its table of owners, and second ones to collect into.
+#[derive(Drop)]
+pub(crate) struct Buffers<'a> {
+    pub(crate) deal: &'a mut [u8],
+    pub(crate) tree: &'a mut [u8],
+    pub(crate) table: &'a mut [u8],
+    pub(crate) second: &'a mut [u8],
+    pub(crate) second_tree: &'a mut [u8],
+    pub(crate) second_table: &'a mut [u8],
+}
 
 // So many bytes from an offset on; none where they would go beyond the last.
 pub(crate) fn part(bytes: &[u8], offset: u64, size: u64) -> &[u8] {
@@ -15,13 +25,8 @@ pub(crate) fn part(bytes: &[u8], offset: u64, size: u64) -> &[u8] {
     &bytes[start..end]
 }
 
-// How much of a buffer a call is lent: all of it, or all but its last byte.
-pub(crate) fn lent_length(bytes: &[u8], short: bool) -> usize
-    ensures within { result ≤ length bytes.now }
-    ensures prefix { result ≡ length (take result bytes.now) }
-{
-    if short && 0 < bytes.len() {
-        return bytes.len() - 1;
-    }
-    bytes.len()
+// What a call is lent of a buffer: all of it, or all but its last byte.
+pub(crate) fn lent(bytes: &mut [u8], short: bool) -> &mut [u8] {
+    let end = if short { bytes.len().saturating_sub(1) } else { bytes.len() };
+    &mut bytes[..end]
 }

@@ -1,15 +1,7 @@
 // What a year came to, on standard output.
-ghost use Rattle.std.specs.Prelude.{◌<◌, ◌≤◌};
-
-use crate::calls::{BOOKING, CANCELLING, COLLECTING};
-use crate::counts::CODES;
+use crate::counts::{CODES, Codes, Counts, Tally};
 use crate::history::History;
-use crate::tests::{AREAS, EACH_KEPT, EACH_RECORD, NONE_ALIKE, NONE_OVERLAPS, TESTS};
 use std::io;
-
-fn wide(x: u8) -> u64 {
-    x as u64
-}
 
 // A number, after some words.
 fn number(rt: &impl Print, words: &[u8], n: u64) -> io::Result<()> {
@@ -30,17 +22,9 @@ fn digest(rt: &impl Print, words: &[u8], s: &[u8]) -> io::Result<()> {
 fn node(rt: &impl Print, words: &[u8], bytes: [u8; 32]) -> io::Result<()> {
     rt.write_all(words)?;
     for byte in &bytes {
-        print!(rt; "{:02x}", wide(*byte))?;
+        print!(rt; "{byte:02x}")?;
     }
     end(rt)
-}
-
-// A count, 0 beyond the last.
-fn count_at(counts: &[u64], at: usize) -> u64 {
-    if counts.len() <= at {
-        return 0;
-    }
-    counts[at]
 }
 
 // A code and how often it was answered, if it was.
@@ -53,23 +37,19 @@ fn code(rt: &impl Print, code: usize, times: u64) -> io::Result<()> {
 }
 
 // The codes that the calls of a kind were answered with, each with how often.
-fn kind(rt: &impl Print, words: &[u8], codes: &[u64], kind: usize) -> io::Result<()>
-    requires { kind ≤ 2 }
-{
+fn kind(rt: &impl Print, words: &[u8], codes: &Codes) -> io::Result<()> {
     rt.write_all(words)?;
     for i in 0..CODES {
-        code(rt, i, count_at(codes, CODES * kind + i))?;
+        code(rt, i, codes[i])?;
     }
     end(rt)
 }
 
 // How often a test was made, and how often it failed.
-fn test(rt: &impl Print, words: &[u8], tests: &[u64], test: usize) -> io::Result<()>
-    requires { test < 5 }
-{
+fn test(rt: &impl Print, words: &[u8], tally: Tally) -> io::Result<()> {
     rt.write_all(words)?;
-    number(rt, b"", count_at(tests, test))?;
-    number(rt, b" made, ", count_at(tests, TESTS + test))?;
+    number(rt, b"", tally.made)?;
+    number(rt, b" made, ", tally.failed)?;
     println!(rt; " failed")
 }
 
@@ -78,21 +58,20 @@ pub(crate) fn year(
     rt: &impl Print,
     size: u64,
     calls: u64,
-    codes: &[u64],
-    tests: &[u64],
-    history: History,
+    counts: &Counts,
+    history: &History,
 ) -> io::Result<()> {
     number(rt, b"a year of ", calls)?;
     number(rt, b" calls on a deal of ", size)?;
     println!(rt; " bytes")?;
-    kind(rt, b"bookings by code", codes, BOOKING)?;
-    kind(rt, b"cancellations by code", codes, CANCELLING)?;
-    kind(rt, b"collections by code", codes, COLLECTING)?;
-    test(rt, b"no two alike: ", tests, NONE_ALIKE)?;
-    test(rt, b"none overlap: ", tests, NONE_OVERLAPS)?;
-    test(rt, b"each kept: ", tests, EACH_KEPT)?;
-    test(rt, b"each record accepted: ", tests, EACH_RECORD)?;
-    test(rt, b"areas booked less cancelled: ", tests, AREAS)?;
+    kind(rt, b"bookings by code", &counts.bookings)?;
+    kind(rt, b"cancellations by code", &counts.cancellations)?;
+    kind(rt, b"collections by code", &counts.collections)?;
+    test(rt, b"no two alike: ", counts.tests.none_alike)?;
+    test(rt, b"none overlap: ", counts.tests.none_overlaps)?;
+    test(rt, b"each kept: ", counts.tests.each_kept)?;
+    test(rt, b"each record accepted: ", counts.tests.each_record)?;
+    test(rt, b"areas booked less cancelled: ", counts.tests.areas)?;
     number(rt, b"segments booked at once: ", history.most)?;
     end(rt)?;
     number(rt, b"areas booked: ", history.areas_booked)?;
