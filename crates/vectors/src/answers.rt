@@ -150,10 +150,12 @@ fn playback(rt: &impl Print, log: &[u8], size: u64) -> io::Result<()> {
             show::code(rt, 0)?;
             show::number(rt, refusal.code() as u64)?;
         }
-        Err(NotPlayed::Line {
-            number,
-            ruling: given,
-        }) => {
+        Err(
+            NotPlayed::Line {
+                number,
+                ruling: given,
+            },
+        ) => {
             show::code(rt, 1)?;
             show::number(rt, number)?;
             ruling = given;

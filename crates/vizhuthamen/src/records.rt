@@ -6,7 +6,6 @@ ghost use Rattle.lent.specs.LentDeal.{lent_deal, tree_deal};
 ghost use Rattle.builder.specs.Build.{build_answer, build_output};
 ghost use Rattle.vizhuthamen.specs.Export.{lent_output, field_tag, field_start, field_length, field_next};
 
-
 // Builds the record of the kept entry at a place of a deal with a number.
 #[unsafe(no_mangle)]
 pub extern "C" fn vz_build(

@@ -49,10 +49,13 @@ fn go_on(buffers: &mut Buffers, plan: Plan, going: &mut Going)
     going.counts.count_call(call.kind, answer.code);
     going.history.go_on(plan.size, call, answer);
     going.own_tree = call.with_tree || (going.own_tree && answer.code != 0);
+    let deal = &*buffers.deal;
+    let tree = &*buffers.tree;
+    let table = &*buffers.table;
     let state = tests::State {
-        deal: buffers.deal,
-        tree: if going.own_tree { Some(&*buffers.tree) } else { None },
-        slots: slots::slots_of(buffers.deal, buffers.table),
+        deal,
+        tree: if going.own_tree { Some(tree) } else { None },
+        slots: slots::slots_of(deal, table),
         number: going.number,
     };
     state.test_all(&going.history, &mut going.counts.tests);
@@ -72,7 +75,9 @@ fn play_and_show(rt: &impl Print, buffers: &mut Buffers, plan: Plan) -> io::Resu
         go_on(buffers, plan, &mut going);
     }
     show::year(rt, plan.size, plan.calls, &going.counts, &going.history)?;
-    show::state(rt, buffers.deal, buffers.table)
+    let deal = &*buffers.deal;
+    let table = &*buffers.table;
+    show::state(rt, deal, table)
 }
 
 // A buffer full of one byte.

@@ -71,16 +71,24 @@ fn take_place(of: &mut [u8], new: &[u8]) {
 // A collection; where it is not refused the second deal, its tree and its table take the place of the first ones.
 fn collect_and_go_on(buffers: &mut Buffers, call: Call) -> Result<(), Refusal> {
     collect(buffers, call)?;
-    take_place(buffers.deal, buffers.second);
-    take_place(buffers.tree, buffers.second_tree);
-    take_place(buffers.table, buffers.second_table);
+    let deal = &mut *buffers.deal;
+    let second = &*buffers.second;
+    take_place(deal, second);
+    let tree = &mut *buffers.tree;
+    let second_tree = &*buffers.second_tree;
+    take_place(tree, second_tree);
+    let table = &mut *buffers.table;
+    let second_table = &*buffers.second_table;
+    take_place(table, second_table);
     Ok(())
 }
 
 // Makes a call; its answer in numbers. A tree that is not the deal's own is filled before the call has it in hand.
 pub(crate) fn make(buffers: &mut Buffers, own_tree: bool, call: Call) -> Booked {
     if call.with_tree && !own_tree {
-        let _ = lent::fill_tree(buffers.deal, buffers.tree);
+        let deal = &*buffers.deal;
+        let tree = &mut *buffers.tree;
+        let _ = lent::fill_tree(deal, tree);
     }
     match call.kind {
         Kind::Booking => room::booked_of(book(buffers, call)),

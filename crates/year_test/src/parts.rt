@@ -27,6 +27,10 @@ pub(crate) fn part(bytes: &[u8], offset: u64, size: u64) -> &[u8] {
 
 // What a call is lent of a buffer: all of it, or all but its last byte.
 pub(crate) fn lent(bytes: &mut [u8], short: bool) -> &mut [u8] {
-    let end = if short { bytes.len().saturating_sub(1) } else { bytes.len() };
+    let end = if short {
+        bytes.len().saturating_sub(1)
+    } else {
+        bytes.len()
+    };
     &mut bytes[..end]
 }

@@ -122,7 +122,9 @@ impl State<'_> {
         tests.each_kept.note(self.is_kept(b));
         tests.each_record.note(self.has_record(b.place));
         if let Some(tree) = self.tree {
-            tests.each_record.note(self.has_record_with_tree(tree, b.place));
+            tests
+                .each_record
+                .note(self.has_record_with_tree(tree, b.place));
         }
     }
 
