@@ -1,13 +1,13 @@
 -- The parts of a packed state, read and written one after the other.
 use mathlib.Core.Path.{◌≡◌, sym, ap, ◌∙◌}
-use Prim.Native.Nat.{ℕ, ◌+◌, ◌-◌}
+use Prim.Native.Nat.{ℕ}
 use native.Mathlib.Omega.{arith}
 use mathlib.Core.List.{List, ◌∷◌, ◌++◌, append_assoc}
-use lib.ListN.{length, take, drop, replicate, length-append}
+use lib.ListN.{length, replicate, length-append}
 use Rattle.octets.specs.LittleEndian.{bytes_of}
 use Rattle.octets.specs.LittleEndianLaws.{length_bytes_of}
-use Rattle.octets.specs.Splice.{part, splice}
-use Rattle.octets.specs.SpliceLaws.{part_length, part_range, splice_whole, splice_append}
+use Rattle.octets.specs.Splice.{splice}
+use Rattle.octets.specs.SpliceLaws.{splice_whole, splice_append}
 use Rattle.stream.specs.declared.Stream.{Stream}
 use Rattle.stream.specs.Packed.{packed_length, packed}
 

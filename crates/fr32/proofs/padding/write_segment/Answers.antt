@@ -1,6 +1,6 @@
 -- The words and the bytes that are worked out are those of the segment.
-use Rattle.std.proofs.Common.{rules, ◌≡◌, ℕ, ◌+◌, ◌*◌, ◌/◌, ◌<◌, length, arith, ◌∙◌, sym}
-use Rattle.fr32.specs.Padding.{segment_length, padded}
+use Rattle.std.proofs.Common.{rules, ◌∙◌, sym}
+use Rattle.fr32.specs.Padding.{padded}
 use Rattle.fr32.specs.PaddingLaws.{length_padded}
 use Rattle.fr32.proofs.padding.write_segment.Goals as goal
 

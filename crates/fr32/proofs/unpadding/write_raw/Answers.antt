@@ -1,9 +1,9 @@
 -- The words and the bytes that are worked out are those of the raw bytes.
-use Rattle.std.proofs.Common.{rules, ◌≡◌, ℕ, ◌+◌, ◌*◌, ◌/◌, ◌<◌, length, arith, ◌∙◌, sym}
-use Rattle.fr32.specs.Padding.{segment_length, unpadded}
+use Rattle.std.proofs.Common.{rules, arith}
+use Rattle.fr32.specs.Padding.{unpadded}
 use Rattle.fr32.specs.UnpaddingLaws.{length_unpadded}
 use Rattle.fr32.proofs.ByteFormulas.{raw_place}
-use Rattle.fr32.proofs.WordFormulas.{words_inside, raw_word_place}
+use Rattle.fr32.proofs.WordFormulas.{raw_word_place}
 use Rattle.fr32.proofs.unpadding.write_raw.Goals as goal
 
 pub returns : goal.returns

@@ -1,5 +1,5 @@
 -- One more word, and one more byte.
-use Rattle.std.proofs.Common.{◌≡◌, ℕ, List, [], ◌∷◌, ◌+◌, ◌*◌, ◌≤◌, ◌<◌, length, take, sym, ap, ◌∙◌, arith}
+use Rattle.std.proofs.Common.{◌≡◌, ℕ, [], ◌∷◌, ◌+◌, ◌*◌, length, take, sym, ap, ◌∙◌, arith}
 use Rattle.octets.specs.LittleEndian.{bytes_of}
 use Rattle.octets.specs.Splice.{splice}
 use Rattle.octets.specs.SpliceLaws.{splice_nothing}

@@ -1,10 +1,8 @@
 -- `root_of_filled`: a whole run, one node, or two halves.
-use mathlib.Core.Path.{◌≡◌, sym, ap, ap₂, ◌∙◌}
-use mathlib.Core.List.{List, ◌++◌}
-use Prim.Native.Nat.{ℕ, ◌-◌, ◌*◌, ◌^◌}
+use mathlib.Core.Path.{sym, ap, ◌∙◌}
+use Prim.Native.Nat.{ℕ, ◌*◌, ◌^◌}
 use native.Mathlib.Omega.{arith}
-use lib.ListN.{length, take, drop}
-use Rattle.node.specs.Node.{node_hash}
+use lib.ListN.{take, drop}
 use Rattle.merkle.specs.Tree.{commitment_of}
 use Rattle.merkle.proofs.FilledParts.{no_zeros, lone_node, two, left_filled, right_filled}
 use Rattle.merkle.proofs.filled.+root_of_filled.Goals as goal

@@ -1,10 +1,7 @@
 -- `plain_root`: one node, or the node over the commitments of the halves.
-use Prim.Native.Nat.{ℕ, ◌/◌}
 use native.Mathlib.Omega.{arith}
-use mathlib.Core.Path.{ap, ap₂, ◌∙◌}
-use mathlib.Core.List.{List, ◌++◌}
+use mathlib.Core.Path.{ap, ◌∙◌}
 use lib.ListN.{length}
-use Rattle.node.specs.Node.{node_hash}
 use Rattle.octets.specs.SpliceLaws.{part_whole}
 use Rattle.merkle.specs.Tree.{commitment_of}
 use Rattle.merkle.proofs.Cuts.{one_node, half_sized, two_halves, over_both}

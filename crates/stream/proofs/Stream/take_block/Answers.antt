@@ -9,7 +9,7 @@ use Rattle.pow2.specs.Power.{height}
 use Rattle.stream.specs.Stream.{largest, failed_with}
 use Rattle.stream.specs.Parts.{Block}
 use Rattle.stream.specs.StreamLaws.{running}
-use Rattle.stream.proofs.BlockSizes.{block_some, height_low, height_is, height_five, before_few}
+use Rattle.stream.proofs.BlockSizes.{height_low, height_is, height_five, before_few}
 use Rattle.stream.proofs.Blocks.{stray_block, clear_block}
 use Rattle.stream.proofs.RunningLaws.{taken_from, taken_with}
 use Rattle.stream.proofs.Stream.take_block.Goals as goal
