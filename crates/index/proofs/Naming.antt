@@ -1,12 +1,12 @@
 -- The search for a slot that keeps a commitment: rows that name it, and the areas that were hashed in vain.
 use mathlib.Core.Path.{◌≡◌, refl, sym, ap, ap₂, ◌∙◌, subst}
 use mathlib.Core.Bool.{Bool, true, false, ◌&&◌, true≢false}
-use mathlib.Core.Logic.{⊎_elim}
 use mathlib.Core.List.{List}
-use Prim.Native.Nat.{ℕ, ◌+◌, ◌<◌}
-use native.Mathlib.Nat.{eq-or-lt_of_le}
+use Prim.Native.Nat.{ℕ, zero, suc, ◌+◌, ◌≤◌, ◌<◌}
 use native.Mathlib.Omega.{arith}
-use lib.ListN.{length, get_or, set}
+use lib.ListN.{length, take, get_or, set, replicate}
+use Rattle.std.proofs.lemmas.List.{get_or-take, length-take-le}
+use Rattle.std.proofs.Math.Decide.{dec_lt}
 use lib.Seq.{get_or-set_same, get_or-set_other}
 use lib.Pow.{pow_pos}
 use Rattle.rules.specs.Choice.{choose}
@@ -18,11 +18,12 @@ use Rattle.sizes.specs.Sizes.{area, slot_place, segment_level, segment_position}
 use Rattle.sizes.specs.AreaLaws.{area_doubled, area_is_doubled}
 use Rattle.entries.specs.Entry.{commitment_in, offset_in, size_in}
 use Rattle.lent.specs.LentDeal.{LentDeal, deal_size}
-use Rattle.index.specs.Slots.{entry_at, standing, node_over, kept, free, holds, row_of, row_area, Row}
+use Rattle.index.specs.Slots.{entry_at, standing, node_over, kept, free, holds, row_of, Row}
 use Rattle.index.specs.SlotsLaws.{StandsAs, answer_stands}
 use Rattle.index.specs.KeptLaws.{row_stands, row_free, area_node}
 use Rattle.index.specs.Find.{keeps_commitment, found_in}
-use Rattle.index.specs.Tried.{naming_row, kept_by, TriedBefore}
+use Rattle.index.specs.Tried.{naming_row, kept_by, no_area, TriedBefore}
+use Rattle.index.specs.declared.Area.{Area}
 
 either_free : (t : Bool) → choose t free free ≡ free
 either_free true = refl
@@ -53,6 +54,11 @@ module _ (deal commitment : List ℕ) (place : ℕ) where
   naming_read {answer} {named} e n t q =
       ap (λ (b : Bool). choose b answer free) (sym q ∙ n)
       ∙ ap (λ (x : Row). choose (same_bytes x.commitment commitment) x free) e
+
+  -- nothing stands there
+  pub naming_free : free ≡ row_of (length deal) here → free ≡ naming_row deal commitment place
+  naming_free e =
+      sym (either_free (same_bytes free.commitment commitment)) ∙ naming_read e refl _ refl
 
 -- a row that names the commitment and stands is the entry's
 pub record Names (deal commitment : List ℕ) (place : ℕ) (row : Row) : Type 0 where
@@ -108,56 +114,69 @@ module _ (deal : LentDeal) (commitment : List ℕ) (i : ℕ) {place : ℕ} {row 
       let x = entry_at deal.bytes at in
       record { code = 0; offset = offset_in x; size = size_in x; place = at }) p
 
--- the first areas were hashed in vain: the node over each, of whatever size with that area, is not the commitment
-abbrev pub Missed : NodeSource → List ℕ → List ℕ → List ℕ → ℕ → Type 0
-Missed nodes commitment offsets areas count =
-    (j size : ℕ) → j < count → area size ≡ get_or areas j 0
-    → same_bytes (nodes (segment_level size) (segment_position (get_or offsets j 0) size)) commitment ≡ false
+-- the areas were hashed in vain: the node over each, of whatever size with that area, is not the commitment
+abbrev pub Missed : NodeSource → List ℕ → List Area → Type 0
+Missed nodes commitment tried =
+    (j size : ℕ) → area size ≡ (get_or tried j no_area).bytes
+    → same_bytes (nodes (segment_level size) (segment_position (get_or tried j no_area).offset size)) commitment
+    ≡ false
 
-module _ (nodes : NodeSource) (deal commitment : List ℕ) (offsets areas : List ℕ) (i place : ℕ) (row : Row)
-    (e : row ≡ naming_row deal commitment place) (m : Missed nodes commitment offsets areas i) where
-  abbrev row_test : Bool
-  row_test = same_bytes (nodes (segment_level row.size) (segment_position row.offset row.size)) row.commitment
+-- an area has bytes
+has_bytes : (size : ℕ) → area size ≡ 0 → ⊥
+has_bytes size z = omega (arith, area_is_doubled size, pow_pos (area_doubled size).exponent)
 
+-- at first no area was tried
+none_tried : (n j : ℕ) → get_or (replicate n no_area) j no_area ≡ no_area
+none_tried zero j = refl
+none_tried (suc n) zero = refl
+none_tried (suc n) (suc j) = none_tried n j
+
+pub missed_start : (nodes : NodeSource) (commitment : List ℕ) (n : ℕ) → Missed nodes commitment (replicate n no_area)
+missed_start nodes commitment n j size z = absurd (has_bytes size (z ∙ ap (λ (a : Area). a.bytes) (none_tried n j)))
+
+-- an entry that stands and names the commitment
+module _ (nodes : NodeSource) (deal commitment : List ℕ) (tried : List Area) (place : ℕ) (row : Row)
+    (s : row.stands ≡ true) (e : row ≡ naming_row deal commitment place) (m : Missed nodes commitment tried) where
   -- an area that was tried before need not be hashed
-  pub tried_in_vain : TriedBefore offsets areas i row.offset (row_area row) → kept_by nodes row ≡ false
-  tried_in_vain (j, h, o, a) = go row.stands refl
-    where
-      go : (t : Bool) → row.stands ≡ t → kept_by nodes row ≡ false
-      go false s = rw s
-      go true s =
-          let z : area row.size ≡ get_or areas j 0 = sym (a ∙ rw s) in
-          let c = (names deal commitment place row s e).commitment_is in
-          rw (s, c, ← o) (m j row.size h z)
+  pub tried_in_vain : (i : ℕ) → i ≤ length tried
+      → TriedBefore (take i tried) (record { offset = row.offset; bytes = area row.size }) → kept_by nodes row ≡ false
+  tried_in_vain i r (j, h, o, a) =
+      let l : j < i = omega (arith, h, length-take-le i tried r) in
+      let at : get_or (take i tried) j no_area ≡ get_or tried j no_area = get_or-take i tried j no_area l in
+      let c = (names deal commitment place row s e).commitment_is in
+      let z : area row.size ≡ (get_or tried j no_area).bytes = sym a ∙ ap (λ (x : Area). x.bytes) at in
+      let q : row.offset ≡ (get_or tried j no_area).offset = sym o ∙ ap (λ (x : Area). x.offset) at in
+      rw (s, c, q) (m j row.size z)
 
-  -- the area of slot i is one more
-  module _ (taken : ℕ) (t : taken ≡ row_area row) (k : kept_by nodes row ≡ false) where
-    row_missed : (size : ℕ) → area size ≡ taken → (b : Bool) → row.stands ≡ b
+  -- its area is one more
+  module _ (k : kept_by nodes row ≡ false) where
+    row_missed : (size : ℕ) → area size ≡ area row.size
         → same_bytes (nodes (segment_level size) (segment_position row.offset size)) commitment ≡ false
-    row_missed size q true s =
-        let z : area size ≡ area row.size = q ∙ t ∙ rw s in
+    row_missed size z =
         let c = (names deal commitment place row s e).commitment_is in
         ap₂ same_bytes (area_node nodes row.offset size row.size z) (sym c) ∙ sym (rw s) ∙ k
-    row_missed size q false s =
-        let z : area size ≡ 0 = q ∙ t ∙ rw s in
-        absurd (omega (arith, area_is_doubled size, pow_pos (area_doubled size).exponent))
 
-    pub missed_next : i < length offsets → i < length areas
-        → Missed nodes commitment (set offsets i row.offset) (set areas i taken) (i + 1)
-    missed_next ho ha j size l z = ⊎_elim last before (eq-or-lt_of_le (omega arith))
+    pub missed_next : (i : ℕ) → i < length tried
+        → Missed nodes commitment (set tried i (record { offset = row.offset; bytes = area row.size }))
+    missed_next i h j size z =
+        elim (dec_lt j i) [
+          | yes below ↦ passed (omega arith)
+          | no up ↦ elim (dec_lt i j) [ | yes above ↦ passed (omega arith) | no down ↦ reached (omega arith) ]
+        ]
       where
+        here : Area
+        here = record { offset = row.offset; bytes = area row.size }
+
         miss : ℕ → Type 0
         miss o = same_bytes (nodes (segment_level size) (segment_position o size)) commitment ≡ false
 
-        last : j ≡ i → miss (get_or (set offsets i row.offset) j 0)
-        last same =
-            let o : get_or (set offsets i row.offset) j 0 ≡ row.offset =
-            ap (λ (x : ℕ). get_or (set offsets i row.offset) x 0) same ∙ get_or-set_same offsets i row.offset 0 ho in
-            let a : get_or (set areas i taken) j 0 ≡ taken =
-            ap (λ (x : ℕ). get_or (set areas i taken) x 0) same ∙ get_or-set_same areas i taken 0 ha in
-            subst miss (sym o) (row_missed size (z ∙ a) row.stands refl)
+        reached : j ≡ i → miss (get_or (set tried i here) j no_area).offset
+        reached same =
+            let at : get_or (set tried i here) j no_area ≡ here =
+            ap (λ (x : ℕ). get_or (set tried i here) x no_area) same ∙ get_or-set_same tried i here no_area h in
+            subst miss (sym (ap (λ (a : Area). a.offset) at)) (row_missed size (z ∙ ap (λ (a : Area). a.bytes) at))
 
-        before : j < i → miss (get_or (set offsets i row.offset) j 0)
-        before less =
-            subst miss (sym (get_or-set_other offsets i j row.offset 0 (omega arith)))
-            (m j size less (z ∙ get_or-set_other areas i j taken 0 (omega arith)))
+        passed : (j ≡ i → ⊥) → miss (get_or (set tried i here) j no_area).offset
+        passed other =
+            let at = get_or-set_other tried i j here no_area (omega arith) in
+            subst miss (sym (ap (λ (a : Area). a.offset) at)) (m j size (z ∙ ap (λ (a : Area). a.bytes) at))

@@ -6,6 +6,7 @@ use Rattle.octets.specs.Equality.{same_bytes}
 use Rattle.merkle.specs.NodeSource.{NodeSource}
 use Rattle.sizes.specs.Sizes.{segment_level, segment_position}
 use Rattle.index.specs.Slots.{entry_at, free, row_of, Row}
+use Rattle.index.specs.declared.Area.{Area}
 
 -- the row of the entry at a place, where it stands and names this commitment
 abbrev pub naming_row : List ℕ → List ℕ → ℕ → Row
@@ -19,7 +20,12 @@ kept_by nodes row =
     row.stands
     && same_bytes (nodes (segment_level row.size) (segment_position row.offset row.size)) row.commitment
 
--- the area from an offset is one of the first that were tried
-abbrev pub TriedBefore : List ℕ → List ℕ → ℕ → ℕ → ℕ → Type 0
-TriedBefore offsets areas count offset area =
-    (j : ℕ) × (j < count) × (get_or offsets j 0 ≡ offset) × (get_or areas j 0 ≡ area)
+-- no area
+abbrev pub no_area : Area
+no_area = record { offset = 0; bytes = 0 }
+
+-- an area is one of those that were tried
+abbrev pub TriedBefore : List Area → Area → Type 0
+TriedBefore tried area =
+    (j : ℕ) × (j < length tried) × ((get_or tried j no_area).offset ≡ area.offset)
+    × ((get_or tried j no_area).bytes ≡ area.bytes)

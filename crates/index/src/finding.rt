@@ -1,13 +1,13 @@
 // Finding a segment of a lent deal by its commitment.
-ghost use Rattle.std.specs.Prelude.{◌≡◌, true, false, ◌+◌, ◌≤◌, length};
-ghost use Rattle.sizes.specs.Sizes.{lent_size_allowed, segment_size_allowed, offset_allowed};
+ghost use Rattle.std.specs.Prelude.{◌≡◌, true, ◌+◌, ◌≤◌, length};
+ghost use Rattle.sizes.specs.Sizes.{lent_size_allowed};
 ghost use Rattle.lent.specs.LentDeal.{lent_deal};
 ghost use Rattle.lent.specs.Seen.{seen};
 ghost use Rattle.index.specs.Slots.{row_as};
-ghost use Rattle.index.specs.Tried.{naming_row, kept_by};
+ghost use Rattle.index.specs.Tried.{naming_row, TriedBefore};
 ghost use Rattle.index.specs.Find.{found_as, found_in, lowest_with_commitment, find_numbers, find_view};
 
-use crate::slots::{area_of, segment_has, standing_at};
+use crate::slots::{segment_has, standing_at};
 use crate::{Area, FoundSegment};
 use entries::Fields;
 use lent::Lent;
@@ -24,6 +24,13 @@ fn naming_at(deal: &[u8], place: usize, commitment: &[u8]) -> Option<Fields>
         return None;
     }
     Some(row)
+}
+
+// Whether an area is one of those that were tried.
+fn tried_before(tried: &[Area], area: &Area) -> bool
+    ensures { result ≡ true → TriedBefore tried.now area.now }
+{
+    tried.contains(area)
 }
 
 // The lowest slot of a lent deal that holds a kept entry with this commitment. Every area that entries with this
@@ -46,7 +53,7 @@ fn lowest_with_commitment(deal: &Lent, commitment: &[u8]) -> Result<FoundSegment
             offset: row.offset,
             bytes: sizes::area(row.size),
         };
-        if !tried[..i].contains(&area) && segment_has(deal, row) {
+        if !tried_before(&tried[..i], &area) && segment_has(deal, row) {
             return Ok(FoundSegment {
                 offset: row.offset,
                 size: row.size,

@@ -1,35 +1,36 @@
-use mathlib.Core.Path.{sym, ◌∙◌}
-use Rattle.lent.specs.LentDeal.{lent_deal}
+use Rattle.std.proofs.Common.{sym, ap, ◌∙◌, arith}
+use Rattle.std.specs.Prelude.{ℕ, List, ◌<◌}
+use Rattle.rules.specs.Answers.{number}
+use Rattle.rules.specs.AnswerLaws.{number_some, answer_passed_on}
+use Rattle.lent.specs.LentDeal.{LentDeal, lent_deal}
 use Rattle.lent.specs.LentDealLaws.{refusal_none}
+use Rattle.index.specs.Find.{FoundSegment, refused, found_in, lowest_with_commitment}
 use Rattle.index.specs.FindLaws.{commitment_refused, deal_refused, searched_is}
 use Rattle.index.proofs.finding.find_numbers.Goals as goal
 
 pub returns-then-commitment-ne32 : goal.returns-then-commitment-ne32
 returns-then-commitment-ne32 c =
-    let a = c.args in
-    c.refused.ensures ∙ commitment_refused (lent_deal a.deal.now) a.commitment.now c.if-commitment-ne32.true
+    commitment_refused (lent_deal c.args.deal.now) c.args.commitment.now c.if-commitment-ne32.true
 
-pub returns-then-code-ne0 : goal.returns-then-code-ne0
-returns-then-code-ne0 c =
-    let a = c.args in
-    c.refused-then-code-ne0.ensures
-    ∙ deal_refused (lent_deal a.deal.now) a.commitment.now c.if-commitment-ne32.false c.refusal-code.result
-    c.refusal-code.ensures c.if-code-ne0.true
-
-pub lowest_with_commitment-requires : goal.lowest_with_commitment-requires
-lowest_with_commitment-requires c =
-    let deal = lent_deal c.args.deal.now in
-    (refusal_none deal (sym c.refusal-code.ensures ∙ c.if-code-ne0.false)).0
+pub returns-in_err-new : goal.returns-in_err-new
+returns-in_err-new c =
+    let refusal = c.in_err-new.field-0.0 in
+    let some : 0 < number refusal = number_some refusal in
+    answer_passed_on c.from_residual.result refusal _ refused c.from_residual.ensures.1
+    ∙ deal_refused (lent_deal c.args.deal.now) c.args.commitment.now c.if-commitment-ne32.false (number refusal)
+    c.in_err-new.ensures.code (omega arith)
 
 pub returns : goal.returns
 returns c =
-    let a = c.args in
-    let lent = refusal_none (lent_deal a.deal.now) (sym c.refusal-code.ensures ∙ c.if-code-ne0.false) in
+    let deal = c.args.deal.now in
+    let commitment = c.args.commitment.now in
+    let fine = refusal_none (lent_deal deal) (sym c.in_ok-new.ensures.code) in
     c.lowest_with_commitment.ensures
-    ∙ sym (searched_is (lent_deal a.deal.now) a.commitment.now
+    ∙ ap (λ (d : LentDeal). found_in d.bytes (lowest_with_commitment d commitment)) c.in_ok-new.ensures.deal
+    ∙ sym (searched_is (lent_deal deal) commitment
     (record {
       commitment_length = c.if-commitment-ne32.false;
-      size_allowed = lent.0;
-      clear = lent.1;
-      tree_sized_lem = lent.2;
+      size_allowed = fine.0;
+      clear = fine.1;
+      tree_sized_lem = fine.2;
     }))

@@ -1,103 +1,134 @@
 -- No slot below i keeps the commitment, so the lowest that does is the lowest of those from i on; and the areas that
--- were hashed below i were hashed in vain.
-use mathlib.Core.Path.{◌≡◌, refl, sym, ap, ◌∙◌}
-use mathlib.Core.Bool.{true}
-use Prim.Native.Nat.{ℕ, ◌≤◌}
-use native.Mathlib.Omega.{arith}
-use lib.ListN.{length, length-set}
-use Rattle.rules.specs.RefusalLaws.{and_left}
+-- were hashed were hashed in vain.
+use Rattle.std.specs.Prelude.{◌≡◌, true, false, ℕ, ◌+◌, ◌≤◌, ◌<◌, List, length}
+use Rattle.std.proofs.Common.{refl, sym, ap, ◌∙◌, arith}
+use Rattle.std.proofs.lemmas.List.{length-take-le}
 use Rattle.rules.specs.Search.{lowest}
 use Rattle.rules.specs.SearchLaws.{lowest_start, lowest_here, lowest_next, lowest_over}
-use Rattle.merkle.specs.Tree.{node_at}
-use Rattle.sizes.specs.Sizes.{lent_size_allowed, entry_count}
+use Rattle.sizes.specs.Sizes.{lent_size_allowed, entry_count, slot_place}
 use Rattle.sizes.specs.SizesLaws.{lent_size}
-use Rattle.lent.specs.LentDeal.{lent_deal}
+use Rattle.lent.specs.Seen.{seen}
+use Rattle.index.specs.Slots.{holds, Row}
 use Rattle.index.specs.KeptRowsLaws.{slot_within}
+use Rattle.index.specs.Tried.{kept_by}
 use Rattle.index.specs.Find.{keeps_commitment, found_in}
-use Rattle.index.proofs.Naming.{names, row_keeps_lem, row_found, tried_in_vain, missed_next}
+use Rattle.index.proofs.Naming.{names, row_keeps_lem, row_found, tried_in_vain, missed_start, missed_next}
+use Rattle.index.proofs.finding.lowest_with_commitment.Goals.{else-not-tried_before-via-then-not-tried_before+else-segment_has, else-not-tried_before-via-else-not-tried_before}
 use Rattle.index.proofs.finding.lowest_with_commitment.Goals as goal
 
--- the arrays have room for every slot
-few : (d : ℕ) → lent_size_allowed d ≡ true → entry_count d ≤ 128
+-- the array has room for every slot
+few : (d n : ℕ) → lent_size_allowed d ≡ true → n ≡ entry_count d → n ≤ 128
 unfolding entry_count
-few d h = omega (arith, (lent_size d h).lent_high)
+few d n h e = omega (arith, (lent_size d h).lent_high)
+
+-- slot i lies within the deal
+within : (d i n place : ℕ) → lent_size_allowed d ≡ true → n ≡ entry_count d → i < n → place ≡ slot_place d i
+    → place + 64 ≤ d
+within d i n place e c h p = omega (arith, slot_within d i (lent_size d e).deal (omega arith))
 
 pub loop-i-init : goal.loop-i-init
 loop-i-init c =
-    let deal = c.args.deal.now in
-    let p = keeps_commitment (lent_deal deal) c.args.commitment.now in (
-      omega arith,
-      ap (lowest p 0) (sym c.entry_count-count.ensures) ∙ lowest_start p c.entry_count-count.result,
-      omega (arith, few (length deal) c.requires),
-      refl,
-      refl,
-      λ j size h e. absurd (omega arith),
+    let p = keeps_commitment (seen c.args.deal.now) c.args.commitment.now in (
+      ap (lowest p 0) (sym c.entry_count-i-end.ensures) ∙ lowest_start p c.entry_count-i-end.result,
+      missed_start (seen c.args.deal.now).nodes c.args.commitment.now 128,
     )
 
 pub slot_place-place-requires : goal.slot_place-place-requires
 slot_place-place-requires c =
-    ((lent_size (length c.args.deal.now) c.requires).allowed, omega arith)
+    ((lent_size (length c.args.deal.now.bytes.now) c.args.deal.now.usable.size_allowed).allowed, omega arith)
 
-pub naming_at-row-requires : goal.naming_at-row-requires
-naming_at-row-requires c =
-    let d = length c.args.deal.now in
-    let w = slot_within d c.loop-i.i (lent_size d c.requires).deal (omega arith) in
-    (c.requires, omega (arith, w))
-
-pub keeps-requires : goal.keeps-requires
-keeps-requires c =
+pub naming_at-requires : goal.naming_at-requires
+naming_at-requires c =
     let deal = c.args.deal.now in
+    let d = length deal.bytes.now in (
+      deal.usable.size_allowed,
+      within d c.loop-i.i c.entry_count-i-end.result c.slot_place-place.result deal.usable.size_allowed
+          c.entry_count-i-end.ensures c.loop-i-test.true c.slot_place-place.ensures,
+    )
+
+pub loop-i-preserved-in_default : goal.loop-i-preserved-in_default
+loop-i-preserved-in_default c =
+    let deal = seen c.args.deal.now in
     let commitment = c.args.commitment.now in
-    let row = c.naming_at-row.result in
-    let e = c.naming_at-row.ensures in
-    let named = names deal commitment c.slot_place-place.result row in
-    record {
-      deal_allowed = c.requires;
-      size_allowed = λ h. (named h e).stands_as.size_allowed;
-      offset_allowed = λ h. (named h e).stands_as.offset_allowed_lem;
-      tried_in_vain = λ h.
-          let t = c.tried_before-tried.ensures h in
-          tried_in_vain (node_at deal) deal commitment c.loop-i.offsets c.loop-i.areas c.loop-i.i
-          c.slot_place-place.result row e c.loop-i.invariant.5 (t.0, t.1, t.2, t.3 ∙ c.area_of-area.ensures);
-    }
+    let i = c.loop-i.i in
+    let keeps_not = sym (row_keeps_lem deal commitment i c.slot_place-place.ensures c.in_default.ensures) in
+    let next = lowest_next (keeps_commitment deal commitment) c.entry_count-i-end.result i (omega arith) keeps_not in
+    (c.loop-i.invariant.0 ∙ next, c.loop-i.invariant.1)
 
-pub returns-then-keeps : goal.returns-then-keeps
-returns-then-keeps c =
+pub slice_bounds-tried-end : goal.slice_bounds-tried-end
+slice_bounds-tried-end c =
     let deal = c.args.deal.now in
+    let room = few (length deal.bytes.now) c.entry_count-i-end.result deal.usable.size_allowed
+    c.entry_count-i-end.ensures in
+    omega (arith, c.area.array_long)
+
+pub slice_bounds-tried_before-end : goal.slice_bounds-tried_before-end
+slice_bounds-tried_before-end c =
+    let deal = c.args.deal.now in
+    let room = few (length deal.bytes.now) c.entry_count-i-end.result deal.usable.size_allowed
+    c.entry_count-i-end.ensures in
+    sym (length-take-le c.loop-i.i c.loop-i.tried (omega (arith, c.area.array_long)))
+
+pub segment_has-requires : goal.segment_has-requires
+segment_has-requires c =
+    let deal = c.args.deal.now in
+    let row = c.in-Some.row in
+    let s = (names deal.bytes.now c.args.commitment.now c.slot_place-place.result
+    (holds row.commitment row.offset row.size) refl c.in-Some.ensures).stands_as in
+    record { size_allowed = s.size_allowed; offset_allowed = s.offset_allowed_lem }
+
+pub returns-then-segment_has : goal.returns-then-segment_has
+returns-then-segment_has c =
+    let deal = seen c.args.deal.now in
     let commitment = c.args.commitment.now in
     let i = c.loop-i.i in
     let p = c.slot_place-place.ensures in
-    let e = c.naming_at-row.ensures in
-    let kept = sym c.keeps.ensures ∙ c.if-keeps.true in
-    let keeps_it = sym (row_keeps_lem (lent_deal deal) commitment i p e) ∙ kept in
-    let here = lowest_here (keeps_commitment (lent_deal deal) commitment) c.entry_count-count.result i (omega arith)
-    keeps_it in
-    row_found (lent_deal deal) commitment i p e (and_left c.naming_at-row.result.stands _ kept)
-    ∙ ap (found_in deal) (sym (c.loop-i.invariant.1 ∙ here))
+    let keeps_it = sym (row_keeps_lem deal commitment i p c.in-Some.ensures) ∙ sym c.segment_has.ensures
+    ∙ c.if-segment_has.true in
+    let here = lowest_here (keeps_commitment deal commitment) c.entry_count-i-end.result i (omega arith) keeps_it in
+    row_found deal commitment i p c.in-Some.ensures refl
+    ∙ ap (found_in deal.bytes) (sym (c.loop-i.invariant.0 ∙ here))
+
+pub offset_bounds-tried-i : goal.offset_bounds-tried-i
+offset_bounds-tried-i c =
+    let deal = c.args.deal.now in
+    omega (
+      arith,
+      few (length deal.bytes.now) c.entry_count-i-end.result deal.usable.size_allowed c.entry_count-i-end.ensures,
+    )
+
+pub bounds-tried-i : goal.bounds-tried-i
+bounds-tried-i c =
+    let deal = c.args.deal.now in
+    omega (
+      arith,
+      few (length deal.bytes.now) c.entry_count-i-end.result deal.usable.size_allowed c.entry_count-i-end.ensures,
+    )
 
 pub loop-i-preserved : goal.loop-i-preserved
 loop-i-preserved c =
-    let deal = c.args.deal.now in
+    let deal = seen c.args.deal.now in
     let commitment = c.args.commitment.now in
     let i = c.loop-i.i in
-    let e = c.naming_at-row.ensures in
-    let lost = sym c.keeps.ensures ∙ c.if-keeps.false in
-    let keeps_not = sym (row_keeps_lem (lent_deal deal) commitment i c.slot_place-place.ensures e) ∙ lost in
-    let next = lowest_next (keeps_commitment (lent_deal deal) commitment) c.entry_count-count.result i (omega arith)
-    keeps_not in (
-      omega arith,
-      c.loop-i.invariant.1 ∙ next,
-      c.loop-i.invariant.2,
-      simp length-set c.loop-i.invariant.3,
-      simp length-set c.loop-i.invariant.4,
-      missed_next (node_at deal) deal commitment c.loop-i.offsets c.loop-i.areas i
-          c.slot_place-place.result c.naming_at-row.result e c.loop-i.invariant.5 c.area_of-area.result
-          c.area_of-area.ensures lost (omega arith) (omega arith),
+    let row = holds c.in-Some.row.commitment c.in-Some.row.offset c.in-Some.row.size in
+    let place = c.slot_place-place.result in
+    let e = c.in-Some.ensures in
+    let missed = c.loop-i.invariant.1 in
+    let room = few (length deal.bytes) c.entry_count-i-end.result c.args.deal.now.usable.size_allowed
+    c.entry_count-i-end.ensures in
+    let lost : kept_by deal.nodes row ≡ false =
+    elim c.else-not-tried_before.branch [
+      | else-not-tried_before-via-then-not-tried_before+else-segment_has w ↦
+          sym w.segment_has.ensures ∙ w.if-segment_has.false
+      | else-not-tried_before-via-else-not-tried_before w ↦
+          let t = c.tried_before.ensures w.if-not-tried_before.false in
+          tried_in_vain deal.nodes deal.bytes commitment c.loop-i.tried place row refl e missed i
+          (omega (arith, c.area.array_long)) (t.0, t.1, t.2, t.3 ∙ c.area.ensures)
+    ] in
+    let keeps_not = sym (row_keeps_lem deal commitment i c.slot_place-place.ensures e) ∙ lost in
+    let next = lowest_next (keeps_commitment deal commitment) c.entry_count-i-end.result i (omega arith) keeps_not in (
+      c.loop-i.invariant.0 ∙ next,
+      rw c.area.ensures
+          (missed_next deal.nodes deal.bytes commitment c.loop-i.tried place row refl e missed lost i
+          (omega (arith, c.area.array_long))),
     )
-
-pub returns : goal.returns
-returns c =
-    let deal = c.args.deal.now in
-    let p = keeps_commitment (lent_deal deal) c.args.commitment.now in
-    let over = lowest_over p c.entry_count-count.result c.loop-i.i (omega arith) in
-    c.refused.ensures ∙ ap (found_in deal) (sym (c.loop-i.invariant.1 ∙ over))

@@ -1,36 +1,28 @@
-use mathlib.Core.Path.{◌∙◌}
-use lib.ListN.{length}
-use borrow.Author.Tests.{not-true, not-false}
-use Rattle.lent.specs.LentDeal.{lent_with}
-use Rattle.index.specs.Slots.{entry_at}
+use Rattle.std.proofs.Common.{refl, ap, ◌∙◌}
+use Rattle.lent.specs.Seen.{seen}
+use Rattle.index.specs.Slots.{entry_at, holds, row_as, Row}
 use Rattle.index.specs.SlotsLaws.{answer_stands}
 use Rattle.index.proofs.SlotAnswers.{kept_free, kept_other, kept_here}
 use Rattle.index.proofs.slots.kept_at.Goals as goal
 
-pub returns-then-not-row : goal.returns-then-not-row
-returns-then-not-row c =
-    let a = c.args in
-    kept_free (lent_with a.has_tree a.deal.now a.tree.now).nodes (length a.deal.now) (entry_at a.deal.now a.place)
-    c.standing_at-row.ensures (not-true c.standing_at-row.result.stands c.if-not-row.true)
+pub returns-in_err-row : goal.returns-in_err-row
+returns-in_err-row c =
+    ap row_as c.from_residual.ensures ∙ kept_free (seen c.args.deal.now).nodes _ _ c.in_err-row.ensures refl
 
 pub segment_has-requires : goal.segment_has-requires
 segment_has-requires c =
-    let a = c.args in
-    let s = answer_stands (length a.deal.now) (entry_at a.deal.now a.place) c.standing_at-row.result
-    c.standing_at-row.ensures (not-false c.standing_at-row.result.stands c.if-not-row.false) in
-    record { usable = c.requires.0; size_allowed = s.size_allowed; offset_allowed = s.offset_allowed_lem }
+    let bytes = c.args.deal.now.bytes.now in
+    let row = c.in_ok-row.row in
+    let s = answer_stands _ (entry_at bytes c.args.place) (holds row.commitment row.offset row.size)
+    c.in_ok-row.ensures refl in
+    record { size_allowed = s.size_allowed; offset_allowed = s.offset_allowed_lem }
 
 pub returns-then-not-segment_has : goal.returns-then-not-segment_has
 returns-then-not-segment_has c =
-    let a = c.args in
-    c.free_row.ensures
-    ∙ kept_other (lent_with a.has_tree a.deal.now a.tree.now).nodes (length a.deal.now) (entry_at a.deal.now a.place)
-    c.standing_at-row.ensures (not-false c.standing_at-row.result.stands c.if-not-row.false) c.segment_has.ensures
+    kept_other (seen c.args.deal.now).nodes _ _ c.in_ok-row.ensures refl c.segment_has.ensures
     c.if-not-segment_has.true
 
 pub returns : goal.returns
 returns c =
-    let a = c.args in
-    kept_here (lent_with a.has_tree a.deal.now a.tree.now).nodes (length a.deal.now) (entry_at a.deal.now a.place)
-    c.standing_at-row.ensures (not-false c.standing_at-row.result.stands c.if-not-row.false) c.segment_has.ensures
+    kept_here (seen c.args.deal.now).nodes _ _ c.in_ok-row.ensures refl c.segment_has.ensures
     c.if-not-segment_has.false

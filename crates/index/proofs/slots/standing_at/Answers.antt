@@ -29,7 +29,7 @@ returns-in_default c =
     let deal = c.args.deal.now in
     let entry = lent deal c.args.place in
     let other = not_valid entry c.kind_of.result c.kind_of.ensures (search rules) in
-    at_place deal c.args.place (c.free_row.ensures ∙ row_not_valid (length deal) entry other)
+    at_place deal c.args.place (row_not_valid (length deal) entry other)
 
 pub returns-then-not-segment_size_allowed : goal.returns-then-not-segment_size_allowed
 returns-then-not-segment_size_allowed c =
@@ -37,8 +37,7 @@ returns-then-not-segment_size_allowed c =
     let entry = lent deal c.args.place in
     let valid = is_valid entry c.kind_of.result c.kind_of.ensures (cc) in
     at_place deal c.args.place
-    (c.free_row-then-not-segment_size_allowed.ensures
-    ∙ row_size_refused (length deal) entry valid c.read_u64-size.ensures
+    (row_size_refused (length deal) entry valid c.read_u64-size.ensures
     (told c.segment_size_allowed.ensures c.if-not-segment_size_allowed.true))
 
 pub offset_allowed-requires : goal.offset_allowed-requires
@@ -53,8 +52,7 @@ returns-then-not-offset_allowed c =
     let entry = lent deal c.args.place in
     let valid = is_valid entry c.kind_of.result c.kind_of.ensures (cc) in
     at_place deal c.args.place
-    (c.free_row-then-not-offset_allowed.ensures
-    ∙ row_offset_refused (length deal) entry valid c.read_u64-size.ensures
+    (row_offset_refused (length deal) entry valid c.read_u64-size.ensures
     (told c.segment_size_allowed.ensures c.if-not-segment_size_allowed.false) c.read_u64-offset.ensures
     (told c.offset_allowed.ensures c.if-not-offset_allowed.true))
 
@@ -66,4 +64,4 @@ returns c =
     at_place deal c.args.place
     (row_stands (length deal) entry valid c.read_u64-size.ensures
     (told c.segment_size_allowed.ensures c.if-not-segment_size_allowed.false) c.read_u64-offset.ensures
-    (told c.offset_allowed.ensures c.if-not-offset_allowed.false) c.node_at.ensures)
+    (told c.offset_allowed.ensures c.if-not-offset_allowed.false) c.array_at.ensures)

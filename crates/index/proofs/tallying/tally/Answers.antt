@@ -1,25 +1,26 @@
-use mathlib.Core.Path.{sym, ◌∙◌}
-use mathlib.Core.List.{[]}
-use Rattle.lent.specs.LentDeal.{lent_deal}
-use Rattle.lent.specs.LentDealLaws.{refusal_none, refused_answer, passed_answer}
+use Rattle.std.specs.Prelude.{ℕ, List, [], ◌<◌}
+use Rattle.std.proofs.Common.{sym, ap, ◌∙◌, arith}
+use Rattle.rules.specs.Answers.{number}
+use Rattle.rules.specs.AnswerLaws.{number_some, answer_passed_on}
+use Rattle.lent.specs.LentDeal.{LentDeal, lent_deal}
+use Rattle.lent.specs.LentDealLaws.{refused_answer, passed_answer}
 use Rattle.index.specs.Tally.{refused, counts_of, tally_answer}
 use Rattle.index.proofs.tallying.tally.Goals as goal
 
-pub returns-then-code-ne0 : goal.returns-then-code-ne0
+pub returns-in_err-new : goal.returns-in_err-new
 unfolding tally_answer
-returns-then-code-ne0 c =
+returns-in_err-new c =
     let deal = c.args.deal.now in
-    c.refused.ensures
-    ∙ refused_answer (lent_deal deal) [] refused (counts_of deal) c.refusal-code.result c.refusal-code.ensures
-    c.if-code-ne0.true
-
-pub counts_of-requires : goal.counts_of-requires
-counts_of-requires c =
-    (refusal_none (lent_deal c.args.deal.now) (sym c.refusal-code.ensures ∙ c.if-code-ne0.false)).0
+    let refusal = c.in_err-new.field-0.0 in
+    let some : 0 < number refusal = number_some refusal in
+    answer_passed_on c.from_residual.result refusal _ refused c.from_residual.ensures.1
+    ∙ refused_answer (lent_deal deal) [] refused (counts_of deal) (number refusal) c.in_err-new.ensures.code
+    (omega arith)
 
 pub returns : goal.returns
 unfolding tally_answer
 returns c =
     let deal = c.args.deal.now in
     c.counts_of.ensures
-    ∙ passed_answer (lent_deal deal) [] refused (counts_of deal) (sym c.refusal-code.ensures ∙ c.if-code-ne0.false)
+    ∙ ap (λ (d : LentDeal). counts_of d.bytes) c.in_ok-new.ensures.deal
+    ∙ passed_answer (lent_deal deal) [] refused (counts_of deal) (sym c.in_ok-new.ensures.code)
