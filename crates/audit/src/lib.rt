@@ -19,12 +19,12 @@ use rules::Refusal;
 // What an audit says of a slot.
 #[derive(Clone, Copy, Debug, PartialEq, Eq)]
 pub enum SlotState {
-    Blank,           // 0
-    Damaged,         // 1
-    NotStanding,     // 2: valid, but it does not stand
-    Overlapping,     // 3: it stands and overlaps a standing entry in a lower slot
+    Blank, // 0
+    Damaged, // 1
+    NotStanding, // 2: valid, but it does not stand
+    Overlapping, // 3: it stands and overlaps a standing entry in a lower slot
     OtherCommitment, // 4: it stands, but its commitment is not that of its bytes
-    Kept,            // 5
+    Kept, // 5
 }
 
 impl SlotState {

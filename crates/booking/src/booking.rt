@@ -18,12 +18,7 @@ use room::{Placed, Unbooked};
 
 // Where a segment that no rule refuses goes in a lent deal: the answer by the test for 15, the slots that the house
 // holds and the deal's room.
-fn place_for(
-    deal: &Lent,
-    table: &[u8],
-    house: u8,
-    segment: &Segment,
-) -> Result<Placed, Unbooked>
+fn place_for(deal: &Lent, table: &[u8], house: u8, segment: &Segment) -> Result<Placed, Unbooked>
     requires { BookableFor (seen deal.now) table.now house segment.now.bytes.now }
     ensures { booked_of result
         ≡ book_answer (seen deal.now) table.now house segment.now.bytes.now }

@@ -48,7 +48,12 @@ fn slot_keeps(deal: &Lent, segment: &Segment, range: Range, i: usize) -> bool
     if octets::array_at(deal.bytes, place) != node {
         return false;
     }
-    octets::same_filled(deal.bytes, range.offset as usize, segment.bytes, range.area as usize)
+    octets::same_filled(
+        deal.bytes,
+        range.offset as usize,
+        segment.bytes,
+        range.area as usize,
+    )
 }
 
 // The lowest slot of a house in a lent deal that keeps the segment.

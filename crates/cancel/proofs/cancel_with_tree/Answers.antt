@@ -17,11 +17,10 @@ returns-in_err-refusal-clause-table_after c =
 
 -- the deal has zeros at the place
 pub put_array-requires : goal.put_array-requires
-put_array-requires c =
-    (
-      omega arith,
-      entry_within (tree_deal c.args.deal.now c.args.tree.now) c.args.table.now c.args.house c.args.place c.in_ok-refusal.ensures,
-    )
+put_array-requires c = (
+  omega arith,
+  entry_within (tree_deal c.args.deal.now c.args.tree.now) c.args.table.now c.args.house c.args.place c.in_ok-refusal.ensures,
+)
 
 pub put_owner-requires-clause-size_value : goal.put_owner-requires-clause-size_value
 put_owner-requires-clause-size_value c =

@@ -31,8 +31,11 @@ slice_bounds-held_count-end c =
 pub held_count-held-requires : goal.held_count-held-requires
 held_count-held-requires c =
     let full : length c.gather-ranges.result ≡ 128 = omega arith in
-    omega (arith, counted_length (seen c.args.deal.now) c.args.table.now c.args.house c.args.segment.now.bytes.now
-    c.requires c.gather-ranges.result c.gather-ranges.ensures full)
+    omega (
+      arith,
+      counted_length (seen c.args.deal.now) c.args.table.now c.args.house c.args.segment.now.bytes.now
+          c.requires c.gather-ranges.result c.gather-ranges.ensures full,
+    )
 
 pub decide-decision-requires-clause-area_nonzero : goal.decide-decision-requires-clause-area_nonzero
 decide-decision-requires-clause-area_nonzero c =
