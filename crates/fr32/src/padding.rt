@@ -27,7 +27,8 @@ fn segment_byte(raw: &[u8], q: usize) -> u8
     byte
 }
 
-// Word w of the segment: the 64 data bits from its first on; the last of a node has 62.
+// Word w of the segment: the 64 data bits from its first on; the last of a node has 62. It is no instance of the
+// routine for a byte: a byte may lie past the last raw byte, a word may not.
 fn segment_word(raw: &[u8], w: usize) -> u64
     requires { (length raw.now ≤ 8323072) × (w + 1 < 4 * (4 * length raw.now / 127)) }
     ensures { bytes_of 8 result ≡ part (padded raw.now) (8 * w) 8 }

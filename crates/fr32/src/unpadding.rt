@@ -36,7 +36,8 @@ fn only_raw_bits(n: usize, segment: &[u8]) -> bool
     stray::no_stray_bits(segment) && raw_byte(segment, n) == 0
 }
 
-// Sixty-four data bits of the segment, from bit 64 w on: word w of the raw bytes.
+// Sixty-four data bits of the segment, from bit 64 w on: word w of the raw bytes. It is no instance of the routine for a
+// byte: a byte may lie past the segment's end, a word may not.
 fn raw_word(segment: &[u8], w: usize) -> u64
     requires { (w ≤ 1040384)
         × (32 * (64 * w / 254) + 8 * (64 * w % 254 / 64) + 16 ≤ length segment.now) }

@@ -15,7 +15,8 @@ pub(crate) fn across_words(low: u64, high: u64, shift: u64) -> u64
     std::num::wrapping_add_u64(low >> shift, high << (64 - shift))
 }
 
-// The same where the low word is the last of a node.
+// The same where the low word is the last of a node. It has no const parameter in common with `across_words`, as
+// `across` has: 2^62 * high and 2^64 * high need more than 64 bits, so each puts its words together in its own way.
 pub(crate) fn across_node_words(low: u64, high: u64, shift: u64) -> u64
     requires { shift < 64 }
     ensures { result ≡ across_nodes low high shift }

@@ -7,7 +7,8 @@ use crate::{Stream, WAITING};
 // The number of bytes of a packed state.
 pub const STATE_LENGTH: usize = 48 + WAITING;
 
-// The state in bytes, whatever they hold.
+// The state in bytes, whatever they hold. No From or TryFrom: the first cannot ask for the length, and the second would
+// fail where this cannot.
 pub fn unpack(bytes: &[u8]) -> Stream
     requires { length bytes.now ≡ packed_length }
     ensures { result ≡ unpacked bytes.now }
