@@ -1,6 +1,5 @@
 // The bytes of up to sixteen nodes, written to a run. The words are put in order first, and then written one after the
-// other: a compiler then moves whole words. The bytes of a word are exchanged, and then written with the least
-// significant first: a compiler then writes a word in one move, and several words at once.
+// other: a compiler then moves whole words.
 ghost use Rattle.std.specs.Prelude.{◌≡◌, ◌+◌, ◌*◌, ◌≤◌, length};
 ghost use Rattle.octets.specs.Splice.{splice};
 ghost use Rattle.lanes.specs.Lanes.{lanes};

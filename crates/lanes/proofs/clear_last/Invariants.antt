@@ -1,5 +1,4 @@
 -- `clear_last`: the words from 112 up to i are done.
-use Prim.Native.Nat.{◌≤◌}
 use Rattle.lanes.specs.NodeWords.{cleared_word}
 use Rattle.lanes.proofs.EachLaws.{Changed}
 use Rattle.lanes.proofs.clear_last.Given as goal

@@ -1,5 +1,5 @@
 -- `every_other`: the lanes below l are taken over.
-use Prim.Native.Nat.{◌+◌, ◌*◌, ◌≤◌}
+use Prim.Native.Nat.{◌+◌, ◌*◌}
 use Rattle.lanes.specs.Lanes.{lane}
 use Rattle.lanes.proofs.EachLaws.{Below}
 use Rattle.lanes.proofs.every_other.Given as goal

@@ -1,5 +1,4 @@
 -- `add_to`: the words below i are done.
-use Prim.Native.Nat.{◌≤◌}
 use lib.ListN.{get_or}
 use Rattle.sha256.specs.Fips.{◌⊞◌}
 use Rattle.lanes.proofs.EachLaws.{Changed}

@@ -1,5 +1,4 @@
 -- `both`: after i turns the first i words of each half stand.
-use Prim.Native.Nat.{◌≤◌}
 use mathlib.Core.Path.{◌≡◌}
 use lib.ListN.{length, get_or, take, drop}
 use Rattle.sha256.specs.Table.{table}

@@ -1,5 +1,5 @@
 -- `padding_rounds`: after some turns every lane has gone through sixteen rounds for each.
-use Prim.Native.Nat.{◌*◌, ◌≤◌}
+use Prim.Native.Nat.{◌*◌}
 use mathlib.Core.List.{[]}
 use Rattle.sha256.specs.Fips.{rounds}
 use Rattle.node.specs.PaddingBlock.{padding_sums}

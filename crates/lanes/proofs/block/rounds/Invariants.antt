@@ -1,5 +1,5 @@
 -- `rounds`: after some turns every lane has gone through sixteen rounds for each, and has the words of the next turn.
-use Prim.Native.Nat.{◌*◌, ◌≤◌, ◌<◌}
+use Prim.Native.Nat.{◌*◌, ◌<◌}
 use mathlib.Core.Path.{◌≡◌}
 use lib.ListN.{length}
 use Rattle.sha256.specs.Fips.{constants, schedule, rounds}

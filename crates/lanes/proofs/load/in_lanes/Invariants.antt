@@ -1,5 +1,5 @@
 -- `in_lanes`: the lanes below l have their words.
-use Prim.Native.Nat.{◌*◌, ◌≤◌}
+use Prim.Native.Nat.{◌*◌}
 use Rattle.octets.specs.Splice.{part}
 use Rattle.lanes.proofs.EachLaws.{Below}
 use Rattle.lanes.proofs.load.in_lanes.Given as goal

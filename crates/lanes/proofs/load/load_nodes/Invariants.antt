@@ -1,5 +1,5 @@
 -- `load_nodes`: the words of the nodes below l are loaded.
-use Prim.Native.Nat.{◌+◌, ◌*◌, ◌≤◌}
+use Prim.Native.Nat.{◌+◌, ◌*◌}
 use Rattle.octets.specs.Splice.{part}
 use Rattle.lanes.specs.NodeWords.{words_of}
 use Rattle.lanes.proofs.PlacedLaws.{Placed}

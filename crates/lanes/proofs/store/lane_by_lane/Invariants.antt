@@ -1,6 +1,5 @@
 -- `lane_by_lane`: the words of the lanes below l stand.
-use Prim.Native.Nat.{◌-◌}
-use Rattle.lanes.specs.Lanes.{lanes, lane}
+use Rattle.lanes.specs.Lanes.{lane}
 use Rattle.lanes.proofs.PlacedLaws.{Placed}
 use Rattle.lanes.proofs.store.lane_by_lane.Given as goal
 

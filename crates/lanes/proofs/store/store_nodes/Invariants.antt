@@ -1,5 +1,4 @@
 -- `store_nodes`: after i turns the bytes of the first i words are written.
-use Prim.Native.Nat.{◌*◌, ◌≤◌}
 use mathlib.Core.Path.{◌≡◌}
 use lib.ListN.{length}
 use Rattle.octets.specs.Splice.{splice}

@@ -1,5 +1,4 @@
 -- `bare_turn`: the lanes below l are done.
-use Prim.Native.Nat.{◌≤◌}
 use Rattle.lanes.proofs.EachLaws.{Below}
 use mathlib.Core.List.{[]}
 use Rattle.sha256.specs.Fips.{rounds}

@@ -1,5 +1,4 @@
 -- `rounds_turn`: the lanes below l are done.
-use Prim.Native.Nat.{◌≤◌}
 use Rattle.lanes.proofs.EachLaws.{Below}
 use Rattle.sha256.specs.Fips.{rounds}
 use Rattle.lanes.specs.Lanes.{lane}

@@ -1,5 +1,4 @@
 -- `words_turn`: the lanes below l are done.
-use Prim.Native.Nat.{◌≤◌}
 use Rattle.lanes.proofs.EachLaws.{Below}
 use Rattle.sha256.specs.Window.{window}
 use Rattle.lanes.proofs.turn.words_turn.Given as goal

@@ -1,8 +1,7 @@
 -- `digest`: after i turns the bytes of the first i words stand.
-use Rattle.std.proofs.Common.{refl, sym, ap, ◌∙◌, rules, arith, ◌≡◌}
+use Rattle.std.proofs.Common.{refl, sym, ◌∙◌, rules, arith, ◌≡◌}
 use Rattle.std.proofs.lemmas.List.{take_all}
 use Rattle.std.proofs.lemmas.Slice.{overwrites}
-use Rattle.sha256.specs.Fips.{digest_byte}
 use Rattle.sha256.specs.Table.{table}
 use Rattle.sha256.specs.DigestLaws.{digest_more}
 use Rattle.sha256.proofs.words.digest.Goals as goal
