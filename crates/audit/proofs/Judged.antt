@@ -65,7 +65,8 @@ module _ {deal : Lent} {ranges : List Range} (g : Gathered deal ranges) where
       lower_bounded = first_end i ranges within (2 ^ 36) (λ j l. ends j (omega arith))
 
       pub overlaps_same :
-          not (is_missing (lowest_overlap (ranges_in (take i ranges)) (length (take i ranges)) (ranges_in ranges i).offset
+          not (is_missing
+          (lowest_overlap (ranges_in (take i ranges)) (length (take i ranges)) (ranges_in ranges i).offset
           (ranges_in ranges i).area))
           ≡ overlaps_lower (ranges_of deal.bytes.now) i
       overlaps_same =

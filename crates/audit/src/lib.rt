@@ -47,7 +47,8 @@ impl SlotState {
 // overlap those of no lower slot, so that no area is hashed twice.
 fn standing_state(deal: &Lent, place: usize, ranges: &[Range; 128], i: usize) -> SlotState
     requires gathered { Gathered deal.now ranges.now × (i < entry_count (length deal.now.bytes.now)) }
-    requires place_value { (place ≡ slot_place (length deal.now.bytes.now) i) × (stands_at deal.now.bytes.now i ≡ true) }
+    requires place_value { (place ≡ slot_place (length deal.now.bytes.now) i)
+        × (stands_at deal.now.bytes.now i ≡ true) }
     ensures { number result ≡ slot_state deal.now.bytes.now i }
 {
     if room::lowest_overlap(&ranges[..i], ranges[i]).is_some() {
@@ -89,8 +90,8 @@ fn write_states(deal: &Lent, states: &mut [u8])
 }
 
 // The audit of a lent deal: for every slot the byte of its state, the lowest that applies. Bytes past the number of
-// slots stay. It is refused for a deal size that is not allowed (2), for a deal with stray bits (11) and for fewer bytes
-// than slots (12); then nothing is written.
+// slots stay. 2 for a deal size that is not allowed, 11 for a deal with stray bits, 12 for fewer bytes than slots; then
+// nothing is written.
 pub fn audit(deal: &[u8], states: &mut [u8]) -> Result<(), Refusal>
     ensures value { code_of result ≡ audit_code deal.now states.old }
     ensures states_after { states.new ≡ audited_states deal.now states.old }

@@ -166,7 +166,8 @@ module _ (deal : LentDeal) (table : List ℕ) (house : ℕ) (segment : List ℕ)
       ap (λ (d : ℕ). table_sized d table) new_length ∙ facts.table_sized_lem,
     )
 
-    pub table_is_written : with_owner table (slot_of (length new) at.place) house ≡ booked_table deal table house segment
+    pub table_is_written :
+        with_owner table (slot_of (length new) at.place) house ≡ booked_table deal table house segment
     table_is_written =
         ap (λ (d : ℕ). with_owner table (slot_of d at.place) house) new_length
         ∙ owner_set deal table house segment answer e refl

@@ -87,8 +87,8 @@ pub fn book(
 }
 
 // The same with a tree beside the deal, whatever it holds: 12 for another length than the deal asks, after 11; the test
-// for 15 reads kept from it; where the segment is written every node above the bytes written is worked out anew from its
-// children as they then stand, and no other byte of the tree changes.
+// for 15 reads kept from it; where the segment is written every node above the bytes written is worked out anew from
+// its children as they then stand, and no other byte of the tree changes.
 pub fn book_with_tree(
     deal: &mut [u8],
     tree: &mut [u8],

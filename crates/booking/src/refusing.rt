@@ -10,8 +10,9 @@ use lent::Lent;
 use rules::Refusal;
 
 // The deal, with the tree where there is one, in which a segment may be booked as far as these rules go: 23 for a house
-// other than 1 or 2, 2 for a deal size that is not allowed, 23 for a table that has not one byte a slot, 4 for a segment
-// size that is not allowed in the deal, 11 for stray bits in either, 12 for a tree of another length than the deal asks.
+// other than 1 or 2, 2 for a deal size that is not allowed, 23 for a table that has not one byte a slot, 4 for a
+// segment size that is not allowed in the deal, 11 for stray bits in either, 12 for a tree of another length than the
+// deal asks.
 pub(crate) fn open<'d, 't>(
     deal: &'d [u8],
     tree: Option<&'t [u8]>,

@@ -152,7 +152,8 @@ module _ (deal : LentDeal) (table : List ℕ) (house place : ℕ) where
     facts = (cancels deal table house place).0 (sym e)
 
     pub entry_within : place + 64 ≤ deal_size deal
-    entry_within = (entry_place d place (cancelled_sized deal table house place (sym e)) facts.place_allowed_lem).in_deal
+    entry_within =
+        (entry_place d place (cancelled_sized deal table house place (sym e)) facts.place_allowed_lem).in_deal
 
     module _ (new : List ℕ) (w : new ≡ without_entry deal.bytes place) where
       pub new_length : length new ≡ deal_size deal

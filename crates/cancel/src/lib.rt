@@ -54,9 +54,9 @@ pub fn cancel(deal: &mut [u8], table: &mut [u8], house: u8, place: u64) -> Resul
     Ok(())
 }
 
-// The same with a tree beside the deal, whatever it holds: 12 for another length than the deal asks, after 11; where the
-// entry is cancelled every node above the 64 bytes is worked out anew from its children as they then stand, and no other
-// byte of the tree changes.
+// The same with a tree beside the deal, whatever it holds: 12 for another length than the deal asks, after 11; where
+// the entry is cancelled every node above the 64 bytes is worked out anew from its children as they then stand, and no
+// other byte of the tree changes.
 pub fn cancel_with_tree(
     deal: &mut [u8],
     tree: &mut [u8],

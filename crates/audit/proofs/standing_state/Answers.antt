@@ -47,7 +47,8 @@ returns-in-Some c =
     let kept = c.kept_at.ensures
     ∙ ap (λ (x : LentDeal). kept_row x.nodes (length bytes) (entry_at bytes c.args.place)) g.0.alone in
     sym ((state_5 bytes c.args.i).1 (
-      read_kept bytes c.args.i c.args.place c.kept_at.result c.requires.place_value.0 kept c.in-Some.field-0 c.in-Some.is,
+      read_kept bytes c.args.i c.args.place c.kept_at.result c.requires.place_value.0 kept c.in-Some.field-0
+          c.in-Some.is,
       overlaps,
     ))
 

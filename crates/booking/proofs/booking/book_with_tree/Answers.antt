@@ -51,21 +51,24 @@ put-requires-clause-place_in_bounds c =
 
 pub put_owner-requires-clause-size_value : goal.put_owner-requires-clause-size_value
 put_owner-requires-clause-size_value c =
-    (owner_fits (tree_deal c.args.deal.now c.args.tree.now) c.args.table.now c.args.house c.args.segment.now c.in_ok-segment.at
+    (owner_fits (tree_deal c.args.deal.now c.args.tree.now) c.args.table.now c.args.house c.args.segment.now
+    c.in_ok-segment.at
     c.in_ok-segment.ensures.answer c.put.new.deal c.in_ok-segment.segment.commitment
     c.in_ok-segment.segment.bytes.now c.in_ok-segment.ensures.segment c.in_ok-segment.segment.committed
     c.put.ensures).0
 
 pub put_owner-requires-clause-table_value : goal.put_owner-requires-clause-table_value
 put_owner-requires-clause-table_value c =
-    (owner_fits (tree_deal c.args.deal.now c.args.tree.now) c.args.table.now c.args.house c.args.segment.now c.in_ok-segment.at
+    (owner_fits (tree_deal c.args.deal.now c.args.tree.now) c.args.table.now c.args.house c.args.segment.now
+    c.in_ok-segment.at
     c.in_ok-segment.ensures.answer c.put.new.deal c.in_ok-segment.segment.commitment
     c.in_ok-segment.segment.bytes.now c.in_ok-segment.ensures.segment c.in_ok-segment.segment.committed
     c.put.ensures).1
 
 pub returns-clause-deal_after : goal.returns-clause-deal_after
 returns-clause-deal_after c =
-    deal_is_written (tree_deal c.args.deal.now c.args.tree.now) c.args.table.now c.args.house c.args.segment.now c.in_ok-segment.at
+    deal_is_written (tree_deal c.args.deal.now c.args.tree.now) c.args.table.now c.args.house c.args.segment.now
+    c.in_ok-segment.at
     c.in_ok-segment.ensures.answer c.put.new.deal c.in_ok-segment.segment.commitment
     c.in_ok-segment.segment.bytes.now c.in_ok-segment.ensures.segment c.in_ok-segment.segment.committed c.put.ensures
 

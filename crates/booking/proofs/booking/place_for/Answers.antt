@@ -44,7 +44,8 @@ decide-decision-requires-clause-area_nonzero c =
     let segment = a.segment.now.bytes.now in
     let fits = area_fits lent segment c.requires.bookable in
     let held = c.held_count-held.ensures
-    ∙ held_by_lem lent a.table.now a.house segment c.requires c.gather-ranges.result c.gather-ranges.ensures (omega arith) in (
+    ∙ held_by_lem lent a.table.now a.house segment c.requires c.gather-ranges.result c.gather-ranges.ensures
+    (omega arith) in (
       omega (arith, c.area.ensures, fits.0),
       omega (arith, c.area.ensures, fits.1),
       omega (arith, held, held_within lent a.table.now a.house segment c.requires),
@@ -65,7 +66,8 @@ answer-requires-clause-slot_below c =
     let d = length a.deal.now.bytes.now in
     let among = decide d (ranges_in c.gather-ranges.result) in
     let held = c.held_count-held.ensures
-    ∙ held_by_lem lent a.table.now a.house segment c.requires c.gather-ranges.result c.gather-ranges.ensures (omega arith) in
+    ∙ held_by_lem lent a.table.now a.house segment c.requires c.gather-ranges.result c.gather-ranges.ensures
+    (omega arith) in
     let decided = c.decide-decision.ensures
     ∙ ap₂ (λ (h n : ℕ). among h n c.lowest_keeping-keeping.result) held c.area.ensures
     ∙ ap (among (held_in a.deal.now.bytes.now a.table.now a.house) (area (length segment)))
@@ -81,7 +83,8 @@ returns c =
     let d = length a.deal.now.bytes.now in
     let among = decide d (ranges_in c.gather-ranges.result) in
     let held = c.held_count-held.ensures
-    ∙ held_by_lem lent a.table.now a.house segment c.requires c.gather-ranges.result c.gather-ranges.ensures (omega arith) in
+    ∙ held_by_lem lent a.table.now a.house segment c.requires c.gather-ranges.result c.gather-ranges.ensures
+    (omega arith) in
     let decided = c.decide-decision.ensures
     ∙ ap₂ (λ (h n : ℕ). among h n c.lowest_keeping-keeping.result) held c.area.ensures
     ∙ ap (among (held_in a.deal.now.bytes.now a.table.now a.house) (area (length segment)))
