@@ -15,8 +15,8 @@ ghost use Rattle.collect.specs.Collectable.{Movable};
 use moving::Source;
 use rules::Refusal;
 
-// The refusals of collection: 2, 23 for either table, 12 for the second deal, 11, 12 for the tree beside it, where there
-// is one, 20.
+// The refusals of collection: 2, 23 for either table, 12 for the second deal, 11, 12 for the tree beside it, where
+// there is one, 20.
 fn refusal(
     deal: &[u8],
     table: &[u8],

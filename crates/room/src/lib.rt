@@ -54,8 +54,8 @@ impl From<Refusal> for Unbooked {
     }
 }
 
-// The answer to a booking in numbers, as a line of a log has it: the code, 0 or 15 or a refusal's, with offset and entry
-// place of the segment; zeros on a refusal but 15.
+// The answer to a booking in numbers, as a line of a log has it: the code, 0 or 15 or a refusal's, with offset and
+// entry place of the segment; zeros on a refusal but 15.
 #[derive(Clone, Copy, Debug, PartialEq, Eq)]
 pub struct Booked {
     pub code: u8,
@@ -78,8 +78,8 @@ pub fn booked_of(answer: Result<Placed, Unbooked>) -> Booked
             offset: at.offset,
             place: at.place,
         },
-        Err(Unbooked::Refused(refusal)) => Booked {
-            code: refusal.code(),
+        Err(Unbooked::Refused(reason)) => Booked {
+            code: reason.code(),
             offset: 0,
             place: 0,
         },

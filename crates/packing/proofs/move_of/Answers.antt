@@ -32,19 +32,19 @@ loop-range-preserved c =
     let i = c.loop-range.range-index in
     elim c.if-comes_first.branch [
       | then-comes_first w ↦ (
-          w.slot-is
-          ∙ sum_first range_count (ranges_in a.ranges.now) a.j i _ _ c.loop-range.invariant.0
-          (sym c.comes_first.ensures ∙ w.if-comes_first.true) (byte_count _),
-          w.offset-is
-          ∙ sum_first range_area (ranges_in a.ranges.now) a.j i _ _ c.loop-range.invariant.1
-          (sym c.comes_first.ensures ∙ w.if-comes_first.true) refl,
-        )
+        w.slot-is
+            ∙ sum_first range_count (ranges_in a.ranges.now) a.j i _ _ c.loop-range.invariant.0
+            (sym c.comes_first.ensures ∙ w.if-comes_first.true) (byte_count _),
+        w.offset-is
+            ∙ sum_first range_area (ranges_in a.ranges.now) a.j i _ _ c.loop-range.invariant.1
+            (sym c.comes_first.ensures ∙ w.if-comes_first.true) refl,
+      )
       | else-comes_first w ↦ (
-          w.slot-is
-          ∙ sum_later range_count (ranges_in a.ranges.now) a.j i _ c.loop-range.invariant.0
-          (sym c.comes_first.ensures ∙ w.if-comes_first.false),
-          w.offset-is
-          ∙ sum_later range_area (ranges_in a.ranges.now) a.j i _ c.loop-range.invariant.1
-          (sym c.comes_first.ensures ∙ w.if-comes_first.false),
-        )
+        w.slot-is
+            ∙ sum_later range_count (ranges_in a.ranges.now) a.j i _ c.loop-range.invariant.0
+            (sym c.comes_first.ensures ∙ w.if-comes_first.false),
+        w.offset-is
+            ∙ sum_later range_area (ranges_in a.ranges.now) a.j i _ c.loop-range.invariant.1
+            (sym c.comes_first.ensures ∙ w.if-comes_first.false),
+      )
     ]

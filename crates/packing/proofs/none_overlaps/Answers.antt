@@ -9,9 +9,10 @@ pub loop-i-init : goal.loop-i-init
 loop-i-init c = lowest_start (overlaps_lower (ranges_in c.args.ranges.now)) (length c.args.ranges.now)
 
 pub lowest_overlap-requires : goal.lowest_overlap-requires
-lowest_overlap-requires c =
-    (c.requires c.loop-i.i (omega arith),
-    first_end c.loop-i.i c.args.ranges.now (omega arith) _ (λ k h. c.requires k (omega arith)))
+lowest_overlap-requires c = (
+  c.requires c.loop-i.i (omega arith),
+  first_end c.loop-i.i c.args.ranges.now (omega arith) _ (λ k h. c.requires k (omega arith)),
+)
 
 pub returns-in_default : goal.returns-in_default
 unfolding none_overlaps
