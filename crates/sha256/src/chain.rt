@@ -20,16 +20,6 @@ fn small_sigma1(x: u32) -> u32
     (x ^ x.rotate_right(2)).rotate_right(17) ^ (x >> 10)
 }
 
-// A word of the schedule, from those 2, 7, 15 and 16 before it.
-pub(crate) fn next_word(w2: u32, w7: u32, w15: u32, w16: u32) -> u32
-    ensures { result ≡ F.schedule_word w2 w7 w15 w16 }
-{
-    small_sigma1(w2)
-        .wrapping_add(w7)
-        .wrapping_add(small_sigma0(w15))
-        .wrapping_add(w16)
-}
-
 // The bit that at least two of the three have, as a sum: where y and z differ that of x, else theirs.
 fn maj(x: u32, y: u32, z: u32) -> u32
     ensures { result ≡ F.maj x y z }
@@ -48,5 +38,12 @@ impl Round for Chained {
         let t1 = next_e.wrapping_sub(d);
         let next_a = t1.wrapping_add(maj(a, b, c)).wrapping_add(big_sigma0(a));
         [next_a, a, b, c, next_e, e, f, g]
+    }
+
+    fn next_word(w2: u32, w7: u32, w15: u32, w16: u32) -> u32 {
+        small_sigma1(w2)
+            .wrapping_add(w7)
+            .wrapping_add(small_sigma0(w15))
+            .wrapping_add(w16)
     }
 }

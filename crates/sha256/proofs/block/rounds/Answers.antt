@@ -35,8 +35,8 @@ loop-turn-preserved c =
       λ h e. rounds_turn constants (schedule m) h l.s _ (window l.w 16) _ l.turn (l.invariant.2 h e)
           c.constants-in-loop-turn.ensures
           (λ i b. ap (λ (w : List ℕ). get_or w i 0) words ∙ window_word m (16 * l.turn) i (search rules) (omega arith) b)
-          c.rounds_with_next-after.ensures.0,
-      c.rounds_with_next-after.ensures.1 ∙ words ∙ ap (λ (t : ℕ). window m (16 * t)) last,
+          (c.sixteen_rounds-after.ensures ∙ ap (λ (v : List ℕ). rounds c.constants-in-loop-turn.result v l.s 16) c.next_words-words.ensures),
+      c.next_words-words.ensures ∙ words ∙ ap (λ (t : ℕ). window m (16 * t)) last,
     )
 
 pub returns : goal.returns

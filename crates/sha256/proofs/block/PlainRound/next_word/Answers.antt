@@ -1,6 +1,6 @@
--- `schedule_word`: what each call gives, put together.
+-- `next_word`: what each call gives, put together.
 use Rattle.sha256.specs.Fips.{schedule_word}
-use Rattle.sha256.proofs.block.schedule_word.Goals as goal
+use Rattle.sha256.proofs.block.PlainRound.next_word.Goals as goal
 
 pub returns : goal.returns
 unfolding schedule_word
