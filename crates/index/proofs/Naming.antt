@@ -161,7 +161,7 @@ module _ (nodes : NodeSource) (deal commitment : List ℕ) (tried : List Area) (
     missed_next i h j size z =
         elim (dec_lt j i) [
           | yes below ↦ passed (omega arith)
-          | no up ↦ elim (dec_lt i j) [ | yes above ↦ passed (omega arith) | no down ↦ reached (omega arith) ]
+          | no up ↦ elim (dec_lt i j) [ yes above ↦ passed (omega arith) | no down ↦ reached (omega arith) ]
         ]
       where
         here : Area

@@ -74,7 +74,8 @@ pub fn find_numbers(deal: &[u8], commitment: &[u8]) -> Result<FoundSegment, Refu
     if commitment.len() != 32 {
         return Err(Refusal::CommitmentLength);
     }
-    lowest_with_commitment(&Lent::new(deal, None)?, commitment)
+    let lent = Lent::new(deal, None)?;
+    lowest_with_commitment(&lent, commitment)
 }
 
 // The bytes of that segment: the part of the lent deal itself, at the offset and of the size that were found; empty on

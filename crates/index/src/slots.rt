@@ -66,7 +66,8 @@ pub(crate) fn segment_has(deal: &Lent, row: Fields) -> bool
         ((seen deal.now).nodes (segment_level row.size) (segment_position row.offset row.size))
         row.commitment }
 {
-    segment_node(deal, row.offset, row.size) == row.commitment
+    let node = segment_node(deal, row.offset, row.size);
+    node == row.commitment
 }
 
 // The fields of the entry at a place of a lent deal, where it is kept.

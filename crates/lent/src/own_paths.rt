@@ -11,13 +11,7 @@ use crate::{Lent, PathNode};
 
 impl<'d, 't> Lent<'d, 't> {
     // The node above a node of a level and its sibling, with `levels` levels above it.
-    fn above(
-        &self,
-        levels: usize,
-        level: usize,
-        x: PathNode,
-        sibling: [u8; 32],
-    ) -> PathNode
+    fn above(&self, levels: usize, level: usize, x: PathNode, sibling: [u8; 32]) -> PathNode
         requires in_tree { InTree (deal_level (length self.now.bytes.now)) (path_start levels (level + 1) (x.position / 2)) }
         requires node { IsNode (seen self.now).nodes level x }
         requires sibling_value { sibling ≡ (seen self.now).nodes level (sibling_of x.position) }

@@ -32,14 +32,19 @@ pub fn path_root(node: [u8; 32], position: u64, path: &[u8]) -> [u8; 32]
     let mut p = position;
     for i in 0..path.len() / 32 {
         let sibling = octets::array_at(path, i * 32);
-        running = node::node_hash(pair(p, running, sibling));
+        let parent = node::node_hash(pair(p, running, sibling));
+        running = parent;
         p /= 2;
     }
     running
 }
 
 // What is seen with one more pair of strings above: a difference here hides those below.
-pub fn compare_above(below: Option<Difference>, left: [u8; 64], right: [u8; 64]) -> Option<Difference>
+pub fn compare_above(
+    below: Option<Difference>,
+    left: [u8; 64],
+    right: [u8; 64],
+) -> Option<Difference>
     ensures { seen_as result ≡ compared_above (seen_as below) left right }
 {
     if left == right {

@@ -22,9 +22,9 @@ loop-i-preserved c =
       c.pair-left_string.ensures,
       c.array_at.ensures,
     )
-        (c.loop-i.invariant
-        ∙ compare_next (length left / 32) c.loop-i.i c.loop-i.p c.loop-i.a left c.loop-i.b right
-        (seen_as c.loop-i.last) (omega arith))
+    (c.loop-i.invariant
+    ∙ compare_next (length left / 32) c.loop-i.i c.loop-i.p c.loop-i.a left c.loop-i.b right
+    (seen_as c.loop-i.last) (omega arith))
 
 pub returns : goal.returns
 returns c =

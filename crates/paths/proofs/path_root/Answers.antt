@@ -11,9 +11,9 @@ loop-i-init c = simp sub-zero
 pub loop-i-preserved : goal.loop-i-preserved
 loop-i-preserved c =
     let path = c.args.path.now in
-    simp (c.node_hash-running.ensures, c.pair.ensures, c.array_at-sibling.ensures)
-        (c.loop-i.invariant
-        ∙ root_next (length path / 32) c.loop-i.i c.loop-i.p c.loop-i.running path (omega arith))
+    simp (c.node_hash-parent.ensures, c.pair.ensures, c.array_at-sibling.ensures)
+    (c.loop-i.invariant
+    ∙ root_next (length path / 32) c.loop-i.i c.loop-i.p c.loop-i.running path (omega arith))
 
 pub returns : goal.returns
 returns c =

@@ -12,21 +12,21 @@ pub returns-then-commitment-ne32 : goal.returns-then-commitment-ne32
 returns-then-commitment-ne32 c =
     commitment_refused (lent_deal c.args.deal.now) c.args.commitment.now c.if-commitment-ne32.true
 
-pub returns-in_err-new : goal.returns-in_err-new
-returns-in_err-new c =
-    let refusal = c.in_err-new.field-0.0 in
+pub returns-in_err-lent : goal.returns-in_err-lent
+returns-in_err-lent c =
+    let refusal = c.in_err-lent.field-0.0 in
     let some : 0 < number refusal = number_some refusal in
     answer_passed_on c.from_residual.result refusal _ refused c.from_residual.ensures.1
     ∙ deal_refused (lent_deal c.args.deal.now) c.args.commitment.now c.if-commitment-ne32.false (number refusal)
-    c.in_err-new.ensures.code (omega arith)
+    c.in_err-lent.ensures.code (omega arith)
 
 pub returns : goal.returns
 returns c =
     let deal = c.args.deal.now in
     let commitment = c.args.commitment.now in
-    let fine = refusal_none (lent_deal deal) (sym c.in_ok-new.ensures.code) in
+    let fine = refusal_none (lent_deal deal) (sym c.in_ok-lent.ensures.code) in
     c.lowest_with_commitment.ensures
-    ∙ ap (λ (d : LentDeal). found_in d.bytes (lowest_with_commitment d commitment)) c.in_ok-new.ensures.deal
+    ∙ ap (λ (d : LentDeal). found_in d.bytes (lowest_with_commitment d commitment)) c.in_ok-lent.ensures.deal
     ∙ sym (searched_is (lent_deal deal) commitment
     (record {
       commitment_length = c.if-commitment-ne32.false;

@@ -39,8 +39,8 @@ node_in-requires c =
     let r = c.requires in
     let usable = c.args.deal.now.usable in
     simp (c.segment_level-level.ensures, c.deal_level.ensures, c.segment_position-position.ensures)
-        (segment_in (sized c.args.size usable r.size_allowed)
-        (placed c.args.offset c.args.size usable r.size_allowed r.offset_allowed))
+    (segment_in (sized c.args.size usable r.size_allowed)
+    (placed c.args.offset c.args.size usable r.size_allowed r.offset_allowed))
 
 pub returns : goal.returns
 returns c =
