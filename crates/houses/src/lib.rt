@@ -13,7 +13,7 @@ ghost use Rattle.houses.specs.Houses.{house_allowed, table_sized, house_rules, o
 use room::Range;
 use rules::Refusal;
 
-// Whether a number is that of a house.
+// Whether a number is that of a house. A house is a byte and no enum: C passes any byte, and gets 23 for another.
 pub fn house_allowed(house: u8) -> bool
     ensures { result ≡ house_allowed house }
 {
@@ -48,6 +48,7 @@ pub fn held_count(ranges: &[Range], table: &[u8], house: u8) -> usize
     requires { length ranges.now ≤ length table.now }
     ensures { result ≡ held_count (ranges_in ranges.now) table.now house (length ranges.now) }
 {
+    // A loop and no `filter` with `count`: the proof of that chain against `held_count` was tried and did not close.
     let mut held = 0;
     for (i, range) in ranges.iter().enumerate() {
         if range.area != 0 && table[i] == house {

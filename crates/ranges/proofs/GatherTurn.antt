@@ -1,5 +1,31 @@
 -- A turn of the gathering: slot i is added to the ranges of the slots before it.
-use Rattle.std.proofs.Common.{◌≡◌, refl, zero, suc, replicate, sym, ap, ◌∙◌, subst, ⊎_elim, eq-or-lt_of_le, ℕ, ◌+◌, ◌≤◌, ◌<◌, List, length, get_or, set, get_or-set_same, get_or-set_other, arith, Option, Some, None}
+use Rattle.std.proofs.Common.{
+  ◌≡◌,
+  refl,
+  zero,
+  suc,
+  replicate,
+  sym,
+  ap,
+  ◌∙◌,
+  subst,
+  ⊎_elim,
+  eq-or-lt_of_le,
+  ℕ,
+  ◌+◌,
+  ◌≤◌,
+  ◌<◌,
+  List,
+  length,
+  get_or,
+  set,
+  get_or-set_same,
+  get_or-set_other,
+  arith,
+  Option,
+  Some,
+  None,
+}
 use Rattle.entries.specs.declared.Fields.{Fields}
 use Rattle.sizes.specs.Sizes.{area, slot_place}
 use Rattle.index.specs.Slots.{Row, entry_at, row_as, row_of, row_at}

@@ -8,7 +8,8 @@ ghost use Rattle.ranges.specs.Ranges.{ranges_of};
 
 use room::Range;
 
-// The ranges of a lent deal's standing entries, one a slot: a lent deal has at most 128 slots.
+// The ranges of a lent deal's standing entries, one a slot. A lent deal has at most 128 slots, and there is no heap, so
+// they are an array.
 pub fn gather(deal: &[u8]) -> [Range; 128]
     requires { lent_size_allowed (length deal.now) ≡ true }
     ensures { SameBelow (entry_count (length deal.now)) (ranges_in result) (ranges_of deal.now) }

@@ -1,5 +1,25 @@
 -- A search and a count over a list, as those over the numbers of its places.
-use Rattle.std.specs.Prelude.{◌≡◌, refl, Bool, true, false, cond, ℕ, suc, ◌+◌, ◌<◌, List, [], ◌∷◌, length, get_or, Option, Some, position, count_by}
+use Rattle.std.specs.Prelude.{
+  ◌≡◌,
+  refl,
+  Bool,
+  true,
+  false,
+  cond,
+  ℕ,
+  suc,
+  ◌+◌,
+  ◌<◌,
+  List,
+  [],
+  ◌∷◌,
+  length,
+  get_or,
+  Option,
+  Some,
+  position,
+  count_by,
+}
 use Rattle.std.specs.List.{position_from}
 use Rattle.std.proofs.Common.{sym, ap, ap₂, ◌∙◌, subst, add-zero, add-one, arith}
 use Rattle.std.proofs.lemmas.Iterator.Adapters.{position_from-zero}
@@ -27,7 +47,8 @@ module _ {X : Type 0} (p : X → Bool) (d : X) (q : ℕ → Bool) where
       ∙ ap₂ (λ (b : Bool) (o : Option ℕ). choose b (Some i) o) (sym (here i x xs h))
       (from_lowest (i + 1) xs (later i x xs h) ∙ ap (λ (k : ℕ). lowest q k (length xs)) (add-one i))
     where
-      by_test : (b : Bool) → cond b (Some i) (position_from p (i + 1) xs) ≡ choose b (Some i) (position_from p (i + 1) xs)
+      by_test : (b : Bool)
+          → cond b (Some i) (position_from p (i + 1) xs) ≡ choose b (Some i) (position_from p (i + 1) xs)
       by_test true = refl
       by_test false = refl
 

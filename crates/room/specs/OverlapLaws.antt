@@ -1,6 +1,27 @@
 -- Overlap as facts on numbers.
 use Rattle.std.specs.Prelude.{◌≡◌, true, false, ◌↔◌, ◌⊎◌, ℕ, suc, ◌+◌, ◌-◌, ◌*◌, ◌/◌, ◌%◌, ◌^◌, ◌≤◌, ◌<◌, ltb}
-use Rattle.std.proofs.Common.{sym, ap, ◌∙◌, true≢false, inl, inr, ⊎_elim, suc-mul, add-mul, mul_assoc, add-zero, div-add-mod', le-div_iff_mul-le, mul-le-mul_right, lt_of_mul-lt-mul_right, arith, pow_pos, pow-add, ltb-true, lt-ltb}
+use Rattle.std.proofs.Common.{
+  sym,
+  ap,
+  ◌∙◌,
+  true≢false,
+  inl,
+  inr,
+  ⊎_elim,
+  suc-mul,
+  add-mul,
+  mul_assoc,
+  add-zero,
+  div-add-mod',
+  le-div_iff_mul-le,
+  mul-le-mul_right,
+  lt_of_mul-lt-mul_right,
+  arith,
+  pow_pos,
+  pow-add,
+  ltb-true,
+  lt-ltb,
+}
 use Rattle.std.proofs.Math.Bool.{and_comm}
 use Rattle.std.proofs.Math.Decide.{dec_le}
 use Rattle.rules.specs.RefusalLaws.{and_left, and_right, not_passed}

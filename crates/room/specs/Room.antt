@@ -6,7 +6,8 @@ use Rattle.std.specs.Prelude.{Some, None}
 use Rattle.rules.specs.Search.{lowest}
 use Rattle.room.specs.declared.Range as Declared
 
--- the bytes that a slot takes up, offset and area: those of its standing entry's area, and none, from 0, where it is free
+-- the bytes that a slot takes up, offset and area: those of its standing entry's area, and none, from 0, where it is
+-- free
 abbrev pub Range : Type 0
 Range = Declared.Range
 

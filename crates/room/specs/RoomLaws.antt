@@ -1,5 +1,25 @@
 -- What the searches for a free slot and a free place say, over ranges.
-use Rattle.std.specs.Prelude.{List, length, take, position, ◌==◌, ◌≡◌, refl, Bool, true, false, ◌↔◌, ℕ, ◌+◌, ◌-◌, ◌*◌, ◌/◌, ◌%◌, ◌≤◌, ◌<◌}
+use Rattle.std.specs.Prelude.{
+  List,
+  length,
+  take,
+  position,
+  ◌==◌,
+  ◌≡◌,
+  refl,
+  Bool,
+  true,
+  false,
+  ◌↔◌,
+  ℕ,
+  ◌+◌,
+  ◌-◌,
+  ◌*◌,
+  ◌/◌,
+  ◌%◌,
+  ◌≤◌,
+  ◌<◌,
+}
 use Rattle.std.proofs.Common.{sym, ap, ◌∙◌, true≢false, mul-lt-mul_of_pos_right, lt_of_mul-lt-mul_right, arith}
 use Rattle.std.proofs.lemmas.Bool.{false≢true}
 use Rattle.std.proofs.lemmas.List.{get_or-take, length-take-le}
@@ -182,7 +202,8 @@ module _ (n : ℕ) (ranges : List Range) (h : n ≤ length ranges) where
       omega (arith, ap (λ (r : Range). r.offset) same, ap (λ (r : Range). r.area) same, e i below)
 
   pub first_overlap : (o m : ℕ)
-      → lowest_overlap (ranges_in (take n ranges)) (length (take n ranges)) o m ≡ lowest_overlap (ranges_in ranges) n o m
+      → lowest_overlap (ranges_in (take n ranges)) (length (take n ranges)) o m
+      ≡ lowest_overlap (ranges_in ranges) n o m
   first_overlap o m =
       ap (λ (k : ℕ). lowest_overlap (ranges_in (take n ranges)) k o m) first_length
       ∙ lowest_cong (λ i. overlaps o m (ranges_in (take n ranges) i)) (λ i. overlaps o m (ranges_in ranges i)) 0 n

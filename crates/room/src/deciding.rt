@@ -12,6 +12,7 @@ use rules::Refusal;
 // What is decided for an area in a lent deal of a size, for a house that holds so many slots, where the test for 15
 // found a slot that keeps the segment, or none: with none, 22 where the house holds half the slots or more, else the
 // lowest free slot and the lowest free place, 13 without the one and 14 without the other.
+// The ranges are an array: of a slice it would have to be asked that it has a range for each slot.
 pub fn decide(
     size: u64,
     ranges: &[Range; 128],

@@ -13,11 +13,13 @@ fn overlap(r: Range, s: Range) -> bool
     r.offset < s.offset + s.area && s.offset < r.offset + r.area
 }
 
-// The lowest slot whose range overlaps this one.
+// The lowest slot whose range overlaps this one. How early ranges end is asked here and is no invariant of `Range`: the
+// rows of a ledger may have any numbers.
 pub fn lowest_overlap(ranges: &[Range], range: Range) -> Option<usize>
     requires { (range.offset + range.area ≤ 2 ^ 36) × Bounded (length ranges.now) ranges.now }
     ensures { result ≡ lowest_overlap (ranges_in ranges.now) (length ranges.now) range.offset range.area }
 {
+    // A loop and no `position`: a closure that calls `overlap` would ask that any range ends early, not only these.
     for (i, other) in ranges.iter().enumerate() {
         if overlap(range, *other) {
             return Some(i);
@@ -42,6 +44,7 @@ pub(crate) fn lowest_place(ranges: &[Range], area: u64, limit: u64) -> Option<us
 {
     let places = limit / area;
     let mut k: u64 = 0;
+    // The index jumps, so this is no `for`.
     while k < places {
         let range = Range {
             offset: k * area,

@@ -7,7 +7,14 @@ use Rattle.tree.specs.Filled.{filled}
 use Rattle.tree.specs.TreeNodes.{SizedFor}
 use Rattle.tree.specs.TreeNodesLaws.{sized_of_test}
 use Rattle.lent.specs.LentDeal.{tree_deal}
-use Rattle.collect.specs.AnswerLaws.{deal_collected, deal_left, owners_collected, owners_left, tree_collected, tree_left}
+use Rattle.collect.specs.AnswerLaws.{
+  deal_collected,
+  deal_left,
+  owners_collected,
+  owners_left,
+  tree_collected,
+  tree_left,
+}
 use Rattle.collect.proofs.CodeLaws.{collects}
 use Rattle.collect.proofs.Outcome.{movable, same_length, new_lent}
 use Rattle.collect.proofs.collect_with_tree.Goals as goal

@@ -1,9 +1,30 @@
-use Rattle.std.proofs.Common.{◌≡◌, ◌≢◌, sym, ◌∙◌, ℕ, Bool, true, false, not, List, get_or, length, arith, eq-eqb, ne_eqb}
+use Rattle.std.proofs.Common.{
+  ◌≡◌,
+  ◌≢◌,
+  sym,
+  ◌∙◌,
+  ℕ,
+  Bool,
+  true,
+  false,
+  not,
+  List,
+  get_or,
+  length,
+  arith,
+  eq-eqb,
+  ne_eqb,
+}
 use Rattle.rules.specs.SearchLaws.{count_start, count_turn, count_over, one_on, one_off}
 use Rattle.room.specs.Room.{Range, ranges_in}
 use Rattle.houses.specs.Houses.{holds, held_count}
 use Rattle.houses.proofs.held_count.Goals as goal
-use Rattle.houses.proofs.held_count.Goals.{then-range-ne0+then-table-i, else-range-ne0, else-range-ne0-via-then-range-ne0+else-table-i, else-range-ne0-via-else-range-ne0}
+use Rattle.houses.proofs.held_count.Goals.{
+  then-range-ne0+then-table-i,
+  else-range-ne0,
+  else-range-ne0-via-then-range-ne0+else-table-i,
+  else-range-ne0-via-else-range-ne0,
+}
 
 -- whether a slot is held, by the two tests
 module _ (ranges : List Range) (table : List ℕ) (house i : ℕ) where

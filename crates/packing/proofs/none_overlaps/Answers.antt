@@ -11,7 +11,7 @@ loop-i-init c = lowest_start (overlaps_lower (ranges_in c.args.ranges.now)) (len
 pub lowest_overlap-requires : goal.lowest_overlap-requires
 lowest_overlap-requires c = (
   c.requires c.loop-i.i (omega arith),
-  first_end c.loop-i.i c.args.ranges.now (omega arith) _ (λ k h. c.requires k (omega arith)),
+  first_end _ c.args.ranges.now (omega arith) _ (λ k h. c.requires k (omega arith)),
 )
 
 pub returns-in_default : goal.returns-in_default

@@ -1,4 +1,21 @@
-use Rattle.std.proofs.Common.{◌≡◌, refl, sym, ap, ◌∙◌, subst, ℕ, ◌≤◌, ◌<◌, ◌+◌, true, set, length, length-set, get_or-set_other, arith}
+use Rattle.std.proofs.Common.{
+  ◌≡◌,
+  refl,
+  sym,
+  ap,
+  ◌∙◌,
+  subst,
+  ℕ,
+  ◌≤◌,
+  ◌<◌,
+  ◌+◌,
+  true,
+  set,
+  length,
+  length-set,
+  get_or-set_other,
+  arith,
+}
 use Rattle.sizes.specs.Sizes.{area, lent_size_allowed, entry_count}
 use Rattle.sizes.specs.SizesLaws.{lent_size}
 use Rattle.index.specs.KeptRowsLaws.{slot_within}

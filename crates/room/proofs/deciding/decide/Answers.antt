@@ -54,9 +54,11 @@ shared_ref_as_front-ranges c =
 pub returns-in_default-lowest_free_slot : goal.returns-in_default-lowest_free_slot
 returns-in_default-lowest_free_slot c =
     let s = c.args in
+    let within = held_in s.size _ s.ranges.now c.requires.size_value c.entry_count-slots.ensures c.told-ranges in
     no_slot s.size (ranges_in s.ranges.now) s.held s.area s.keeping
     c.in_default.is c.entry_count-slots.result c.entry_count-slots.ensures c.if-slots-held.false
-    (sym (c.lowest_free_slot.ensures ∙ free_slot_position (take c.entry_count-slots.result s.ranges.now) ∙ first_free_slot _ s.ranges.now (held_in c.args.size _ s.ranges.now c.requires.size_value c.entry_count-slots.ensures c.told-ranges)) ∙ c.in_default-lowest_free_slot.is)
+    (sym (c.lowest_free_slot.ensures ∙ free_slot_position (take c.entry_count-slots.result s.ranges.now) ∙ first_free_slot _ s.ranges.now within)
+    ∙ c.in_default-lowest_free_slot.is)
 
 pub index_start-requires : goal.index_start-requires
 index_start-requires c = (lent_size c.args.size c.requires.size_value).allowed
@@ -86,22 +88,25 @@ lowest_place-requires c =
 pub returns-in_default-lowest_place : goal.returns-in_default-lowest_place
 returns-in_default-lowest_place c =
     let s = c.args in
+    let within = held_in s.size _ s.ranges.now c.requires.size_value c.entry_count-slots.ensures c.told-ranges in
     no_place s.size (ranges_in s.ranges.now) s.held s.area s.keeping
     c.in_default.is c.entry_count-slots.result c.entry_count-slots.ensures c.if-slots-held.false
-    c.in-Some-lowest_free_slot.i (sym (c.lowest_free_slot.ensures ∙ free_slot_position (take c.entry_count-slots.result s.ranges.now) ∙ first_free_slot _ s.ranges.now (held_in c.args.size _ s.ranges.now c.requires.size_value c.entry_count-slots.ensures c.told-ranges)) ∙ c.in-Some-lowest_free_slot.is)
+    c.in-Some-lowest_free_slot.i (sym (c.lowest_free_slot.ensures ∙ free_slot_position (take c.entry_count-slots.result s.ranges.now) ∙ first_free_slot _ s.ranges.now within)
+    ∙ c.in-Some-lowest_free_slot.is)
     c.index_start.result c.index_start.ensures
-    (sym (c.lowest_place.ensures ∙ first_place _ s.ranges.now (held_in c.args.size _ s.ranges.now c.requires.size_value c.entry_count-slots.ensures c.told-ranges) _ _) ∙ c.in_default-lowest_place.is)
+    (sym (c.lowest_place.ensures ∙ first_place _ s.ranges.now within _ _) ∙ c.in_default-lowest_place.is)
 
 -- the free place
 pub overflow_mul-result : goal.overflow_mul-result
 overflow_mul-result c =
     let a = c.args in
     let s = c.args in
+    let within = held_in s.size _ s.ranges.now c.requires.size_value c.entry_count-slots.ensures c.told-ranges in
     let k = c.in-Some-lowest_place.k in
     let limit = c.index_start.result in
     let below =
     found_below (fits_at a.ranges.now c.entry_count-slots.result a.area) (limit / a.area) k
-    (sym (c.lowest_place.ensures ∙ first_place _ s.ranges.now (held_in c.args.size _ s.ranges.now c.requires.size_value c.entry_count-slots.ensures c.told-ranges) _ _) ∙ c.in-Some-lowest_place.is) in
+    (sym (c.lowest_place.ensures ∙ first_place _ s.ranges.now within _ _) ∙ c.in-Some-lowest_place.is) in
     omega (
       arith,
       (place_ends k a.area limit c.requires.area_nonzero.0).0 below,
@@ -113,8 +118,10 @@ overflow_mul-result c =
 pub returns : goal.returns
 returns c =
     let s = c.args in
+    let within = held_in s.size _ s.ranges.now c.requires.size_value c.entry_count-slots.ensures c.told-ranges in
     is_placed s.size (ranges_in s.ranges.now) s.held s.area s.keeping
     c.in_default.is c.entry_count-slots.result c.entry_count-slots.ensures c.if-slots-held.false
-    c.in-Some-lowest_free_slot.i (sym (c.lowest_free_slot.ensures ∙ free_slot_position (take c.entry_count-slots.result s.ranges.now) ∙ first_free_slot _ s.ranges.now (held_in c.args.size _ s.ranges.now c.requires.size_value c.entry_count-slots.ensures c.told-ranges)) ∙ c.in-Some-lowest_free_slot.is)
+    c.in-Some-lowest_free_slot.i (sym (c.lowest_free_slot.ensures ∙ free_slot_position (take c.entry_count-slots.result s.ranges.now) ∙ first_free_slot _ s.ranges.now within)
+    ∙ c.in-Some-lowest_free_slot.is)
     c.index_start.result c.index_start.ensures c.in-Some-lowest_place.k
-    (sym (c.lowest_place.ensures ∙ first_place _ s.ranges.now (held_in c.args.size _ s.ranges.now c.requires.size_value c.entry_count-slots.ensures c.told-ranges) _ _) ∙ c.in-Some-lowest_place.is)
+    (sym (c.lowest_place.ensures ∙ first_place _ s.ranges.now within _ _) ∙ c.in-Some-lowest_place.is)

@@ -41,25 +41,41 @@ below : (r : List Range) (area k i : ℕ) (x : Option ℕ) → 0 < area
 below r area k i x p e f = met_below (ranges_in r) (length r) area k i p (sym e ∙ f)
 
 pub offset_bounds-ranges-i : goal.offset_bounds-ranges-i
-offset_bounds-ranges-i c = let h = below c.args.ranges.now c.args.area c.loop-k.k c.in-Some.i _ c.requires.area.0 c.lowest_overlap.ensures c.in-Some.is in omega arith
+offset_bounds-ranges-i c =
+    let a = c.args in
+    let h = below a.ranges.now a.area c.loop-k.k c.in-Some.i _ c.requires.area.0 c.lowest_overlap.ensures c.in-Some.is in
+    omega arith
 
 pub bounds-ranges-i : goal.bounds-ranges-i
-bounds-ranges-i c = let h = below c.args.ranges.now c.args.area c.loop-k.k c.in-Some.i _ c.requires.area.0 c.lowest_overlap.ensures c.in-Some.is in omega arith
+bounds-ranges-i c =
+    let a = c.args in
+    let h = below a.ranges.now a.area c.loop-k.k c.in-Some.i _ c.requires.area.0 c.lowest_overlap.ensures c.in-Some.is in
+    omega arith
 
 pub offset_bounds-ranges-i-in-loop-k : goal.offset_bounds-ranges-i-in-loop-k
-offset_bounds-ranges-i-in-loop-k c = let h = below c.args.ranges.now c.args.area c.loop-k.k c.in-Some.i _ c.requires.area.0 c.lowest_overlap.ensures c.in-Some.is in omega arith
+offset_bounds-ranges-i-in-loop-k c =
+    let a = c.args in
+    let h = below a.ranges.now a.area c.loop-k.k c.in-Some.i _ c.requires.area.0 c.lowest_overlap.ensures c.in-Some.is in
+    omega arith
 
 pub bounds-ranges-i-in-loop-k : goal.bounds-ranges-i-in-loop-k
-bounds-ranges-i-in-loop-k c = let h = below c.args.ranges.now c.args.area c.loop-k.k c.in-Some.i _ c.requires.area.0 c.lowest_overlap.ensures c.in-Some.is in omega arith
+bounds-ranges-i-in-loop-k c =
+    let a = c.args in
+    let h = below a.ranges.now a.area c.loop-k.k c.in-Some.i _ c.requires.area.0 c.lowest_overlap.ensures c.in-Some.is in
+    omega arith
 
 pub overflow_add-end : goal.overflow_add-end
 overflow_add-end c =
-    let e = c.requires.bounded c.in-Some.i (below c.args.ranges.now c.args.area c.loop-k.k c.in-Some.i _ c.requires.area.0 c.lowest_overlap.ensures c.in-Some.is) in
+    let a = c.args in
+    let h = below a.ranges.now a.area c.loop-k.k c.in-Some.i _ c.requires.area.0 c.lowest_overlap.ensures c.in-Some.is in
+    let e = c.requires.bounded c.in-Some.i h in
     omega arith
 
 pub overflow_add-k : goal.overflow_add-k
 overflow_add-k c =
-    let e = c.requires.bounded c.in-Some.i (below c.args.ranges.now c.args.area c.loop-k.k c.in-Some.i _ c.requires.area.0 c.lowest_overlap.ensures c.in-Some.is) in
+    let a = c.args in
+    let h = below a.ranges.now a.area c.loop-k.k c.in-Some.i _ c.requires.area.0 c.lowest_overlap.ensures c.in-Some.is in
+    let e = c.requires.bounded c.in-Some.i h in
     omega arith
 
 pub overflow_sub-k : goal.overflow_sub-k
