@@ -41,8 +41,8 @@ fn put_paths(
     requires node { IsNode (seen deal.now).nodes level segment }
     requires in_tree { InTree (deal_level (length deal.now.bytes.now))
         (path_start (deal_level (length deal.now.bytes.now) - 1) 1 entry_position) }
-    requires deal_in_bounds { at + 6 + 32 * (deal_level (length deal.now.bytes.now) - level) + 32 * (deal_level (length deal.now.bytes.now) - 1)
-        ≤ length out.old }
+    requires deal_in_bounds { at + 6 + 32 * (deal_level (length deal.now.bytes.now) - level)
+        + 32 * (deal_level (length deal.now.bytes.now) - 1) ≤ length out.old }
     ensures { (result ≡ at + (3 + 32 * (deal_level (length deal.now.bytes.now) - level))
         + (3 + 32 * (deal_level (length deal.now.bytes.now) - 1)))
         × (out.new ≡ splice (splice out.old at

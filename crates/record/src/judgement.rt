@@ -49,7 +49,8 @@ pub(crate) fn judge(
     x: &ParsedRecord<'_>,
 ) -> Result<(), Refusal>
     requires { deal_size_allowed d ≡ true }
-    ensures { code_of result ≡ first_refusal (judgement (deal_terms commitment.now d number) (parsed (read_fields x.now))) }
+    ensures { code_of result ≡ first_refusal (judgement (deal_terms commitment.now d number)
+        (parsed (read_fields x.now))) }
 {
     if x.number != number {
         return Err(Refusal::DealNumber);

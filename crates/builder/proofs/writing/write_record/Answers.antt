@@ -147,7 +147,8 @@ returns c =
     record_written w a.number a.out.now sized c.requires.size_in_bounds (
       _,
       _,
-      wrote_field (table_row 0) a.entry.commitment refl sized c.put_field-at.ensures.0 (omega (arith, c.put_field-at.ensures.1)),
+      wrote_field (table_row 0) a.entry.commitment refl sized c.put_field-at.ensures.0
+          (omega (arith, c.put_field-at.ensures.1)),
       (
         _,
         _,
