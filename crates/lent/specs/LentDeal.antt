@@ -1,7 +1,6 @@
 -- A deal that is lent, with the source of its nodes, and the refusals that routines over a lent deal start with
 -- (document 01, "Codes and their order"; document 02, request (vii)).
 use Rattle.std.specs.Prelude.{Bool, true, ℕ, ◌-◌, List, [], ◌∷◌, length, eqb, Option, Some, None}
-use Rattle.rules.specs.Choice.{choose}
 use Rattle.rules.specs.Refusals.{Rule, rule, first_refusal}
 use Rattle.stray.specs.StrayBits.{no_stray_bits}
 use Rattle.sizes.specs.Sizes.{lent_size_allowed}
@@ -30,10 +29,6 @@ tree_fits size None = true
 abbrev pub lent_of : List ℕ → Option (List ℕ) → LentDeal
 lent_of bytes tree =
     record { bytes = bytes; nodes = nodes_of bytes tree; tree_sized = tree_fits (length bytes) tree }
-
--- the same by a flag
-abbrev pub lent_with : Bool → List ℕ → List ℕ → LentDeal
-lent_with has_tree bytes tree = lent_of bytes (choose has_tree (Some tree) None)
 
 -- the deal alone
 abbrev pub lent_deal : List ℕ → LentDeal

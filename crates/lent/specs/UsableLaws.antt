@@ -1,5 +1,5 @@
 -- Where the nodes of a lent deal may be looked up.
-use Rattle.std.specs.Prelude.{◌≡◌, true, ℕ, ◌+◌, ◌-◌, ◌*◌, ◌^◌, ◌≤◌, ◌<◌, List, length, eqb, Option, Some, None}
+use Rattle.std.specs.Prelude.{◌≡◌, ℕ, ◌+◌, ◌-◌, ◌*◌, ◌^◌, ◌≤◌, ◌<◌, List, length, eqb, Option, Some, None}
 use Rattle.std.proofs.Common.{sym, ap, ap₂, ◌∙◌, le_trans, le_of_eq, arith}
 use Rattle.merkle.specs.TreeLaws.{within, node_at_length}
 use Rattle.sizes.specs.Sizes.{lent_size_allowed, deal_level}

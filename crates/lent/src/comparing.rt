@@ -13,7 +13,9 @@ use paths::Difference;
 impl<'d, 't> Lent<'d, 't> {
     // Compares the strings of a path, from a node x at a position of a level, with the deal's own pairs of nodes along
     // it; `own_node` is the deal's own node there, and `own` its Merkle path. They are met from the bottom up, so the
-    // last difference is the first from the top. `below` is the difference of what stands below.
+    // last difference is the first from the top. `below` is the difference of what stands below. The loop is that of
+    // `paths::compare_paths` but for the step to the deal's next node: one function for both would take that step as a
+    // closure, with a law about it from each caller, and be no plainer.
     pub fn compare_with_own(
         &self,
         level: usize,

@@ -1,4 +1,3 @@
-use Rattle.std.specs.Prelude.{length}
 use Rattle.std.proofs.Common.{sym, arith}
 use Rattle.entries.proofs.Written.{front_length, digest_is, checksum_written}
 use Rattle.entries.proofs.entry.checksum.Goals as goal

@@ -1,10 +1,10 @@
 use Rattle.std.proofs.Common.{sym, ap, ◌∙◌, arith}
-use Rattle.std.specs.Prelude.{ℕ, List, ◌<◌}
+use Rattle.std.specs.Prelude.{◌<◌}
 use Rattle.rules.specs.Answers.{number}
 use Rattle.rules.specs.AnswerLaws.{number_some, answer_passed_on}
 use Rattle.lent.specs.LentDeal.{LentDeal, lent_deal}
 use Rattle.lent.specs.LentDealLaws.{refusal_none}
-use Rattle.index.specs.Find.{FoundSegment, refused, found_in, lowest_with_commitment}
+use Rattle.index.specs.Find.{refused, found_in, lowest_with_commitment}
 use Rattle.index.specs.FindLaws.{commitment_refused, deal_refused, searched_is}
 use Rattle.index.proofs.finding.find_numbers.Goals as goal
 

@@ -1,14 +1,14 @@
 -- No slot below i keeps the commitment, so the lowest that does is the lowest of those from i on; and the areas that
 -- were hashed were hashed in vain.
-use Rattle.std.specs.Prelude.{◌≡◌, true, false, ℕ, ◌+◌, ◌≤◌, ◌<◌, List, length}
+use Rattle.std.specs.Prelude.{◌≡◌, true, false, ℕ, ◌+◌, ◌≤◌, ◌<◌, length}
 use Rattle.std.proofs.Common.{refl, sym, ap, ◌∙◌, arith}
 use Rattle.std.proofs.lemmas.List.{length-take-le}
 use Rattle.rules.specs.Search.{lowest}
-use Rattle.rules.specs.SearchLaws.{lowest_start, lowest_here, lowest_next, lowest_over}
+use Rattle.rules.specs.SearchLaws.{lowest_start, lowest_here, lowest_next}
 use Rattle.sizes.specs.Sizes.{lent_size_allowed, entry_count, slot_place}
 use Rattle.sizes.specs.SizesLaws.{lent_size}
 use Rattle.lent.specs.Seen.{seen}
-use Rattle.index.specs.Slots.{holds, Row}
+use Rattle.index.specs.Slots.{holds}
 use Rattle.index.specs.KeptRowsLaws.{slot_within}
 use Rattle.index.specs.Tried.{kept_by}
 use Rattle.index.specs.Find.{keeps_commitment, found_in}

@@ -1,6 +1,6 @@
 use Rattle.std.proofs.Common.{refl, ap, ◌∙◌}
 use Rattle.lent.specs.Seen.{seen}
-use Rattle.index.specs.Slots.{entry_at, holds, row_as, Row}
+use Rattle.index.specs.Slots.{entry_at, holds, row_as}
 use Rattle.index.specs.SlotsLaws.{answer_stands}
 use Rattle.index.proofs.SlotAnswers.{kept_free, kept_other, kept_here}
 use Rattle.index.proofs.slots.kept_at.Goals as goal

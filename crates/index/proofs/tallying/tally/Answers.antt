@@ -1,4 +1,4 @@
-use Rattle.std.specs.Prelude.{ℕ, List, [], ◌<◌}
+use Rattle.std.specs.Prelude.{[], ◌<◌}
 use Rattle.std.proofs.Common.{sym, ap, ◌∙◌, arith}
 use Rattle.rules.specs.Answers.{number}
 use Rattle.rules.specs.AnswerLaws.{number_some, answer_passed_on}

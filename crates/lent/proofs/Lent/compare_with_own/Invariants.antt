@@ -1,7 +1,7 @@
 -- The last difference along the whole path is that along what is left of it, on top of the last one seen. With a tree
 -- the node on the way is looked up at each level; without one the deal's own path leads to it.
 use mathlib.Core.Path.{◌≡◌}
-use Prim.Native.Nat.{◌+◌, ◌-◌, ◌*◌, ◌≤◌}
+use Prim.Native.Nat.{◌+◌, ◌-◌, ◌*◌}
 use lib.ListN.{length, drop}
 use Rattle.sizes.specs.Sizes.{deal_level}
 use Rattle.paths.specs.CompareOwn.{compared_with_own}

@@ -1,8 +1,5 @@
-use Rattle.std.proofs.Common.{subst}
-use Rattle.std.specs.Prelude.{◌≡◌, Some, List, ℕ, Option, option_map}
 use Rattle.paths.specs.Start.{path_start}
-use Rattle.lent.specs.LentDeal.{lent_of, tree_deal}
-use Rattle.lent.specs.Seen.{seen}
+use Rattle.lent.specs.LentDeal.{tree_deal}
 use Rattle.lent.specs.Usable.{Usable}
 use Rattle.lent.specs.UsableLaws.{node_in_tree, node_level, node_room, tree_sized_lem}
 use Rattle.lent.proofs.Lent.node_in.Goals as goal

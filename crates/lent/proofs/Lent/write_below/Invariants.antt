@@ -1,6 +1,6 @@
 -- Writing the whole path into the output as it was is writing what is left of it into the output as it is.
 use mathlib.Core.Path.{◌≡◌}
-use Prim.Native.Nat.{◌+◌, ◌-◌, ◌*◌, ◌≤◌}
+use Prim.Native.Nat.{◌+◌, ◌*◌}
 use lib.ListN.{length}
 use Rattle.octets.specs.Splice.{splice}
 use Rattle.sizes.specs.Sizes.{deal_level}

@@ -1,6 +1,5 @@
 -- Writing both whole paths into the output as it was is writing what is left of them into the output as it is.
 use mathlib.Core.Path.{◌≡◌}
-use Prim.Native.Nat.{◌-◌, ◌≤◌}
 use lib.ListN.{length}
 use Rattle.octets.specs.Splice.{splice}
 use Rattle.sizes.specs.Sizes.{deal_level}
