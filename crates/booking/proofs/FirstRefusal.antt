@@ -18,17 +18,6 @@ use Rattle.houses.specs.HousesLaws.{housed}
 use Rattle.booking.specs.Write.{area_bytes}
 use Rattle.booking.specs.Booking.{segment_rules, book_rules}
 
--- a list in two parts: a refusal by the first stays
-first_stays : (passed : Bool) (code later more : ℕ) → (later ≢ 0 → more ≡ later) → first_of passed code later ≢ 0
-    → first_of passed code more ≡ first_of passed code later
-first_stays true code later more f h = f h
-first_stays false code later more f h = refl
-
-refused_first : (rs ss : List Rule) → first_refusal rs ≢ 0 → first_refusal (rs ++ ss) ≡ first_refusal rs
-refused_first [] ss h = absurd (h refl)
-refused_first (r ∷ rs) ss h =
-    first_stays r.passed r.code (first_refusal rs) (first_refusal (rs ++ ss)) (λ k. refused_first rs ss k) h
-
 -- the deal's and the area's stray bits, where the area has some and where it has none
 and_stray : (deal : Bool) {area : Bool} → area ≡ false → (deal && area) ≡ false
 and_stray true e = e
@@ -42,20 +31,12 @@ module _ (deal : LentDeal) (table : List ℕ) (house : ℕ) (segment : List ℕ)
   abbrev code : ℕ
   code = first_refusal (book_rules deal table house segment)
 
-  -- house, deal size or table
-  pub by_house : first_refusal (house_rules (deal_size deal) table house) ≢ 0
-      → first_refusal (house_rules (deal_size deal) table house) ≡ code
-  by_house h = sym (refused_first (house_rules (deal_size deal) table house) (segment_rules deal segment) h)
-
   module _ (z : first_refusal (house_rules (deal_size deal) table house) ≡ 0) where
     later : code ≡ first_refusal (segment_rules deal segment)
     later = refused_append (house_rules (deal_size deal) table house) (segment_rules deal segment) z (omega arith)
 
     pub size_fits : lent_size_allowed (deal_size deal) ≡ true
     size_fits = ((housed (deal_size deal) table house).0 z).size_allowed
-
-    pub by_4 : segment_size_allowed (deal_size deal) (length segment) ≡ false → 4 ≡ code
-    by_4 b = sym (later ∙ rw b)
 
     module _ (b : segment_size_allowed (deal_size deal) (length segment) ≡ true) where
       -- the area has stray bits only where the segment has

@@ -49,7 +49,8 @@ impl<'a> Segment<'a> {
         ensures { deal.new ≡ written_at deal.old self.now.bytes.now self.now.commitment at.offset at.place }
     {
         let entry = entries::entry_of(self.commitment, at.offset, self.size());
-        octets::put_filled(deal, at.offset as usize, self.bytes, self.area() as usize);
+        let area = self.area() as usize;
+        octets::put_filled(deal, at.offset as usize, self.bytes, area);
         octets::put_array(deal, at.place as usize, entry);
     }
 }

@@ -6,7 +6,7 @@ use Rattle.booking.proofs.segment.Segment.put.Goals as goal
 
 pub put_filled-requires : goal.put_filled-requires
 put_filled-requires c =
-    let e = c.area.ensures in
+    let e = c.area-area.ensures in
     (omega (arith, c.requires.segment_len_bound), omega (arith, c.requires.segment_in_bounds))
 
 pub returns : goal.returns
@@ -15,5 +15,5 @@ returns c =
     c.put_array.ensures.0
     ∙ ap₂ (λ (x y : List ℕ). splice x c.args.at.place y)
     (c.put_filled.ensures
-    ∙ ap (λ (n : ℕ). splice c.args.deal.now c.args.at.offset (zero_filled n segment)) c.area.ensures)
+    ∙ ap (λ (n : ℕ). splice c.args.deal.now c.args.at.offset (zero_filled n segment)) c.area-area.ensures)
     (c.entry_of-entry.ensures ∙ ap (entry_of c.args.self.now.commitment c.args.at.offset) c.size.ensures)
