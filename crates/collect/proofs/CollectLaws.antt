@@ -1,7 +1,7 @@
 -- What the collected deal holds: every standing segment's area at its new offset, its entry in its new slot, and zeros
 -- everywhere else.
 use Rattle.std.specs.Prelude.{◌≡◌, true, List, replicate}
-use Rattle.std.proofs.Common.{sym, ◌∙◌, arith}
+use Rattle.std.proofs.Common.{refl, sym, ◌∙◌, arith}
 use Rattle.std.proofs.Math.Path.{ap, ap₂}
 use Rattle.std.proofs.Math.Logic.{inl, inr, ⊎_elim}
 use Prim.Native.Nat.{ℕ, ◌+◌, ◌*◌, ◌≤◌, ◌<◌}
@@ -29,6 +29,7 @@ use Rattle.collect.specs.Collect.{
   areas_moved,
   collected_deal,
 }
+use Rattle.collect.specs.Writes.{write_all}
 use Rattle.collect.specs.Collectable.{Collectable}
 use Rattle.collect.proofs.MovesLaws.{stands_full, area_length, moved_length, sized, index_ends, area_ends, entry_ends}
 use Rattle.collect.specs.ZerosLaws.{zeros_part}
@@ -59,9 +60,17 @@ module _ {deal : List ℕ} (c : Collectable deal) where
       (λ after. inr (omega (arith, area_length deal (sized c) i)))
       (new_areas_apart (ranges_of deal) slots c.apart i j hi hj ne)
 
+  -- over any bytes as many as the deal's
+  over_length : (base : List ℕ) → length base ≡ length deal
+      → length (write_all (offset_to deal) (area_to deal) slots base) ≡ length deal
+  over_length base long =
+      written_length (offset_to deal) (area_to deal) base slots
+      (λ j h. omega (arith, area_ends c j h, area_length deal (sized c) j, index_ends c, long))
+      ∙ long
+
   areas_length : length (areas_moved deal) ≡ length deal
   unfolding areas_moved
-  areas_length = written_length (offset_to deal) (area_to deal) zeros slots areas_within ∙ zeros_length
+  areas_length = over_length _ (search (length-replicate, refl))
 
   -- and so do the entries
   pub entries_within : Within (entry_place_to deal) (entry_to deal) (areas_moved deal) (entry_count (length deal))

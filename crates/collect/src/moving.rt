@@ -60,7 +60,8 @@ impl<'a> Source<'a> {
             return;
         }
         let to = packing::move_of(self.ranges, j);
-        new[to.slot as usize] = table[j];
+        let at = to.slot as usize;
+        new[at] = table[j];
     }
 
     // Writes the new deal over whatever the second buffer holds: all areas, then all entries.

@@ -18,8 +18,8 @@ returns-then-self-j-eq0 c =
 pub move_of-to-requires : goal.move_of-to-requires
 move_of-to-requires c = (few_slots c.args.self.now.ready, c.requires.slot, ends c.args.self.now.ready)
 
-pub bounds-new-to : goal.bounds-new-to
-bounds-new-to c =
+pub bounds-new-at : goal.bounds-new-at
+bounds-new-at c =
     let r = c.args.self.now.ready in
     let j = c.args.j in
     let h = c.requires.slot in
