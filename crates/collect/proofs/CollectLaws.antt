@@ -1,7 +1,7 @@
 -- What the collected deal holds: every standing segment's area at its new offset, its entry in its new slot, and zeros
 -- everywhere else.
 use Rattle.std.specs.Prelude.{◌≡◌, true, List, replicate}
-use Rattle.std.proofs.Common.{refl, sym, ◌∙◌, arith}
+use Rattle.std.proofs.Common.{sym, ◌∙◌, arith}
 use Rattle.std.proofs.Math.Path.{ap, ap₂}
 use Rattle.std.proofs.Math.Logic.{inl, inr, ⊎_elim}
 use Prim.Native.Nat.{ℕ, ◌+◌, ◌*◌, ◌≤◌, ◌<◌}
@@ -61,16 +61,23 @@ module _ {deal : List ℕ} (c : Collectable deal) where
       (new_areas_apart (ranges_of deal) slots c.apart i j hi hj ne)
 
   -- over any bytes as many as the deal's
+  over_within : (base : List ℕ) → length base ≡ length deal → Within (offset_to deal) (area_to deal) base slots
+  over_within base long j h = omega (arith, area_ends c j h, area_length deal (sized c) j, index_ends c, long)
+
   over_length : (base : List ℕ) → length base ≡ length deal
       → length (write_all (offset_to deal) (area_to deal) slots base) ≡ length deal
   over_length base long =
-      written_length (offset_to deal) (area_to deal) base slots
-      (λ j h. omega (arith, area_ends c j h, area_length deal (sized c) j, index_ends c, long))
-      ∙ long
+      written_length (offset_to deal) (area_to deal) base slots (over_within base long) ∙ long
+
+  over_area : (base : List ℕ) → length base ≡ length deal → (j : ℕ) → j < slots
+      → part (write_all (offset_to deal) (area_to deal) slots base) (offset_to deal j) (length (area_to deal j))
+      ≡ area_to deal j
+  over_area base long j h =
+      written_at_lem (offset_to deal) (area_to deal) base slots j (over_within base long) areas_apart h
 
   areas_length : length (areas_moved deal) ≡ length deal
   unfolding areas_moved
-  areas_length = over_length _ (search (length-replicate, refl))
+  areas_length = over_length _ (search (length-replicate))
 
   -- and so do the entries
   pub entries_within : Within (entry_place_to deal) (entry_to deal) (areas_moved deal) (entry_count (length deal))
@@ -105,7 +112,7 @@ module _ {deal : List ℕ} (c : Collectable deal) where
   collected_area j h =
       below_index (offset_to deal j) (row_area (row_at deal j)) (area_ends c j h)
       ∙ ap (part (areas_moved deal) (offset_to deal j)) (sym (area_length deal (sized c) j))
-      ∙ written_at_lem (offset_to deal) (area_to deal) zeros slots j areas_within areas_apart h
+      ∙ over_area _ (search (length-replicate)) j h
 
   -- zeros stand below the index where no area does
   pub collected_rest : (b m : ℕ) → b + m ≤ index_start (length deal)
