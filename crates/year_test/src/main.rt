@@ -16,8 +16,9 @@ ghost use Rattle.std.specs.Prelude.{◌≡◌, ◌≤◌, length};
 
 use counts::Counts;
 use history::History;
-use parts::Buffers;
+use parts::{Buffers, lent};
 use std::io;
+use tests::State;
 
 // A year: the size of its deal, how many calls, whether each has the tree in hand, and the number before the first.
 #[derive(Clone, Copy)]
@@ -38,6 +39,17 @@ struct Going {
     counts: Counts,
 }
 
+// Makes all tests on the deal and the table as they are.
+fn test(deal: &[u8], tree: &[u8], table: &[u8], going: &mut Going) {
+    let state = State {
+        deal,
+        tree: if going.own_tree { Some(tree) } else { None },
+        slots: slots::slots_of(deal, table),
+        number: going.number,
+    };
+    state.test_all(&going.history, &mut going.counts.tests);
+}
+
 // Makes the next call, and all tests after it. The tree is the deal's own after a call that had it in hand, until one
 // that had not changes the deal.
 fn go_on(buffers: &mut Buffers, plan: Plan, going: &mut Going)
@@ -49,16 +61,10 @@ fn go_on(buffers: &mut Buffers, plan: Plan, going: &mut Going)
     going.counts.count_call(call.kind, answer.code);
     going.history.go_on(plan.size, call, answer);
     going.own_tree = call.with_tree || (going.own_tree && answer.code != 0);
-    let deal = &*buffers.deal;
-    let tree = &*buffers.tree;
-    let table = &*buffers.table;
-    let state = tests::State {
-        deal,
-        tree: if going.own_tree { Some(tree) } else { None },
-        slots: slots::slots_of(deal, table),
-        number: going.number,
-    };
-    state.test_all(&going.history, &mut going.counts.tests);
+    let deal = lent(buffers.deal, false);
+    let tree = lent(buffers.tree, false);
+    let table = lent(buffers.table, false);
+    test(deal, tree, table, going);
 }
 
 // Makes all calls of a year on a deal with its tree and its table, and shows what it came to.
@@ -75,8 +81,8 @@ fn play_and_show(rt: &impl Print, buffers: &mut Buffers, plan: Plan) -> io::Resu
         go_on(buffers, plan, &mut going);
     }
     show::year(rt, plan.size, plan.calls, &going.counts, &going.history)?;
-    let deal = &*buffers.deal;
-    let table = &*buffers.table;
+    let deal = lent(buffers.deal, false);
+    let table = lent(buffers.table, false);
     show::state(rt, deal, table)
 }
 

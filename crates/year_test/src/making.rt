@@ -71,14 +71,14 @@ fn take_place(of: &mut [u8], new: &[u8]) {
 // A collection; where it is not refused the second deal, its tree and its table take the place of the first ones.
 fn collect_and_go_on(buffers: &mut Buffers, call: Call) -> Result<(), Refusal> {
     collect(buffers, call)?;
-    let deal = &mut *buffers.deal;
-    let second = &*buffers.second;
+    let deal = lent(buffers.deal, false);
+    let second = lent(buffers.second, false);
     take_place(deal, second);
-    let tree = &mut *buffers.tree;
-    let second_tree = &*buffers.second_tree;
+    let tree = lent(buffers.tree, false);
+    let second_tree = lent(buffers.second_tree, false);
     take_place(tree, second_tree);
-    let table = &mut *buffers.table;
-    let second_table = &*buffers.second_table;
+    let table = lent(buffers.table, false);
+    let second_table = lent(buffers.second_table, false);
     take_place(table, second_table);
     Ok(())
 }
@@ -86,8 +86,8 @@ fn collect_and_go_on(buffers: &mut Buffers, call: Call) -> Result<(), Refusal> {
 // Makes a call; its answer in numbers. A tree that is not the deal's own is filled before the call has it in hand.
 pub(crate) fn make(buffers: &mut Buffers, own_tree: bool, call: Call) -> Booked {
     if call.with_tree && !own_tree {
-        let deal = &*buffers.deal;
-        let tree = &mut *buffers.tree;
+        let deal = lent(buffers.deal, false);
+        let tree = lent(buffers.tree, false);
         let _ = lent::fill_tree(deal, tree);
     }
     match call.kind {

@@ -17,7 +17,7 @@ put_row-requires c = omega (arith, c.requires, c.loop-i-test.true, c.loop-i.auto
 pub loop-i-preserved : goal.loop-i-preserved
 loop-i-preserved c =
     let rows = c.args.rows.now in
-    let inside : c.loop-i.i < length rows = omega (arith, c.told-rows, c.loop-i-test.true) in
+    let inside : c.loop-i.i < length rows = omega (arith, c.loop-i-test.true) in
     let here = read_is rows c.loop-i.i inside in
     row_written c.args.out.now rows c.loop-i.i c.loop-i.out c.put_row.new.out (row_read rows c.loop-i.i) inside here
     c.put_row.ensures.sized (omega (arith, c.requires, c.loop-i-test.true)) c.loop-i.invariant c.put_row.ensures.written
@@ -26,7 +26,7 @@ pub returns : goal.returns
 returns c =
     let rows = c.args.rows.now in
     let all : take c.loop-i.i rows ≡ rows =
-    take_all c.loop-i.i rows (omega (arith, c.loop-i-test.false, c.told-rows)) in
+    take_all c.loop-i.i rows (omega (arith, c.loop-i-test.false)) in
     let w = c.loop-i.invariant in
     w.is
     ∙ splice_whole c.args.out.now (rows_bytes (take c.loop-i.i rows)) (omega (arith, c.requires, w.sized, c.loop-i-test.false))

@@ -31,7 +31,7 @@ returns-then-ne-clause-answer c =
     c.booked_of-ruling.ensures ∙ c.answer.ensures
     ∙ ruled_booking l.size l.rows line l.size_allowed c.requires (decision_of c.decide-decision.result)
     c.decide-decision.ensures (ranges_in c.ranges-2.result)
-    (same_below l.size l.rows f c.told-self c.ranges-2.result c.ranges-2.ensures) in
+    (same_below l.size l.rows f (search rules) c.ranges-2.result c.ranges-2.ensures) in
     outcome_other l.size l.rows (booking line) ruled r
     (confirms_booking l.size l.rows line ruled r
     ∙ is_other (same_answer ruled line.answer) c.ne.result c.ne.ensures c.if-ne.true)
@@ -46,7 +46,7 @@ returns-then-ne-clause-rows c =
     c.booked_of-ruling.ensures ∙ c.answer.ensures
     ∙ ruled_booking l.size l.rows line l.size_allowed c.requires (decision_of c.decide-decision.result)
     c.decide-decision.ensures (ranges_in c.ranges-2.result)
-    (same_below l.size l.rows f c.told-self c.ranges-2.result c.ranges-2.ensures) in
+    (same_below l.size l.rows f (search rules) c.ranges-2.result c.ranges-2.ensures) in
     left_other l.size l.rows (booking line)
     (confirms_booking l.size l.rows line ruled r
     ∙ is_other (same_answer ruled line.answer) c.ne.result c.ne.ensures c.if-ne.true)
@@ -101,7 +101,7 @@ returns-in-Place-clause-answer c =
     c.booked_of-ruling.ensures ∙ c.answer.ensures
     ∙ ruled_booking l.size l.rows line l.size_allowed c.requires (decision_of c.decide-decision.result)
     c.decide-decision.ensures (ranges_in c.ranges-2.result)
-    (same_below l.size l.rows f c.told-self c.ranges-2.result c.ranges-2.ensures) in
+    (same_below l.size l.rows f (search rules) c.ranges-2.result c.ranges-2.ensures) in
     outcome_same l.size l.rows (booking line)
     (confirms_booking l.size l.rows line ruled r
     ∙ is_same (same_answer ruled line.answer) c.ne.result c.ne.ensures c.if-ne.false)
@@ -116,7 +116,7 @@ returns-in-Place-clause-rows c =
     c.booked_of-ruling.ensures ∙ c.answer.ensures
     ∙ ruled_booking l.size l.rows line l.size_allowed c.requires (decision_of c.decide-decision.result)
     c.decide-decision.ensures (ranges_in c.ranges-2.result)
-    (same_below l.size l.rows f c.told-self c.ranges-2.result c.ranges-2.ensures) in
+    (same_below l.size l.rows f (search rules) c.ranges-2.result c.ranges-2.ensures) in
     left_same l.size l.rows (booking line) _
     (stored l.size l.rows line l.size_allowed c.requires (decision_of c.decide-decision.result)
     c.decide-decision.ensures c.in-Place.slot c.in-Place.offset c.slot_place.result c.slot_place.ensures
@@ -135,7 +135,7 @@ returns-in_default c =
     c.booked_of-ruling.ensures ∙ c.answer.ensures
     ∙ ruled_booking l.size l.rows line l.size_allowed c.requires made
     c.decide-decision.ensures (ranges_in c.ranges-2.result)
-    (same_below l.size l.rows f c.told-self c.ranges-2.result c.ranges-2.ensures) in
+    (same_below l.size l.rows f (search rules) c.ranges-2.result c.ranges-2.ensures) in
     let e =
     confirms_booking l.size l.rows line ruled r
     ∙ is_same (same_answer ruled line.answer) c.ne.result c.ne.ensures c.if-ne.false in

@@ -23,7 +23,7 @@ returns-then-is_for c =
     let i = c.loop-i.i in
     let slots = c.slots-i-end.result in
     let high = slots_high c.args.self.now.size c.args.self.now.size_allowed in
-    let inside : i < length rows = omega (arith, high, c.slots-i-end.ensures, c.loop-i-test.true, c.told-self) in
+    let inside : i < length rows = omega (arith, high, c.slots-i-end.ensures, c.loop-i-test.true) in
     found_here (keeps_at rows line) slots i c.loop-i.invariant c.loop-i-test.true
     (same_house rows line i inside true c.if-row-line.true (sym c.is_for.ensures ∙ c.if-is_for.true))
     ∙ ap (lowest (keeps_at rows line) 0) c.slots-i-end.ensures
@@ -35,7 +35,7 @@ loop-i-preserved c =
     let i = c.loop-i.i in
     let slots = c.slots-i-end.result in
     let high = slots_high c.args.self.now.size c.args.self.now.size_allowed in
-    let inside : i < length rows = omega (arith, high, c.slots-i-end.ensures, c.loop-i-test.true, c.told-self) in
+    let inside : i < length rows = omega (arith, high, c.slots-i-end.ensures, c.loop-i-test.true) in
     found_later (keeps_at rows line) slots i c.loop-i.invariant c.loop-i-test.true
     (elim c.else-row-line.branch [
       | else-row-line-via-then-row-line+else-is_for w ↦

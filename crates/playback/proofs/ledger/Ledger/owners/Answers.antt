@@ -9,8 +9,9 @@ use Rattle.playback.proofs.ledger.Ledger.owners.Goals as goal
 pub returns : goal.returns
 returns c =
     let rows = c.args.self.now.rows in
+    let all : length rows ≡ 128 = search rules in
     ext_get_or 0 c.map.result (ledger_owners rows)
-    (c.map.ensures.items.long ∙ sym (owners_length rows ∙ c.told-self))
+    (c.map.ensures.items.long ∙ sym (owners_length rows ∙ all))
     (λ k h.
     let called = c.map.ensures.items.at k vacant 0 (omega (arith, c.map.ensures.items.long)) in
     let given : get_or c.map.result k 0 ≡ (ledger_row rows k).house = search rules in

@@ -28,7 +28,7 @@ loop-i-preserved c =
     let inside : i < slots = c.loop-i-test.true in
     let below : k < 128 = omega (arith, high, c.slots-i-end.ensures, few, inside) in
     let at : row ≡ ledger_row ledger i =
-    read_is ledger i (omega (arith, high, c.slots-i-end.ensures, inside, c.told-self)) in
+    read_is ledger i (omega (arith, high, c.slots-i-end.ensures, inside)) in
     elim c.if-not-is_vacant.branch [
       | then-not-is_vacant w ↦ (
         omega (arith, w.count-is, few),
