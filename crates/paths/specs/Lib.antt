@@ -15,3 +15,4 @@ pub mod SiblingsLaws
 pub mod AgreeLaws
 pub mod DealStartsLaws
 pub mod CompareOwn
+pub mod CompareBelow

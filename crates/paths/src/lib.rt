@@ -3,7 +3,7 @@
 
 ghost use Rattle.std.specs.Prelude.{◌≡◌, ◌/◌, length};
 ghost use Rattle.paths.specs.Path.{pair_of, path_root};
-ghost use Rattle.paths.specs.Compare.{seen_as, compared_above, compared_up};
+ghost use Rattle.paths.specs.Compare.{seen_as, equal, compared_above, compared_up};
 ghost use Rattle.paths.specs.Siblings.{sibling_of};
 
 // The two strings at the first difference of two paths, from the top.
@@ -54,23 +54,21 @@ pub fn compare_above(
 }
 
 // Compares the strings of two paths, from nodes x and y at one position. They are met from the bottom up, so the last
-// difference is the first from the top. `below` is the difference of what stands below.
+// difference is the first from the top.
 pub fn compare_paths(
     position: u64,
     x: [u8; 32],
     left: &[u8],
     y: [u8; 32],
     right: &[u8],
-    below: Option<Difference>,
 ) -> Option<Difference>
     requires { length left.now ≡ length right.now }
-    ensures { seen_as result
-        ≡ compared_up (length left.now / 32) position x left.now y right.now (seen_as below) }
+    ensures { seen_as result ≡ compared_up (length left.now / 32) position x left.now y right.now equal }
 {
     let mut p = position;
     let mut a = x;
     let mut b = y;
-    let mut last = below;
+    let mut last = None;
     for i in 0..left.len() / 32 {
         let left_string = pair(p, a, octets::array_at(left, i * 32));
         let right_string = pair(p, b, octets::array_at(right, i * 32));

@@ -1,12 +1,13 @@
 -- From a code, and from what was found to differ in the two parts, to the answer.
 use mathlib.Core.Path.{◌≡◌, refl, sym, ap, ◌∙◌}
-use mathlib.Core.Bool.{Bool, true, false}
+use mathlib.Core.Bool.{true, false}
 use Prim.Native.Nat.{ℕ, zero, suc}
 use Rattle.std.specs.Prelude.{Option, Some, None, is_some}
 use Rattle.rules.specs.Refusals.{unless_refused}
 use Rattle.paths.specs.Compare.{Compared, seen_as}
 use Rattle.paths.specs.declared.Difference.{Difference}
-use Rattle.settle.specs.SettleLaws.{settled_from, or_compared}
+use Rattle.paths.specs.CompareBelow.{or_compared}
+use Rattle.settle.specs.SettleLaws.{settled_from}
 use Rattle.settle.specs.Settle.{Settled}
 
 -- a code other than 0 is the answer's

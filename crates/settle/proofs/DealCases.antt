@@ -29,7 +29,8 @@ use Rattle.lent.specs.LentDealLaws.{refusal_none}
 use Rattle.builder.specs.Build.{deal_commitment, terms_of}
 use Rattle.builder.specs.BuildLaws.{InDeal, in_deal}
 use Rattle.settle.specs.Settle.{not_settled, entry_strings, segment_strings, deal_entry_strings, deal_segment_strings, settle_with_deal}
-use Rattle.settle.specs.SettleLaws.{settled_from, or_compared, settled_parts}
+use Rattle.paths.specs.CompareBelow.{or_compared}
+use Rattle.settle.specs.SettleLaws.{settled_from, settled_parts}
 use Rattle.settle.specs.AcceptedRecord.{AcceptedRecord}
 use Rattle.settle.specs.AcceptedRecordLaws.{parses, accepted}
 use Rattle.settle.specs.Comparing.{entry_with_deal, segment_with_deal}

@@ -19,7 +19,8 @@ use Rattle.record.specs.Form.{Fields}
 use Rattle.record.specs.Check.{DealTerms, entry_for, check_of}
 use Rattle.record.specs.CheckLaws.{Accepted, check_terms}
 use Rattle.settle.specs.Settle.{not_settled, entry_strings, segment_strings, settle_records}
-use Rattle.settle.specs.SettleLaws.{settled_from, or_compared, settled_parts, same_fields}
+use Rattle.paths.specs.CompareBelow.{or_compared}
+use Rattle.settle.specs.SettleLaws.{settled_from, settled_parts, same_fields}
 use Rattle.settle.specs.AcceptedRecord.{AcceptedRecord}
 use Rattle.settle.specs.AcceptedRecordLaws.{parses, accepted, sized}
 use Rattle.settle.specs.Comparing.{entries_compared, segments_compared}

@@ -5,6 +5,7 @@ use Rattle.rules.specs.Choice.{choose}
 use Rattle.paths.specs.Difference.{Difference, same, differ, first_difference}
 use Rattle.paths.specs.DifferenceLaws.{or_else, difference_append}
 use Rattle.paths.specs.Compare.{compared, Compared}
+use Rattle.paths.specs.CompareBelow.{or_compared}
 use Rattle.entries.specs.Entry.{commitment_in, offset_in, size_in}
 use Rattle.entries.specs.EntryLaws.{commitment_back, offset_back, size_back}
 use Rattle.record.specs.Form.{Fields}
@@ -17,10 +18,6 @@ use Rattle.settle.specs.Settle.{Settled}
 abbrev pub settled_from : Compared → Settled
 settled_from found =
     choose found.differs (record { code = 17; left = found.left; right = found.right }) (not_settled 0)
-
--- the first part's difference, or else the second's
-abbrev pub or_compared : Compared → Compared → Compared
-or_compared first second = choose first.differs first second
 
 settled_compared : (d : Difference) → settled_by d ≡ settled_from (compared d)
 settled_compared same = refl

@@ -37,9 +37,7 @@ pub(crate) fn compare_entries(
     let below = compare_strings(left, right);
     let left_node = node::node_hash(left);
     let right_node = node::node_hash(right);
-    paths::compare_paths(
-        position, left_node, left_path, right_node, right_path, below,
-    )
+    paths::compare_paths(position, left_node, left_path, right_node, right_path).or(below)
 }
 
 // Compares the strings of two segment paths from one position.
@@ -53,5 +51,5 @@ pub(crate) fn compare_segments(
     requires { length left_path.now ≡ length right_path.now }
     ensures { seen_as result ≡ segments_compared position left left_path.now right right_path.now }
 {
-    paths::compare_paths(position, left, left_path, right, right_path, None)
+    paths::compare_paths(position, left, left_path, right, right_path)
 }

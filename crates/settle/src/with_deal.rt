@@ -101,7 +101,8 @@ fn compare_deal_entry(deal: &Lent, own_path: &[u8], x: &ParsedRecord<'_>) -> Opt
     let below = compare_strings(entry, own_entry);
     let node = node::node_hash(entry);
     let own_node = deal.node_in(x.entry_path.len() / 32, 1, place / 64);
-    deal.compare_with_own(1, place / 64, own_node, own_path, node, x.entry_path, below)
+    deal.compare_with_own(1, place / 64, own_node, own_path, node, x.entry_path)
+        .or(below)
 }
 
 // Compares the segment strings of an accepted record with those of the deal: the pairs of nodes above the segment. The
@@ -127,7 +128,6 @@ fn compare_deal_segment(
         own_path,
         x.commitment,
         x.segment_path,
-        None,
     )
 }
 

@@ -350,7 +350,7 @@ fn compare(rt: &impl Print, position: u64, a: &[u8], b: &[u8]) -> io::Result<()>
     }
     let x = octets::array_at(a, 0);
     let y = octets::array_at(b, 0);
-    let found = paths::compare_paths(position, x, &a[32..], y, &b[32..], None);
+    let found = paths::compare_paths(position, x, &a[32..], y, &b[32..]);
     strings(rt, Ok(found))
 }
 

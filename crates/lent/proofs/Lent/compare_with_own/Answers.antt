@@ -14,7 +14,7 @@ use Rattle.paths.specs.NodesSized.{NodesSized}
 use Rattle.paths.specs.Path.{pair_of}
 use Rattle.paths.specs.Siblings.{siblings, pair_at}
 use Rattle.paths.specs.SiblingsLaws.{path_length}
-use Rattle.paths.specs.Compare.{seen_as}
+use Rattle.paths.specs.Compare.{seen_as, equal}
 use Rattle.lent.specs.Seen.{seen}
 use Rattle.lent.specs.UsableLaws.{usable_size, nodes_sized}
 use Rattle.lent.proofs.OwnLoops.{OwnTurn, own_start, own_pair, own_above, own_next}
@@ -41,7 +41,7 @@ loop-i-init c =
     let n = length a.path.now / 32 in (
       own_start nodes (deal_level (length a.self.now.bytes.now)) a.own.now n a.level a.position a.own_node c.requires.in_tree
           c.requires.own_value c.requires.own_node_value,
-      compared_start nodes n a.level a.position a.x a.path.now (seen_as a.below),
+      compared_start nodes n a.level a.position a.x a.path.now equal,
     )
 
 pub array_at-requires-in-loop-i : goal.array_at-requires-in-loop-i

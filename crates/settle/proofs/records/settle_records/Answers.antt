@@ -1,14 +1,12 @@
 -- The first record's refusal, the second's, 18 for different places; then the entry parts decide where they differ, and
 -- else the segment parts.
-use mathlib.Core.Path.{◌≡◌, refl, sym, ap, ◌∙◌}
-use mathlib.Core.Bool.{true, false}
+use mathlib.Core.Path.{◌≡◌, sym, ap, ◌∙◌}
 use Prim.Native.Nat.{ℕ}
 use native.Mathlib.Omega.{arith}
 use mathlib.Core.List.{List}
-use lib.ListN.{length}
 use Rattle.octets.specs.Bytes.{bytes_of_slice}
 use Rattle.rules.specs.AnswerLaws.{passed_on, number_some}
-use Rattle.paths.specs.Compare.{Compared, seen_as}
+use Rattle.paths.specs.Compare.{Compared}
 use Rattle.sizes.specs.Sizes.{entry_position}
 use Rattle.record.specs.Form.{Fields, parsed, parse}
 use Rattle.record.specs.Answers.{read_fields}

@@ -18,7 +18,6 @@ use Rattle.record.specs.Form.{Fields, parsed, parse}
 use Rattle.record.specs.Answers.{read_fields}
 use Rattle.lent.specs.LentDeal.{LentDeal, deal_size, deal_refusal}
 use Rattle.lent.specs.Seen.{seen}
-use Rattle.lent.specs.declared.Lent.{Lent}
 use Rattle.lent.specs.UsableLaws.{nodes_sized}
 use Rattle.builder.specs.Build.{deal_commitment, terms_of, segment_path_of, entry_path_of}
 use Rattle.builder.specs.BuildLaws.{in_deal}
