@@ -24,8 +24,8 @@ use rules::Refusal;
 // of a segment, from level 2 up, at most 17.
 const LONGEST_PATHS: usize = 32 * 35;
 
-// The place, the size and the offset are chosen before the check, which asks the deal's commitment: so one pass over the
-// deal hashes it once, for its commitment and its own paths.
+// The place, the size and the offset are chosen before the check, which asks the deal's commitment: so one pass over
+// the deal hashes it once, for its commitment and its own paths.
 
 // An allowed entry place: this one where it is allowed, else the first of the index.
 fn allowed_place(size: u64, place: u64) -> u64

@@ -13,6 +13,12 @@ returns c =
     let below = c.compare_strings-below.result in
     let up = up_below (length a.left_path.now / 32) a.position c.node_hash-left_node.result a.left_path.now
     c.node_hash-right_node.result a.right_path.now found below c.compare_paths.ensures in
-    simp (c.or.ensures, up, c.node_hash-right_node.ensures, c.node_hash-left_node.ensures, c.compare_strings-below.ensures)
+    simp (
+      c.or.ensures,
+      up,
+      c.node_hash-right_node.ensures,
+      c.node_hash-left_node.ensures,
+      c.compare_strings-below.ensures,
+    )
     (paths_up (node_hash a.left) a.left_path.now (a.left ∷ []) (node_hash a.right) a.right_path.now
     (a.right ∷ []) a.position c.requires)
