@@ -2,7 +2,9 @@
 #![tactic(auto)]
 
 ghost use Rattle.std.specs.Prelude.{◌≡◌};
-ghost use Rattle.fields.specs.FieldAt.{field_at, field_answer};
+ghost use Rattle.rules.specs.Answers.{code_of};
+ghost use Rattle.rules.specs.Refusals.{first_refusal};
+ghost use Rattle.fields.specs.FieldAt.{field_at, field_answer, field_rules};
 ghost use Rattle.reader.specs.Reader.{place_after, reader_at, moved_on};
 
 use fields::Field;
@@ -33,6 +35,7 @@ impl<'a> RecordReader<'a> {
     // The field at the reader's place, and the reader moved on to the next; at the refusal it stays where it is.
     pub fn next_field(&mut self) -> Result<Field, Refusal>
         ensures { (field_answer result ≡ field_at self.old.bytes.now self.old.place)
+            × (code_of result ≡ first_refusal (field_rules self.old.bytes.now self.old.place))
             × (self.new ≡ moved_on self.old) }
     {
         let field = fields::read_field(self.bytes, self.place)?;
@@ -44,7 +47,8 @@ impl<'a> RecordReader<'a> {
 // The field of this number, from 0, of a record; the first refusal ends the reading. Its parameters are plain: a
 // caller's proof has no reader in it.
 pub fn field(bytes: &[u8], number: usize) -> Result<Field, Refusal>
-    ensures { field_answer result ≡ field_at bytes.now (place_after number bytes.now 0) }
+    ensures { (field_answer result ≡ field_at bytes.now (place_after number bytes.now 0))
+        × (code_of result ≡ first_refusal (field_rules bytes.now (place_after number bytes.now 0))) }
 {
     let mut reader = RecordReader::new(bytes);
     for _ in 0..number {

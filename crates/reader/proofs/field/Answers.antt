@@ -1,8 +1,10 @@
 -- A turn passes one field, or meets the refusal, which is then each later field.
 use Rattle.std.proofs.Common.{◌≡◌, ℕ, zero, suc, ◌+◌, ◌-◌, ◌≤◌, ◌<◌, List, refl, sym, ap, ◌∙◌, arith}
 use Rattle.std.proofs.Math.Nat.{sub-zero}
-use Rattle.rules.specs.AnswerLaws.{answer_passed_on}
-use Rattle.fields.specs.FieldAt.{Field, Content, Refused, content, field_at}
+use Rattle.rules.specs.Answers.{number, code_of}
+use Rattle.rules.specs.AnswerLaws.{answer_passed_on, code_passed_on}
+use Rattle.rules.specs.Refusals.{first_refusal}
+use Rattle.fields.specs.FieldAt.{Field, Content, Refused, content, field_at, field_rules}
 use Rattle.reader.specs.Reader.{next_place, place_after}
 use Rattle.reader.proofs.field.Goals as goal
 
@@ -37,16 +39,22 @@ returns-in_err-next_field c =
     let l = c.loop in
     let e = c.in_err-next_field.ensures.0 in
     let f : field_at a.bytes.now l.reader.place ≡ Refused = sym (rw l.invariant.0 at e) in
-    answer_passed_on c.from_residual.result c.in_err-next_field.field-0.0 content (λ code. Refused) c.from_residual.ensures.1
-    ∙ sym f
-    ∙ ap (field_at a.bytes.now)
-    (sym (stays_refused (a.number - l.counter) a.bytes.now l.reader.place f) ∙ l.invariant.1)
+    let code : number c.in_err-next_field.field-0.0 ≡ first_refusal (field_rules a.bytes.now l.reader.place) =
+    rw l.invariant.0 at c.in_err-next_field.ensures.1 in
+    let there = sym (stays_refused (a.number - l.counter) a.bytes.now l.reader.place f) ∙ l.invariant.1 in (
+      answer_passed_on c.from_residual.result c.in_err-next_field.field-0.0 content (λ code. Refused) c.from_residual.ensures.1
+          ∙ sym f
+          ∙ ap (field_at a.bytes.now) there,
+      code_passed_on c.from_residual.result c.in_err-next_field.field-0.0 c.from_residual.ensures.1
+          ∙ code
+          ∙ ap (λ (at : ℕ). first_refusal (field_rules a.bytes.now at)) there,
+    )
 
 pub loop-preserved : goal.loop-preserved
 loop-preserved c =
     let a = c.args in
     let l = c.loop in
-    let m = c.in_ok-next_field.ensures.1 in (
+    let m = c.in_ok-next_field.ensures.2 in (
       rw m l.invariant.0,
       rw (m, l.invariant.0)
           (one_passed a.number l.counter a.bytes.now l.reader.place c.loop-test.true ∙ l.invariant.1),
@@ -56,6 +64,10 @@ pub returns : goal.returns
 returns c =
     let a = c.args in
     let l = c.loop in
-    rw l.invariant.0 at c.next_field-2.ensures.0
-    ∙ ap (field_at a.bytes.now)
-    (sym (none_left a.number l.counter a.bytes.now l.reader.place (omega arith)) ∙ l.invariant.1)
+    let there =
+    sym (none_left a.number l.counter a.bytes.now l.reader.place (omega arith)) ∙ l.invariant.1 in
+    let code : code_of c.next_field-2.result ≡ first_refusal (field_rules a.bytes.now l.reader.place) =
+    rw l.invariant.0 at c.next_field-2.ensures.1 in (
+      rw l.invariant.0 at c.next_field-2.ensures.0 ∙ ap (field_at a.bytes.now) there,
+      code ∙ ap (λ (at : ℕ). first_refusal (field_rules a.bytes.now at)) there,
+    )
