@@ -13,8 +13,7 @@ use sha256::{INITIAL, block_at, compress, digest};
 pub fn node_hash(pair: [u8; 64]) -> [u8; 32]
     ensures { result ≡ node_hash pair }
 {
-    let hash = INITIAL;
-    let mut node = digest(padding_block::finish(compress(hash, block_at(&pair, 0))));
+    let mut node = digest(padding_block::finish(compress(INITIAL, block_at(&pair, 0))));
     node[31] %= 64;
     node
 }

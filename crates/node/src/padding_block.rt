@@ -43,6 +43,7 @@ pub(crate) fn finish(hash: [u32; 8]) -> [u32; 8]
 {
     let mut s = hash;
     for turn in 0..4 {
+        // The result has a name first: with a call's array laid in a variable again the proof did not close.
         let after = sixteen_bare_rounds::<Chained>(s, padding_sums(turn));
         s = after;
     }

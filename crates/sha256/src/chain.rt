@@ -40,6 +40,7 @@ impl Round for Chained {
         [next_a, a, b, c, next_e, e, f, g]
     }
 
+    // The same words as in `Plain`, over other sigmas: those of this file.
     fn next_word(w2: u32, w7: u32, w15: u32, w16: u32) -> u32 {
         small_sigma1(w2)
             .wrapping_add(w7)

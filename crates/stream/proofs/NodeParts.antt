@@ -7,11 +7,9 @@ use native.Mathlib.Numerals.{add-one}
 use native.Mathlib.Omega.{arith}
 use lib.ListN.{length, get_or, take, drop, set, length-set, length-drop, take-append-drop}
 use lib.Seq.{append_snoc, set_split, length-take-le}
-use borrow.Author.Tests.{le-ltb}
 use Rattle.octets.specs.Splice.{splice}
 use Rattle.octets.specs.SpliceLaws.{splice_append, splice_whole}
-use Rattle.stray.specs.StrayBits.{clear_node, clear_nodes}
-use Rattle.stray.specs.StrayBitsLaws.{clear_node_lem}
+use Rattle.stray.specs.StrayBits.{clear_node, clear_nodes, no_stray_bits}
 use Rattle.stream.specs.Stream.{largest, failed_with, with_node, counted, take_piece}
 use Rattle.stream.specs.StreamLaws.{running, byte_within, counted_open, counted_stray, counted_whole}
 use Rattle.stream.specs.StreamLaws.{piece_append, piece_after_failure}
@@ -48,10 +46,6 @@ within_node (b ∷ c ∷ bytes) count partial waiting some sized fits few =
     (ap₂ (λ (v : List ℕ) (at : ℕ). splice v at (c ∷ bytes)) (set_splice partial (count % 32) b (omega arith)) e
     ∙ splice_append partial (count % 32) (count % 32 + 1) (b ∷ []) (c ∷ bytes) (omega arith) refl)
 
-not_clear : (node : List ℕ) → 64 ≤ get_or node 31 0 → clear_node node ≡ false
-unfolding clear_node
-not_clear node h = le-ltb (get_or node 31 0) 64 h
-
 -- such bytes: the node is not whole, or it is and has stray bits, or has none
 module _ (bytes : List ℕ) (count : ℕ) (partial waiting : List ℕ) (some : 0 < length bytes) (sized : length partial ≡ 32)
     (fits : count % 32 + length bytes ≤ 32) (few : count + length bytes ≤ largest)
@@ -69,12 +63,31 @@ module _ (bytes : List ℕ) (count : ℕ) (partial waiting : List ℕ) (some : 0
   pub part_open : (next % 32 ≡ 0 → ⊥) → take_piece before bytes ≡ running next put waiting
   part_open h = taken ∙ counted_open next put waiting h
 
-  pub part_stray : next % 32 ≡ 0 → 64 ≤ get_or put 31 0 → take_piece before bytes ≡ failed_with 11
-  part_stray h e = taken ∙ counted_stray next put waiting h (not_clear put e)
+  pub part_stray : next % 32 ≡ 0 → clear_node put ≡ false → take_piece before bytes ≡ failed_with 11
+  part_stray h e = taken ∙ counted_stray next put waiting h e
 
-  pub part_whole_node : next % 32 ≡ 0 → get_or put 31 0 < 64
+  pub part_whole_node : next % 32 ≡ 0 → clear_node put ≡ true
       → take_piece before bytes ≡ running next put (with_node 32 0 (next / 32 - 1) put waiting)
-  part_whole_node h e = taken ∙ counted_whole next put waiting h (clear_node_lem put e)
+  part_whole_node h e = taken ∙ counted_whole next put waiting h e
+
+-- a node by itself is a run of one
+pub one_node : (node : List ℕ) → length node ≡ 32 → no_stray_bits node ≡ clear_node node
+unfolding clear_nodes
+one_node node h =
+    let n : length node / 32 ≡ 1 = omega arith in
+    ap (λ (m : ℕ). clear_nodes m node) n
+    ∙ and_true (clear_node (take 32 node))
+    ∙ ap clear_node (take-all 32 node h)
+  where
+    and_true : (b : Bool) → (b && true) ≡ b
+    and_true true = refl
+    and_true false = refl
+
+    take-all : (n : ℕ) (l : List ℕ) → length l ≡ n → take n l ≡ l
+    take-all zero [] e = refl
+    take-all zero (x ∷ l) e = absurd (omega arith)
+    take-all (suc n) [] e = absurd (omega arith)
+    take-all (suc n) (x ∷ l) e = ap (λ (t : List ℕ). x ∷ t) (take-all n l (omega arith))
 
 -- a whole node
 module _ (node : List ℕ) (count : ℕ) (partial waiting : List ℕ) (whole : length node ≡ 32) (sized : length partial ≡ 32)

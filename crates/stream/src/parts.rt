@@ -22,6 +22,7 @@ fn block_length(count: u64, left: usize) -> usize
     ensures { (result ≤ left) × (count + result ≤ largest) × Block count result }
 {
     let mut size: usize = 512;
+    // It doubles a size and counts no index: a `for` has nothing to run over.
     while block_fits(count, left, 2 * size) {
         size = 2 * size;
     }
@@ -58,7 +59,7 @@ impl Stream {
         if self.count % 32 != 0 {
             return Ok(());
         }
-        if 64 <= self.partial[31] {
+        if !stray::no_stray_bits(&self.partial) {
             return Err(Refusal::StrayBits);
         }
         add_node(&mut self.waiting, 0, self.count / 32 - 1, self.partial);
@@ -103,6 +104,7 @@ impl Stream {
         ensures { take_piece self.old piece.now ≡ unless_failed result self.new }
     {
         let mut rest = piece;
+        // The parts have lengths of their own, each after the one before: no iterator gives them.
         while !rest.is_empty() {
             if LARGEST <= self.count {
                 return Err(Refusal::Size);
