@@ -16,15 +16,15 @@ use lent::Lent;
 use room::Range;
 use rules::Refusal;
 
-// What an audit says of a slot.
+// What an audit says of a slot. The numbers are those of `number`.
 #[derive(Clone, Copy, Debug, PartialEq, Eq)]
 pub enum SlotState {
-    Blank, // 0
-    Damaged, // 1
-    NotStanding, // 2: valid, but it does not stand
-    Overlapping, // 3: it stands and overlaps a standing entry in a lower slot
-    OtherCommitment, // 4: it stands, but its commitment is not that of its bytes
-    Kept, // 5
+    Blank = 0,
+    Damaged = 1,
+    NotStanding = 2, // valid, but it does not stand
+    Overlapping = 3, // it stands and overlaps a standing entry in a lower slot
+    OtherCommitment = 4, // it stands, but its commitment is not that of its bytes
+    Kept = 5,
 }
 
 impl SlotState {
@@ -32,14 +32,7 @@ impl SlotState {
     pub fn code(self) -> u8
         ensures { result ≡ number self }
     {
-        match self {
-            SlotState::Blank => 0,
-            SlotState::Damaged => 1,
-            SlotState::NotStanding => 2,
-            SlotState::Overlapping => 3,
-            SlotState::OtherCommitment => 4,
-            SlotState::Kept => 5,
-        }
+        self as u8
     }
 }
 

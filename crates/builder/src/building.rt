@@ -42,6 +42,7 @@ pub fn build(deal: &[u8], number: u64, place: u64, out: &mut [u8]) -> Result<usi
 
 // The same with the tree beside the deal: every inner node is taken as it stands there, the node that the test for kept
 // reads included. 12 for a tree of another length than the deal asks comes after 11.
+// There are two functions, as in the C interface; `build_in` does the work of both.
 pub fn build_with_tree(
     deal: &[u8],
     tree: &[u8],

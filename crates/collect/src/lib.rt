@@ -97,6 +97,8 @@ pub fn collect(
 
 // The same with a tree beside the second deal, which is left filled for it, whatever it held: 12 for a tree of another
 // length than the deal asks, after 11.
+// There are two functions, as in the C interface. Of an optional tree to write no clause would say what it holds
+// afterwards where there is none.
 pub fn collect_with_tree(
     deal: &[u8],
     table: &[u8],

@@ -81,5 +81,5 @@ pub fn put_owner(size: u64, table: &mut [u8], place: u64, owner: u8)
     requires table_value { table_sized size table.old ≡ true }
     ensures { table.new ≡ with_owner table.old (slot_of size place) owner }
 {
-    octets::put(table, slot_at(size, place), &[owner]);
+    table[slot_at(size, place)] = owner;
 }

@@ -45,9 +45,9 @@ pub fn none_overlaps(ranges: &[Range]) -> bool
     ensures { result ≡ none_overlaps (ranges_in ranges.now) (length ranges.now) }
 {
     for (i, range) in ranges.iter().enumerate() {
-        let None = room::lowest_overlap(&ranges[..i], *range) else {
+        if room::lowest_overlap(&ranges[..i], *range).is_some() {
             return false;
-        };
+        }
     }
     true
 }

@@ -1,13 +1,14 @@
 -- The ways through the judgement, one law for each answer of the code.
 use mathlib.Core.Path.{◌≡◌, refl, sym, ap, ◌∙◌}
 use mathlib.Core.Bool.{Bool, true, false}
-use Prim.Native.Nat.{ℕ, ◌/◌, ◌≤◌, ◌<◌}
+use Prim.Native.Nat.{ℕ, ◌/◌}
 use mathlib.Core.List.{List}
-use lib.ListN.{length, get_or}
+use lib.ListN.{length}
 use borrow.Author.Tests.{eq-eqb, ne_eqb}
 use Rattle.rules.specs.Refusals.{first_refusal}
 use Rattle.octets.specs.Equality.{same_bytes}
 use Rattle.node.specs.Node.{node_hash}
+use Rattle.stray.specs.StrayBits.{clear_node}
 use Rattle.paths.specs.Path.{path_root}
 use Rattle.entries.specs.Entry.{entry_of}
 use Rattle.sizes.specs.Sizes.{segment_size_allowed, offset_allowed, place_allowed, segment_path_levels}
@@ -15,7 +16,7 @@ use Rattle.sizes.specs.Sizes.{entry_path_levels, segment_position}
 use Rattle.record.specs.Form.{Fields, fields, parsed}
 use Rattle.record.specs.Check.{deal_terms, segment_path_root, entry_path_root, paths_sized, paths_clear, judgement}
 use Rattle.record.specs.declared.ParsedRecord.{ParsedRecord as Read}
-use Rattle.record.proofs.Tests.{clear, stray, sized, leads}
+use Rattle.record.proofs.Tests.{sized, leads}
 
 module _ (commitment : List ℕ) (d number : ℕ) (x : Read) (u v : List ℕ) where
   -- the fields that are judged, with the two paths, and their code
@@ -45,12 +46,12 @@ module _ (commitment : List ℕ) (d number : ℕ) (x : Read) (u v : List ℕ) wh
           wrong_lengths e = rw (eq-eqb x.number number n, s, o, p, e)
 
           module _ (l : paths_sized d judged ≡ true) where
-            pub stray_commitment : 64 ≤ get_or x.commitment 31 0 → 8 ≡ code
-            stray_commitment h = rw (eq-eqb x.number number n, s, o, p, l, stray x.commitment h)
+            pub stray_commitment : clear_node x.commitment ≡ false → 8 ≡ code
+            stray_commitment h = rw (eq-eqb x.number number n, s, o, p, l, h)
 
-            module _ (k : get_or x.commitment 31 0 < 64) where
+            module _ (k : clear_node x.commitment ≡ true) where
               pub stray_paths : paths_clear judged ≡ false → 19 ≡ code
-              stray_paths e = rw (eq-eqb x.number number n, s, o, p, l, clear x.commitment k, e)
+              stray_paths e = rw (eq-eqb x.number number n, s, o, p, l, k, e)
 
               module _ (c : paths_clear judged ≡ true) where
                 -- where the segment path leads from its position
@@ -63,7 +64,7 @@ module _ (commitment : List ℕ) (d number : ℕ) (x : Read) (u v : List ℕ) wh
                   pub segment_elsewhere : led ≡ false → 9 ≡ code
                   segment_elsewhere e =
                       let w : same_bytes (segment_path_root d judged) commitment ≡ false = sym segment_leads ∙ e in
-                      rw (eq-eqb x.number number n, s, o, p, l, clear x.commitment k, c, w)
+                      rw (eq-eqb x.number number n, s, o, p, l, k, c, w)
 
                   module _ (t : led ≡ true) where
                     segment_there : same_bytes (segment_path_root d judged) commitment ≡ true
@@ -80,9 +81,9 @@ module _ (commitment : List ℕ) (d number : ℕ) (x : Read) (u v : List ℕ) wh
                       pub entry_elsewhere : led' ≡ false → 10 ≡ code
                       entry_elsewhere e =
                           let w : same_bytes (entry_path_root d judged) commitment ≡ false = sym entry_leads ∙ e in
-                          rw (eq-eqb x.number number n, s, o, p, l, clear x.commitment k, c, segment_there, w)
+                          rw (eq-eqb x.number number n, s, o, p, l, k, c, segment_there, w)
 
                       pub accepted : led' ≡ true → 0 ≡ code
                       accepted e =
                           let w : same_bytes (entry_path_root d judged) commitment ≡ true = sym entry_leads ∙ e in
-                          rw (eq-eqb x.number number n, s, o, p, l, clear x.commitment k, c, segment_there, w)
+                          rw (eq-eqb x.number number n, s, o, p, l, k, c, segment_there, w)

@@ -1,15 +1,16 @@
 -- The tests of the check, from what the code finds.
-use mathlib.Core.Path.{◌≡◌, sym, ◌∙◌}
+use mathlib.Core.Path.{◌≡◌, refl, sym, ap, ◌∙◌}
 use mathlib.Core.Bool.{Bool, true, false, ◌&&◌}
-use Prim.Native.Nat.{ℕ, ◌*◌, ◌/◌, ◌≤◌, ◌<◌}
+use Prim.Native.Nat.{ℕ, ◌*◌, ◌/◌}
 use native.Mathlib.Omega.{arith}
 use mathlib.Core.List.{List}
 use lib.Dec.{eqb}
-use lib.ListN.{length, get_or}
-use borrow.Author.Tests.{eqb-true, lt-ltb, le-ltb}
+use lib.ListN.{length, take}
+use lib.Seq.{take_all}
+use borrow.Author.Tests.{eqb-true}
 use Rattle.rules.specs.RefusalLaws.{and_left, and_right}
 use Rattle.octets.specs.Equality.{same_bytes}
-use Rattle.stray.specs.StrayBits.{clear_node}
+use Rattle.stray.specs.StrayBits.{clear_node, clear_nodes, no_stray_bits}
 use Rattle.paths.specs.Path.{path_root}
 use Rattle.sizes.specs.Sizes.{segment_path_levels, entry_path_levels}
 
@@ -20,14 +21,18 @@ passed e h = sym e ∙ h
 pub failed : {answer test : Bool} → answer ≡ test → answer ≡ false → test ≡ false
 failed e h = sym e ∙ h
 
--- stray bits by byte 31
-pub clear : (node : List ℕ) → get_or node 31 0 < 64 → clear_node node ≡ true
-unfolding clear_node
-clear node h = lt-ltb (get_or node 31 0) 64 h
+-- a run of one node has no stray bits where the node has none
+and_true : (b : Bool) → (b && true) ≡ b
+and_true true = refl
+and_true false = refl
 
-pub stray : (node : List ℕ) → 64 ≤ get_or node 31 0 → clear_node node ≡ false
-unfolding clear_node
-stray node h = le-ltb (get_or node 31 0) 64 h
+pub one_node : (node : List ℕ) → length node ≡ 32 → no_stray_bits node ≡ clear_node node
+unfolding clear_nodes
+one_node node l =
+    let n : length node / 32 ≡ 1 = omega arith in
+    ap (λ (k : ℕ). clear_nodes k node) n
+    ∙ and_true (clear_node (take 32 node))
+    ∙ ap clear_node (take_all 32 node (omega arith))
 
 -- the lengths of both paths
 pub sized : (d size : ℕ) (u v : List ℕ)

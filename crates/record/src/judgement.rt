@@ -67,7 +67,7 @@ pub(crate) fn judge(
     if !paths_sized(d, x.size, x.segment_path.len(), x.entry_path.len()) {
         return Err(Refusal::PathLength);
     }
-    if x.commitment[31] >= 64 {
+    if !stray::no_stray_bits(&x.commitment) {
         return Err(Refusal::CommitmentBits);
     }
     if !paths_clear(x.segment_path, x.entry_path) {

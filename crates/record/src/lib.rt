@@ -29,6 +29,8 @@ pub struct ParsedRecord<'a> {
 
 // The fields of a record that is accepted against a deal's commitment, size and number; else the refusal: 1 to 3 as
 // numbered, 21, 4 to 8 as numbered, 19, 9, 10.
+// Commitment, size and number are three parameters: C and the program `check_record` give them as three values, and
+// they go down one call.
 pub fn accepted<'a>(
     commitment: &[u8],
     size: u64,
@@ -44,6 +46,7 @@ pub fn accepted<'a>(
     if !sizes::deal_size_allowed(size) {
         return Err(Refusal::Size);
     }
+    // The named form of the record check asks that this refusal is named here, so it is no `?`.
     let Ok(fields) = parse(record) else {
         return Err(Refusal::Form);
     };

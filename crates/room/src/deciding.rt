@@ -43,6 +43,7 @@ pub fn decide(
 }
 
 // The answer to a decision: the numbers of the slot that keeps the segment, or those that were decided.
+// The ranges are an array here too: of a slice it would have to be asked that it has a range for each slot.
 pub fn answer(size: u64, ranges: &[Range; 128], decision: Decision) -> Result<Placed, Unbooked>
     requires size_value { lent_size_allowed size ≡ true }
     requires slot_below { SlotBelow (entry_count size) (decision_of decision) }

@@ -20,7 +20,8 @@ pub struct Range {
     pub area: u64,
 }
 
-// What booking decides: a refusal, the slot that keeps the segment already, or the slot and the offset for it.
+// What booking decides: a refusal, the slot that keeps the segment already, or the slot and the offset for it. It is no
+// `Result`: it has three outcomes, of which one carries a slot and an offset, and `answer` reads each.
 #[derive(Clone, Copy, Debug, PartialEq, Eq)]
 pub enum Decision {
     Refuse(Refusal),
@@ -58,6 +59,7 @@ impl From<Refusal> for Unbooked {
 // entry place of the segment; zeros on a refusal but 15.
 #[derive(Clone, Copy, Debug, PartialEq, Eq)]
 pub struct Booked {
+    // The code is a byte: in a line of a log it may be any until the line's form is checked.
     pub code: u8,
     pub offset: u64,
     pub place: u64,

@@ -1,7 +1,8 @@
 -- Each test that is passed leaves the rest of the judgement.
+use mathlib.Core.Path.{◌∙◌}
 use native.Mathlib.Omega.{arith}
 use Rattle.sizes.specs.SizesLaws.{deal_size_lem, segment_size}
-use Rattle.record.proofs.Tests.{passed, failed}
+use Rattle.record.proofs.Tests.{passed, failed, one_node}
 use Rattle.record.proofs.JudgeCases.{wrong_number, wrong_size, wrong_offset, wrong_place, wrong_lengths}
 use Rattle.record.proofs.JudgeCases.{stray_commitment, stray_paths, segment_elsewhere, entry_elsewhere, accepted}
 use Rattle.record.proofs.judgement.judge.Goals as goal
@@ -48,14 +49,14 @@ returns-then-not-paths_sized c =
     (passed c.place_allowed.ensures c.if-not-place_allowed.false)
     (failed c.paths_sized.ensures c.if-not-paths_sized.true)
 
-pub returns-then-x-ge64 : goal.returns-then-x-ge64
-returns-then-x-ge64 c =
+pub returns-then-not-no_stray_bits : goal.returns-then-not-no_stray_bits
+returns-then-not-no_stray_bits c =
     let a = c.args in
     stray_commitment a.commitment.now a.d a.number a.x.now a.x.now.segment_path.now a.x.now.entry_path.now
     (omega arith) (passed c.segment_size_allowed.ensures c.if-not-segment_size_allowed.false)
     (passed c.offset_allowed.ensures c.if-not-offset_allowed.false)
     (passed c.place_allowed.ensures c.if-not-place_allowed.false)
-    (passed c.paths_sized.ensures c.if-not-paths_sized.false) c.if-x-ge64.true
+    (passed c.paths_sized.ensures c.if-not-paths_sized.false) (failed (c.no_stray_bits.ensures ∙ one_node a.x.now.commitment (omega arith)) c.if-not-no_stray_bits.true)
 
 pub returns-then-not-paths_clear : goal.returns-then-not-paths_clear
 returns-then-not-paths_clear c =
@@ -64,7 +65,7 @@ returns-then-not-paths_clear c =
     (omega arith) (passed c.segment_size_allowed.ensures c.if-not-segment_size_allowed.false)
     (passed c.offset_allowed.ensures c.if-not-offset_allowed.false)
     (passed c.place_allowed.ensures c.if-not-place_allowed.false)
-    (passed c.paths_sized.ensures c.if-not-paths_sized.false) c.if-x-ge64.false
+    (passed c.paths_sized.ensures c.if-not-paths_sized.false) (passed (c.no_stray_bits.ensures ∙ one_node a.x.now.commitment (omega arith)) c.if-not-no_stray_bits.false)
     (failed c.paths_clear.ensures c.if-not-paths_clear.true)
 
 pub segment_position-position-requires : goal.segment_position-position-requires
@@ -81,7 +82,7 @@ returns-then-not-leads_to c =
     (omega arith) (passed c.segment_size_allowed.ensures c.if-not-segment_size_allowed.false)
     (passed c.offset_allowed.ensures c.if-not-offset_allowed.false)
     (passed c.place_allowed.ensures c.if-not-place_allowed.false)
-    (passed c.paths_sized.ensures c.if-not-paths_sized.false) c.if-x-ge64.false
+    (passed c.paths_sized.ensures c.if-not-paths_sized.false) (passed (c.no_stray_bits.ensures ∙ one_node a.x.now.commitment (omega arith)) c.if-not-no_stray_bits.false)
     (passed c.paths_clear.ensures c.if-not-paths_clear.false) c.segment_position-position.ensures
     c.leads_to.ensures c.if-not-leads_to.true
 
@@ -92,7 +93,7 @@ returns-then-not-leads_to-2 c =
     (omega arith) (passed c.segment_size_allowed.ensures c.if-not-segment_size_allowed.false)
     (passed c.offset_allowed.ensures c.if-not-offset_allowed.false)
     (passed c.place_allowed.ensures c.if-not-place_allowed.false)
-    (passed c.paths_sized.ensures c.if-not-paths_sized.false) c.if-x-ge64.false
+    (passed c.paths_sized.ensures c.if-not-paths_sized.false) (passed (c.no_stray_bits.ensures ∙ one_node a.x.now.commitment (omega arith)) c.if-not-no_stray_bits.false)
     (passed c.paths_clear.ensures c.if-not-paths_clear.false) c.segment_position-position.ensures
     c.leads_to.ensures c.if-not-leads_to.false c.entry_of-entry.ensures c.node_hash.ensures
     c.leads_to-2.ensures c.if-not-leads_to-2.true
@@ -104,7 +105,7 @@ returns c =
     (omega arith) (passed c.segment_size_allowed.ensures c.if-not-segment_size_allowed.false)
     (passed c.offset_allowed.ensures c.if-not-offset_allowed.false)
     (passed c.place_allowed.ensures c.if-not-place_allowed.false)
-    (passed c.paths_sized.ensures c.if-not-paths_sized.false) c.if-x-ge64.false
+    (passed c.paths_sized.ensures c.if-not-paths_sized.false) (passed (c.no_stray_bits.ensures ∙ one_node a.x.now.commitment (omega arith)) c.if-not-no_stray_bits.false)
     (passed c.paths_clear.ensures c.if-not-paths_clear.false) c.segment_position-position.ensures
     c.leads_to.ensures c.if-not-leads_to.false c.entry_of-entry.ensures c.node_hash.ensures
     c.leads_to-2.ensures c.if-not-leads_to-2.false
