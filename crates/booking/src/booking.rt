@@ -89,6 +89,8 @@ pub fn book(
 // The same with a tree beside the deal, whatever it holds: 12 for another length than the deal asks, after 11; the test
 // for 15 reads kept from it; where the segment is written every node above the bytes written is worked out anew from
 // its children as they then stand, and no other byte of the tree changes.
+// There are two functions, as in the C interface. Of an optional tree to write no clause would say what it holds
+// afterwards where there is none.
 pub fn book_with_tree(
     deal: &mut [u8],
     tree: &mut [u8],

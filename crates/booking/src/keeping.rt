@@ -8,6 +8,8 @@ ghost use Rattle.houses.specs.Houses.{table_sized};
 ghost use Rattle.booking.specs.AreaNode.{area_node};
 ghost use Rattle.booking.specs.Booking.{keeps_segment, lowest_keeping};
 
+// That the segment's size is allowed in the deal is a fact about both; a struct of both would hold the deal while it is
+// written.
 use crate::segment::Segment;
 use lent::Lent;
 use room::Range;

@@ -57,6 +57,8 @@ pub fn cancel(deal: &mut [u8], table: &mut [u8], house: u8, place: u64) -> Resul
 // The same with a tree beside the deal, whatever it holds: 12 for another length than the deal asks, after 11; where
 // the entry is cancelled every node above the 64 bytes is worked out anew from its children as they then stand, and no
 // other byte of the tree changes.
+// There are two functions, as in the C interface. Of an optional tree to write no clause would say what it holds
+// afterwards where there is none.
 pub fn cancel_with_tree(
     deal: &mut [u8],
     tree: &mut [u8],
