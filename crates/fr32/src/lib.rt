@@ -13,7 +13,9 @@ ghost use Rattle.fr32.specs.Padding.{raw_length_allowed, segment_length};
 pub use padding::pad;
 pub use unpadding::unpad;
 
-const LARGEST_RAW: u64 = 8323072; // its segment has 2^23 bytes
+// Its segment has 2^23 bytes. Seven contracts ask this one bound of one number: a type for it would be made and taken
+// apart at every call.
+const LARGEST_RAW: u64 = 8323072;
 
 // Whether an archive may have n raw bytes.
 fn raw_length_allowed(n: u64) -> bool

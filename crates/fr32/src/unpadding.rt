@@ -36,8 +36,8 @@ fn only_raw_bits(n: usize, segment: &[u8]) -> bool
     stray::no_stray_bits(segment) && raw_byte(segment, n) == 0
 }
 
-// Sixty-four data bits of the segment, from bit 64 w on: word w of the raw bytes. It is no instance of the routine for a
-// byte: a byte may lie past the segment's end, a word may not.
+// Sixty-four data bits of the segment, from bit 64 w on: word w of the raw bytes. It is no instance of the routine for
+// a byte: a byte may lie past the segment's end, a word may not.
 fn raw_word(segment: &[u8], w: usize) -> u64
     requires { (w ≤ 1040384)
         × (32 * (64 * w / 254) + 8 * (64 * w % 254 / 64) + 16 ≤ length segment.now) }
@@ -71,9 +71,9 @@ fn write_raw(n: usize, segment: &[u8], output: &mut [u8])
 }
 
 // Writes the raw bytes of a segment, as many as the caller names, into the first bytes of `output`, and answers their
-// number; the rest of `output` stays. Size: the raw length is not allowed. SegmentLength: the segment has another length
-// than that gives. StrayBits: it has stray bits, or bits after the last raw bit. Output: it is shorter than the raw
-// bytes. Then nothing is written.
+// number; the rest of `output` stays. Size: the raw length is not allowed. SegmentLength: the segment has another
+// length than that gives. StrayBits: it has stray bits, or bits after the last raw bit. Output: it is shorter than the
+// raw bytes. Then nothing is written.
 pub fn unpad(raw_length: u64, segment: &[u8], output: &mut [u8]) -> Result<usize, Refusal>
     ensures { (written_answer result ≡ unpad_answer raw_length segment.now output.old)
         × (output.new ≡ unpad_output raw_length segment.now output.old) }

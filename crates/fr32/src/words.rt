@@ -12,7 +12,7 @@ pub(crate) fn across_words(low: u64, high: u64, shift: u64) -> u64
     if shift == 0 {
         return low;
     }
-    std::num::wrapping_add_u64(low >> shift, high << (64 - shift))
+    (low >> shift).wrapping_add(high << (64 - shift))
 }
 
 // The same where the low word is the last of a node. It has no const parameter in common with `across_words`, as

@@ -1,4 +1,4 @@
-use Rattle.std.proofs.Common.{◌∙◌, rules}
+use Rattle.std.proofs.Common.{rules}
 use Rattle.fr32.proofs.WordFormulas.{not_shifted, shifted}
 use Rattle.fr32.proofs.words.across_words.Goals as goal
 
@@ -9,4 +9,4 @@ returns-then-shift-eq0 c =
 
 pub returns : goal.returns
 returns c =
-    c.wrapping_add_u64.ensures.value ∙ shifted c.args.low c.args.high c.args.shift c.requires
+    shifted c.args.low c.args.high c.args.shift c.requires
