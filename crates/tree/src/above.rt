@@ -59,8 +59,8 @@ fn fill_few(below: &[u8], above: &mut [u8], count: usize)
 }
 
 // Writes any number of nodes: more than sixteen go by two parts, of which the first is made of sixteens. Two parts and
-// no loop: within the loop over the heights of a tree a compiler would put the loads of the lanes in line, and read them
-// byte by byte.
+// no loop: within the loop over the heights of a tree a compiler would put the loads of the lanes in line, and read
+// them byte by byte.
 pub(crate) fn fill_part(below: &[u8], above: &mut [u8])
     requires { RowSized (length above.old / 32) below.now above.old }
     ensures { above.new ≡ row_above (length above.old / 32) below.now }

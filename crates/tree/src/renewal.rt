@@ -37,7 +37,7 @@ pub fn renew(deal: &[u8], tree: &mut [u8], top: usize, from: usize, len: usize)
     let last = from + len - 1;
     let mut span: usize = 32;
     for below in 0..top {
-        span = span * 2;
+        span *= 2;
         let first = from / span;
         renew_row(deal, tree, below, first, last / span + 1 - first);
     }
