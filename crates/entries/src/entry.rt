@@ -3,6 +3,7 @@ ghost use Rattle.std.specs.Prelude.{◌≡◌, length};
 ghost use Rattle.octets.specs.Splice.{part};
 ghost use Rattle.entries.specs.Checksum.{checksum_of};
 ghost use Rattle.entries.specs.Entry.{entry_of, checksum_right, kind_of, made_entry, read_entry};
+ghost use Rattle.entries.specs.Entry.{commitment_in, offset_in, size_in};
 ghost use Rattle.entries.specs.Answers.{made_as, read_answer};
 
 use crate::{EntryKind, Fields, ReadEntry};
@@ -58,6 +59,20 @@ pub fn kind_of(entry: &[u8]) -> EntryKind
     EntryKind::Valid
 }
 
+// The three fields of an entry, whatever its kind.
+pub fn fields_of(entry: &[u8]) -> Fields
+    requires { length entry.now ≡ 64 }
+    ensures commitment { result.commitment ≡ commitment_in entry.now }
+    ensures offset { result.offset ≡ offset_in entry.now }
+    ensures size { result.size ≡ size_in entry.now }
+{
+    Fields {
+        commitment: octets::array_at(entry, 0),
+        offset: octets::read_u64(entry, 32),
+        size: octets::read_u64(entry, 40),
+    }
+}
+
 // The entry for a lent commitment and two numbers, which are taken as they are; 1 for a commitment that is not 32 bytes
 // long, 8 for one with stray bits.
 pub fn make_entry(commitment: &[u8], offset: u64, size: u64) -> Result<[u8; 64], Refusal>
@@ -82,10 +97,6 @@ pub fn read_entry(entry: &[u8]) -> Result<ReadEntry, Refusal>
     match kind_of(entry) {
         EntryKind::Blank => Ok(ReadEntry::Blank),
         EntryKind::Damaged => Ok(ReadEntry::Damaged),
-        EntryKind::Valid => Ok(ReadEntry::Valid(Fields {
-            commitment: octets::array_at(entry, 0),
-            offset: octets::read_u64(entry, 32),
-            size: octets::read_u64(entry, 40),
-        })),
+        EntryKind::Valid => Ok(ReadEntry::Valid(fields_of(entry))),
     }
 }

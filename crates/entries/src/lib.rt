@@ -3,7 +3,7 @@
 
 mod entry; // entry.rt: entries and their checksum
 
-pub use entry::{entry_of, kind_of, make_entry, read_entry};
+pub use entry::{entry_of, fields_of, kind_of, make_entry, read_entry};
 
 // The kind of an entry: blank where all its 64 bytes are zero, else damaged where its checksum is wrong, else valid.
 #[derive(Clone, Copy, Debug, PartialEq, Eq, Drop)]

@@ -1,5 +1,5 @@
 use Rattle.std.proofs.Common.{sym, ◌∙◌, eq-eqb, ne_eqb}
-use Rattle.entries.specs.Entry.{commitment_in, offset_in, size_in, read_entry}
+use Rattle.entries.specs.Entry.{read_entry}
 use Rattle.entries.proofs.entry.read_entry.Goals as goal
 
 pub returns-then-entry-ne64 : goal.returns-then-entry-ne64
@@ -15,12 +15,12 @@ unfolding read_entry
 returns-in-Damaged c = simp (eq-eqb _ _ c.if-entry-ne64.false, sym c.kind_of.ensures ∙ c.in-Damaged.is)
 
 pub returns-in-Valid : goal.returns-in-Valid
-unfolding read_entry commitment_in offset_in size_in
+unfolding read_entry
 returns-in-Valid c =
     simp (
       eq-eqb _ _ c.if-entry-ne64.false,
       sym c.kind_of.ensures ∙ c.in-Valid.is,
-      c.array_at.ensures,
-      c.read_u64.ensures,
-      c.read_u64-in-Valid.ensures,
+      c.fields_of.ensures.commitment,
+      c.fields_of.ensures.offset,
+      c.fields_of.ensures.size,
     )
