@@ -4,8 +4,6 @@ use mathlib.Core.Bool.{Bool, true, false}
 use mathlib.Core.List.{List}
 use Prim.Native.Nat.{ℕ}
 use Rattle.octets.specs.Equality.{same_bytes}
-use Rattle.octets.specs.LittleEndian.{number_of}
-use Rattle.octets.specs.Splice.{part}
 use Rattle.merkle.specs.NodeSource.{NodeSource}
 use Rattle.sizes.specs.Sizes.{segment_size_allowed, offset_allowed, segment_level, segment_position}
 use Rattle.entries.specs.Entry.{commitment_in, offset_in, size_in, is_kind}
@@ -19,19 +17,19 @@ module _ (d : ℕ) (entry : List ℕ) where
   unfolding row_of standing
   row_not_valid e = rw e
 
-  module _ {size : ℕ} (e : is_kind EntryKind.Valid entry ≡ true) (z : size ≡ number_of (part entry 40 8)) where
+  module _ {size : ℕ} (e : is_kind EntryKind.Valid entry ≡ true) (z : size ≡ size_in entry) where
     pub row_size_refused : segment_size_allowed d size ≡ false → free ≡ row_of d entry
-    unfolding row_of standing size_in
+    unfolding row_of standing
     row_size_refused s = rw (e, ← z, s)
 
-    module _ {offset : ℕ} (s : segment_size_allowed d size ≡ true) (o : offset ≡ number_of (part entry 32 8)) where
+    module _ {offset : ℕ} (s : segment_size_allowed d size ≡ true) (o : offset ≡ offset_in entry) where
       pub row_offset_refused : offset_allowed d offset size ≡ false → free ≡ row_of d entry
-      unfolding row_of standing size_in offset_in
+      unfolding row_of standing
       row_offset_refused p = rw (e, ← z, ← o, s, p)
 
-      pub row_stands : {commitment : List ℕ} → offset_allowed d offset size ≡ true → commitment ≡ part entry 0 32
+      pub row_stands : {commitment : List ℕ} → offset_allowed d offset size ≡ true → commitment ≡ commitment_in entry
           → holds commitment offset size ≡ row_of d entry
-      unfolding row_of standing size_in offset_in commitment_in
+      unfolding row_of standing
       row_stands p c = rw (e, ← z, ← o, ← c, s, p)
 
 -- whether the node over an answer's segment is the commitment that it names

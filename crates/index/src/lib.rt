@@ -7,7 +7,7 @@ mod slots; // slots.rt: standing and kept entries
 mod tallying; // tallying.rt: how many slots are of each kind
 
 pub use finding::{find, find_numbers};
-pub use slots::{area_of, kept_at, segment_node, standing_at};
+pub use slots::{kept_at, segment_node, standing_at};
 pub use tallying::tally;
 
 // Where a segment was found: its offset and size, and the place of its entry.
@@ -26,7 +26,8 @@ pub struct Tallied {
     pub valid: u64,
 }
 
-// The area of a segment: where it starts, and how many bytes it takes up.
+// The area of a segment: where it starts, and how many bytes it takes up. It is not `room::Range`: the crate index does
+// not stand on the crate room.
 #[derive(Clone, Copy, PartialEq, Eq, Drop)]
 pub(crate) struct Area {
     pub offset: u64,

@@ -4,7 +4,7 @@ ghost use Rattle.octets.specs.Equality.{same_bytes};
 ghost use Rattle.sizes.specs.Sizes.{lent_size_allowed, segment_size_allowed, offset_allowed};
 ghost use Rattle.sizes.specs.Sizes.{segment_level, segment_position};
 ghost use Rattle.lent.specs.Seen.{seen};
-ghost use Rattle.index.specs.Slots.{entry_at, row_as, row_of, kept_row, row_area};
+ghost use Rattle.index.specs.Slots.{entry_at, row_as, row_of, kept_row};
 
 use entries::{EntryKind, Fields};
 use lent::Lent;
@@ -16,33 +16,19 @@ pub fn standing_at(deal: &[u8], place: usize) -> Option<Fields>
 {
     let end = place + 64;
     let entry = &deal[place..end];
+    // An `if` with `!=` was tried here: the proof did not close.
     let EntryKind::Valid = entries::kind_of(entry) else {
         return None;
     };
+    let fields = entries::fields_of(entry);
     let deal_size = deal.len() as u64;
-    let size = octets::read_u64(entry, 40);
-    if !sizes::segment_size_allowed(deal_size, size) {
+    if !sizes::segment_size_allowed(deal_size, fields.size) {
         return None;
     }
-    let offset = octets::read_u64(entry, 32);
-    if !sizes::offset_allowed(deal_size, offset, size) {
+    if !sizes::offset_allowed(deal_size, fields.offset, fields.size) {
         return None;
     }
-    Some(Fields {
-        commitment: octets::array_at(entry, 0),
-        offset,
-        size,
-    })
-}
-
-// How many bytes the segment of an entry takes up; 0 where none stands.
-pub fn area_of(row: Option<Fields>) -> u64
-    ensures { result ≡ row_area (row_as row) }
-{
-    match row {
-        Some(row) => sizes::area(row.size),
-        None => 0,
-    }
+    Some(fields)
 }
 
 // The node over the area of a segment of a lent deal.
@@ -66,8 +52,7 @@ pub(crate) fn segment_has(deal: &Lent, row: Fields) -> bool
         ((seen deal.now).nodes (segment_level row.size) (segment_position row.offset row.size))
         row.commitment }
 {
-    let node = segment_node(deal, row.offset, row.size);
-    node == row.commitment
+    segment_node(deal, row.offset, row.size) == row.commitment
 }
 
 // The fields of the entry at a place of a lent deal, where it is kept.

@@ -7,4 +7,4 @@ use Rattle.index.proofs.slots.segment_has.Goals as goal
 pub returns : goal.returns
 returns c =
     c.eq.ensures ∙ pointwise_same _ _
-    ∙ ap (λ (l : List ℕ). same_bytes l c.args.row.commitment) c.segment_node-node.ensures
+    ∙ ap (λ (l : List ℕ). same_bytes l c.args.row.commitment) c.segment_node.ensures

@@ -37,7 +37,7 @@ returns-then-not-segment_size_allowed c =
     let entry = lent deal c.args.place in
     let valid = is_valid entry c.kind_of.result c.kind_of.ensures (cc) in
     at_place deal c.args.place
-    (row_size_refused (length deal) entry valid c.read_u64-size.ensures
+    (row_size_refused (length deal) entry valid c.fields_of-fields.ensures.size
     (told c.segment_size_allowed.ensures c.if-not-segment_size_allowed.true))
 
 pub offset_allowed-requires : goal.offset_allowed-requires
@@ -52,8 +52,8 @@ returns-then-not-offset_allowed c =
     let entry = lent deal c.args.place in
     let valid = is_valid entry c.kind_of.result c.kind_of.ensures (cc) in
     at_place deal c.args.place
-    (row_offset_refused (length deal) entry valid c.read_u64-size.ensures
-    (told c.segment_size_allowed.ensures c.if-not-segment_size_allowed.false) c.read_u64-offset.ensures
+    (row_offset_refused (length deal) entry valid c.fields_of-fields.ensures.size
+    (told c.segment_size_allowed.ensures c.if-not-segment_size_allowed.false) c.fields_of-fields.ensures.offset
     (told c.offset_allowed.ensures c.if-not-offset_allowed.true))
 
 pub returns : goal.returns
@@ -62,6 +62,6 @@ returns c =
     let entry = lent deal c.args.place in
     let valid = is_valid entry c.kind_of.result c.kind_of.ensures (cc) in
     at_place deal c.args.place
-    (row_stands (length deal) entry valid c.read_u64-size.ensures
-    (told c.segment_size_allowed.ensures c.if-not-segment_size_allowed.false) c.read_u64-offset.ensures
-    (told c.offset_allowed.ensures c.if-not-offset_allowed.false) c.array_at.ensures)
+    (row_stands (length deal) entry valid c.fields_of-fields.ensures.size
+    (told c.segment_size_allowed.ensures c.if-not-segment_size_allowed.false) c.fields_of-fields.ensures.offset
+    (told c.offset_allowed.ensures c.if-not-offset_allowed.false) c.fields_of-fields.ensures.commitment)
