@@ -6,7 +6,7 @@ use mathlib.Core.List.{List}
 use Prim.Native.Nat.{ℕ, ◌+◌, ◌≤◌, ◌<◌}
 use native.Mathlib.Omega.{arith}
 use lib.ListN.{length}
-use Rattle.std.specs.Prelude.{Result, Ok, Err}
+use Rattle.std.specs.Prelude.{Some, Result, Ok, Err}
 use Rattle.std.specs.Result.{IsErrAnd}
 use Rattle.rules.specs.Answers.{number}
 use Rattle.rules.specs.declared.Refusal.{Refusal}
@@ -190,7 +190,7 @@ module _ (deal tree table : List ℕ) (house : ℕ) (segment : List ℕ) where
     pub new_usable : Usable (tree_deal new tree)
     new_usable =
         let b = (place_bookable beside table house segment (booked_of (Ok at)) e refl).bookable in
-        usable_same deal tree new tree (ap length w ∙ booked_length beside table house segment) refl (bookable_usable b)
+        usable_same deal (Some tree) new (Some tree) (ap length w ∙ booked_length beside table house segment) refl (bookable_usable b)
 
     pub tree_renewed : renewed_for new tree at.offset (area (length segment)) at.place
         ≡ booked_tree deal tree table house segment

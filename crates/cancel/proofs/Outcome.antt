@@ -193,7 +193,7 @@ module _ (deal tree table : List ℕ) (house place : ℕ) where
 
     pub new_usable : Usable (tree_deal new tree)
     new_usable =
-        usable_same deal tree new tree size_same refl
+        usable_same deal (Some tree) new (Some tree) size_same refl
         (usable (tree_deal deal tree) (facts (tree_deal deal tree) table house place e).not_refused)
 
     pub tree_renewed : renewed (deal_level (length new)) new tree place 64 ≡ cancelled_tree deal tree table house place

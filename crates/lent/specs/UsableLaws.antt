@@ -1,6 +1,6 @@
 -- Where the nodes of a lent deal may be looked up.
-use Rattle.std.specs.Prelude.{◌≡◌, ℕ, ◌+◌, ◌-◌, ◌*◌, ◌^◌, ◌≤◌, ◌<◌, List, length, eqb, Option, Some, None}
-use Rattle.std.proofs.Common.{sym, ap, ap₂, ◌∙◌, le_trans, le_of_eq, arith}
+use Rattle.std.specs.Prelude.{◌≡◌, Bool, true, ℕ, ◌+◌, ◌-◌, ◌*◌, ◌^◌, ◌≤◌, ◌<◌, List, length, eqb, Option, Some, None, option_map}
+use Rattle.std.proofs.Common.{refl, sym, ap, ap₂, ◌∙◌, le_trans, le_of_eq, arith}
 use Rattle.merkle.specs.TreeLaws.{within, node_at_length}
 use Rattle.sizes.specs.Sizes.{lent_size_allowed, deal_level}
 use Rattle.sizes.specs.SizesLaws.{LentSize, lent_size}
@@ -9,7 +9,7 @@ use Rattle.paths.specs.NodesSized.{NodesSized}
 use Rattle.tree.specs.Place.{NodeInTree}
 use Rattle.tree.specs.TreeNodes.{SizedFor}
 use Rattle.tree.specs.TreeNodesLaws.{sized_of_test, node_length}
-use Rattle.lent.specs.LentDeal.{LentDeal, deal_size, lent_of, tree_deal}
+use Rattle.lent.specs.LentDeal.{LentDeal, deal_size, lent_of, tree_fits, tree_deal}
 use Rattle.lent.specs.Usable.{Usable}
 
 module _ {deal : LentDeal} (u : Usable deal) where
@@ -44,13 +44,26 @@ tree_sized_lem bytes tree u =
     let l : 512 ≤ length bytes = (usable_size u).deal.size_low in
     sized_of_test bytes tree (omega arith) u.tree_sized_lem
 
--- only the two lengths are asked
-pub usable_same : (bytes tree new_bytes new_tree : List ℕ) → length new_bytes ≡ length bytes
-    → length new_tree ≡ length tree → Usable (tree_deal bytes tree) → Usable (tree_deal new_bytes new_tree)
+-- whether a tree of a length fits
+abbrev fits_by : ℕ → Option ℕ → Bool
+fits_by size (Some n) = eqb n (size - 32)
+fits_by size None = true
+
+fits_by_length : (size : ℕ) (tree : Option (List ℕ)) → tree_fits size tree ≡ fits_by size (option_map length tree)
+fits_by_length size (Some tree) = refl
+fits_by_length size None = refl
+
+-- only the two lengths are asked, with a tree or without one
+pub usable_same : (bytes : List ℕ) (tree : Option (List ℕ)) (new_bytes : List ℕ) (new_tree : Option (List ℕ))
+    → length new_bytes ≡ length bytes → option_map length new_tree ≡ option_map length tree
+    → Usable (lent_of bytes tree) → Usable (lent_of new_bytes new_tree)
 usable_same bytes tree new_bytes new_tree e f u =
     record {
       size_allowed = ap lent_size_allowed e ∙ u.size_allowed;
-      tree_sized_lem = ap₂ (λ (n d : ℕ). eqb n (d - 32)) f e ∙ u.tree_sized_lem;
+      tree_sized_lem = fits_by_length (length new_bytes) new_tree
+          ∙ ap₂ fits_by e f
+          ∙ sym (fits_by_length (length bytes) tree)
+          ∙ u.tree_sized_lem;
     }
 
 -- every node has 32 bytes, with a tree as it stands or without one

@@ -21,7 +21,8 @@ pub fn fill_tree(deal: &[u8], tree: &mut [u8]) -> Result<(), Refusal>
     Ok(())
 }
 
-// Brings the tree beside a lent deal up to date after `len` bytes of the deal were written from a place on.
+// Brings the tree beside a lent deal up to date after `len` bytes of the deal were written from a place on. It
+// takes no `Lent`: the tree is written, and a `Lent` only reads its tree.
 pub fn renew_tree(deal: &[u8], tree: &mut [u8], from: usize, len: usize)
     requires usable { Usable (tree_deal deal.now tree.old) }
     requires len_nonzero { (0 < len) × (from + len ≤ length deal.now) }

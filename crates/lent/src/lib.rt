@@ -17,8 +17,7 @@ pub use opening::tree_sized;
 
 // A deal whose nodes may be looked up: its size is allowed, and a tree beside it has the length that it asks. With a
 // tree the inner nodes are taken as they stand there, without one they are worked out from the deal's bytes.
-#[derive(Drop)]
-#[derive(Clone, Copy)]
+#[derive(Clone, Copy, Drop)]
 pub struct Lent<'d, 't> {
     pub bytes: &'d [u8],
     pub tree: Option<&'t [u8]>,
@@ -26,8 +25,7 @@ pub struct Lent<'d, 't> {
 }
 
 // A node of the deal's tree on a level: its position there, and its bytes.
-#[derive(Drop)]
-#[derive(Clone, Copy)]
+#[derive(Clone, Copy, Drop)]
 pub struct PathNode {
     pub position: usize,
     pub node: [u8; 32],

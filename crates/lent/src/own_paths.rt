@@ -9,10 +9,14 @@ ghost use Rattle.lent.specs.PathNodes.{IsNode};
 
 use crate::{Lent, PathNode};
 
+// `levels`, `level` and `position` change together at each step, and `InTree` is asked of each of them: a struct of the
+// three would be built and taken apart at each call, and its fact proved anew there, which is no plainer.
+// `IsNode` is asked in each contract: the deal's nodes are not in a `PathNode`, so it cannot hold that fact itself.
 impl<'d, 't> Lent<'d, 't> {
     // The node above a node of a level and its sibling, with `levels` levels above it.
     fn above(&self, levels: usize, level: usize, x: PathNode, sibling: [u8; 32]) -> PathNode
-        requires in_tree { InTree (deal_level (length self.now.bytes.now)) (path_start levels (level + 1) (x.position / 2)) }
+        requires in_tree { InTree (deal_level (length self.now.bytes.now))
+            (path_start levels (level + 1) (x.position / 2)) }
         requires node { IsNode (seen self.now).nodes level x }
         requires sibling_value { sibling ≡ (seen self.now).nodes level (sibling_of x.position) }
         ensures { IsNode (seen self.now).nodes (level + 1) result
@@ -33,7 +37,8 @@ impl<'d, 't> Lent<'d, 't> {
         position: usize,
         other: PathNode,
     ) -> [u8; 32]
-        requires in_tree { InTree (deal_level (length self.now.bytes.now)) (path_start levels level (sibling_of position)) }
+        requires in_tree { InTree (deal_level (length self.now.bytes.now))
+            (path_start levels level (sibling_of position)) }
         requires node { IsNode (seen self.now).nodes level other }
         ensures { result
             ≡ (seen self.now).nodes level (sibling_of position) }
@@ -54,7 +59,8 @@ impl<'d, 't> Lent<'d, 't> {
         other: PathNode,
         other_sibling: [u8; 32],
     ) -> [u8; 32]
-        requires in_tree { InTree (deal_level (length self.now.bytes.now)) (path_start levels level (sibling_of position)) }
+        requires in_tree { InTree (deal_level (length self.now.bytes.now))
+            (path_start levels level (sibling_of position)) }
         requires node { IsNode (seen self.now).nodes level other }
         requires other_sibling_value { other_sibling
             ≡ (seen self.now).nodes level (sibling_of other.position) }
@@ -82,7 +88,8 @@ impl<'d, 't> Lent<'d, 't> {
         requires node { IsNode (seen self.now).nodes level node }
         requires fits { (count ≤ levels) × (at + 32 * levels ≤ length out.old) }
         ensures { IsNode (seen self.now).nodes (level + count) result
-            × InTree (deal_level (length self.now.bytes.now)) (path_start (levels - count) (level + count) result.position)
+            × InTree (deal_level (length self.now.bytes.now))
+            (path_start (levels - count) (level + count) result.position)
             × (splice out.old at
             (siblings (seen self.now).nodes levels level node.position)
             ≡ splice out.new (at + 32 * count)
@@ -112,8 +119,10 @@ impl<'d, 't> Lent<'d, 't> {
         at: usize,
         second_at: usize,
     ) -> [u8; 32]
-        requires first_in_tree { InTree (deal_level (length self.now.bytes.now)) (path_start levels level first.position) }
-        requires second_in_tree { InTree (deal_level (length self.now.bytes.now)) (path_start levels level second.position) }
+        requires first_in_tree { InTree (deal_level (length self.now.bytes.now))
+            (path_start levels level first.position) }
+        requires second_in_tree { InTree (deal_level (length self.now.bytes.now))
+            (path_start levels level second.position) }
         requires first_node { IsNode (seen self.now).nodes level first }
         requires second_node { IsNode (seen self.now).nodes level second }
         requires fits { (at + 32 * levels ≤ second_at) × (second_at + 32 * levels ≤ length out.old) }

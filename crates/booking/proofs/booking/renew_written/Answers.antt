@@ -1,4 +1,4 @@
-use Rattle.std.proofs.Common.{refl, ap, ◌∙◌, List, ℕ, length, arith}
+use Rattle.std.proofs.Common.{refl, ap, ◌∙◌, List, ℕ, length, arith, Some}
 use Rattle.sizes.specs.Sizes.{deal_level}
 use Rattle.tree.specs.Renewed.{renewed}
 use Rattle.lent.specs.UsableLaws.{usable_same}
@@ -14,8 +14,8 @@ pub renew_tree-requires-2 : goal.renew_tree-requires-2
 renew_tree-requires-2 c =
     let a = c.args in
     record {
-      usable = usable_same a.deal.now a.tree.now a.deal.now c.renew_tree.new.tree refl c.renew_tree.auto.tree
-          c.requires.usable;
+      usable = usable_same a.deal.now (Some a.tree.now) a.deal.now (Some c.renew_tree.new.tree) refl
+          (ap Some c.renew_tree.auto.tree) c.requires.usable;
       len_nonzero = (omega arith, c.requires.within.2);
     }
 
