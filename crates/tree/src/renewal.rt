@@ -10,6 +10,7 @@ use crate::nodes::node_place;
 
 // Works the nodes at `count` positions from `first` on, one level above `below`, out from their children: the row below
 // stands in the deal, or in the buffer before the row above.
+// It is cut by `split_at`: with `deal[64 * first..64 * (first + count)]` the proof did not close.
 fn renew_row(deal: &[u8], tree: &mut [u8], below: usize, first: usize, count: usize)
     requires { RowInTree (length deal.now) (suc below) first count × SizedFor deal.now tree.old }
     ensures { tree.new ≡ renewed_row deal.now tree.old below first count }
