@@ -28,8 +28,8 @@ impl<'d, 't> Lent<'d, 't> {
         PathNode { position, node }
     }
 
-    // The sibling of the node at a position of a level, with `levels` levels above it. Where it is the node of another path
-    // on that level, which is in hand, it need not be worked out.
+    // The sibling of the node at a position of a level, with `levels` levels above it. Where it is the node of another
+    // path on that level, which is in hand, it need not be worked out.
     fn sibling_beside(
         &self,
         levels: usize,
@@ -73,8 +73,8 @@ impl<'d, 't> Lent<'d, 't> {
         self.sibling_beside(levels, level, position, other)
     }
 
-    // Writes the first `count` siblings of the Merkle path of a node of a level, with `levels` levels above it, into `out`
-    // from a place on, and answers the node that they lead to.
+    // Writes the first `count` siblings of the Merkle path of a node of a level, with `levels` levels above it, into
+    // `out` from a place on, and answers the node that they lead to.
     fn write_below(
         &self,
         levels: usize,
@@ -106,9 +106,9 @@ impl<'d, 't> Lent<'d, 't> {
         x
     }
 
-    // Writes the Merkle paths of two nodes of a level, with `levels` levels above it, into `out`, each from a place on, and
-    // answers the deal's top node, which both lead to. Just below the node where the paths meet each one's sibling is the
-    // node that the other leads to, and from there on they have every sibling in common.
+    // Writes the Merkle paths of two nodes of a level, with `levels` levels above it, into `out`, each from a place on,
+    // and answers the deal's top node, which both lead to. Just below the node where the paths meet each one's sibling
+    // is the node that the other leads to, and from there on they have every sibling in common.
     fn write_both(
         &self,
         levels: usize,
@@ -149,9 +149,9 @@ impl<'d, 't> Lent<'d, 't> {
         x.node
     }
 
-    // Writes the deal's own Merkle paths of a segment, whose node is in hand, and of an entry into `out`, each from a place
-    // on, and answers the deal's commitment. Without a tree the bytes outside the segment are hashed once, and those of the
-    // segment not at all.
+    // Writes the deal's own Merkle paths of a segment, whose node is in hand, and of an entry into `out`, each from a
+    // place on, and answers the deal's commitment. Without a tree the bytes outside the segment are hashed once, and
+    // those of the segment not at all.
     pub fn write_paths(
         &self,
         level: usize,
