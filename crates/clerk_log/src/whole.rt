@@ -59,6 +59,7 @@ pub fn in_form(size: u64, log: &[u8]) -> bool
     ensures { result ≡ is_log (log_lines size log.now) }
 {
     let mut rest = log;
+    // A line takes up 13 or 61 bytes, so that no iterator of the library hands out lines.
     while !rest.is_empty() {
         let Some((line, later)) = first_line(rest) else {
             return false;

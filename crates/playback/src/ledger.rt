@@ -9,8 +9,8 @@ use clerk_log::{BookingLine, CancellingLine};
 use room::{Decision, Range};
 use rules::Refusal;
 
-// A ledger for lent deals of one size: a row a slot, for the most slots that a lent deal has. Each row's segment ends by
-// the index start.
+// A ledger for lent deals of one size: a row a slot, for the most slots that a lent deal has. Each row's segment ends
+// by the index start.
 #[derive(Drop)]
 pub(crate) struct Ledger {
     pub(crate) size: u64,
@@ -26,7 +26,8 @@ impl Ledger {
     ghost use Rattle.room.specs.Decide.{decision_of};
     ghost use Rattle.sizes.specs.Sizes.{segment_size_allowed, place_allowed};
     ghost use Rattle.index.specs.Written.{slot_of};
-    ghost use Rattle.playback.specs.Ledger.{empty_ledger, ledger_range, ledger_owners, ledger_decision, ledger_cancel_code};
+    ghost use Rattle.playback.specs.Ledger.{empty_ledger, ledger_range, ledger_owners, ledger_decision};
+    ghost use Rattle.playback.specs.Ledger.{ledger_cancel_code};
     ghost use Rattle.playback.specs.Steps.{keeps_at};
 
     // A ledger that holds nothing.

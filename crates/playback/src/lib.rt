@@ -57,7 +57,9 @@ fn play(size: u64, log: &[u8]) -> Result<Standing, NotPlayed>
     let mut ledger = Ledger::empty(size);
     let mut rest = log;
     let mut number: u64 = 1;
+    // A line takes up 13 or 61 bytes, so that no iterator of the library hands out lines.
     while !rest.is_empty() {
+        // A log in form has a line here: the refusal is never given.
         let Some((line, later)) = clerk_log::first_line(rest) else {
             return Err(NotPlayed::Refused(Refusal::Form));
         };

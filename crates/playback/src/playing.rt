@@ -13,8 +13,8 @@ use clerk_log::{BookingLine, CancellingLine, Line};
 use room::{Booked, Decision};
 
 impl Ledger {
-    // Plays a line for a booking: the row for it is added where its answer is what the rules give; else the ledger stays,
-    // and what they give comes back.
+    // Plays a line for a booking: the row for it is added where its answer is what the rules give; else the ledger
+    // stays, and what they give comes back.
     fn book(&mut self, line: &BookingLine) -> Result<(), Booked>
         requires { segment_size_allowed self.old.size line.now.size ≡ true }
         ensures sized { self.new.size ≡ self.old.size }

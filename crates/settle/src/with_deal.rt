@@ -170,6 +170,7 @@ pub fn settle_with_deal(
 
 // The same with the tree beside the deal: every inner node is taken as it stands there, the deal's commitment, which is
 // its last node, included. 12 for a tree of another length than the deal asks comes after 11.
+// There are two functions, as in the C interface; `settle_in` does the work of both.
 pub fn settle_with_tree(
     deal: &[u8],
     tree: &[u8],

@@ -52,6 +52,7 @@ fn show_record(rt: &impl Print, record: &[u8]) -> io::Result<()> {
 // The records of an input, each after its length.
 fn show_records(rt: &impl Print, input: &[u8]) -> io::Result<()> {
     let mut rest = input;
+    // Each record has a length of its own, so that no iterator of the library hands out records.
     while let Some((length, after)) = rest.split_first_chunk::<8>() {
         let length = u64::from_le_bytes(*length);
         let Some((record, later)) = after.split_at_checked(length as usize) else {

@@ -371,8 +371,8 @@ fn fields(rt: &impl Print, record: &[u8]) -> io::Result<()> {
     show::number(rt, place as u64)
 }
 
-// A call: five byte strings and two numbers, of which each routine takes some. A table of owners is in d, a second one in
-// e, and a house in y.
+// A call: five byte strings and two numbers, of which each routine takes some. A table of owners is in d, a second one
+// in e, and a house in y.
 #[derive(Drop)]
 pub(crate) struct Call<'a> {
     pub(crate) operation: u64,

@@ -7,7 +7,7 @@ use crate::parts::{Buffers, lent, part};
 use room::{Booked, Placed, Unbooked};
 use rules::Refusal;
 
-// A code, with no offset and no entry place.
+// A code, with no offset and no entry place: what is shown of a cancellation and a collection, beside bookings.
 fn code_alone(code: u8) -> Booked {
     Booked {
         code,

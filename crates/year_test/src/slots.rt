@@ -2,16 +2,17 @@
 ghost use Rattle.std.specs.Prelude.{◌<◌};
 
 use crate::parts::part;
+use audit::SlotState;
 use entries::ReadEntry;
 
 // How many slots the deals here have.
 pub(crate) const SLOTS: usize = 4;
 
 // The states of a slot that an audit gives to a standing entry: overlapping one in a lower slot, with a wrong
-// commitment, kept.
-const OVERLAPPING: u8 = 3;
+// commitment, kept. They are bytes, as the buffer of an audit has them.
+const OVERLAPPING: u8 = SlotState::Overlapping as u8;
 
-const KEPT: u8 = 5;
+const KEPT: u8 = SlotState::Kept as u8;
 
 // An entry that stands: whether it is kept, whose it is, its offset and its T.
 #[derive(Clone, Copy)]
