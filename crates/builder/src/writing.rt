@@ -80,6 +80,7 @@ pub(crate) fn write_record(deal: &Lent, number: u64, entry: Fields, place: u64, 
     let level = sizes::segment_level(entry.size);
     let position = sizes::segment_position(entry.offset, entry.size) as usize;
     let entry_position = (place / 64) as usize;
+    // One name: it is the record's commitment and the node that the paths start from.
     let commitment = entry.commitment;
     let at = fields::put_field(out, 0, record::COMMITMENT, commitment);
     let at = fields::put_field(out, at, record::OFFSET, entry.offset.to_le_bytes());

@@ -8,6 +8,8 @@ pub use reading::first_line;
 use room::Booked;
 pub use whole::in_form;
 
+// House and code are bytes of the log, any until its form is checked.
+
 // A line for a booking: house, commitment and size of the segment, and the answer.
 #[derive(Clone, Copy, Drop)]
 pub struct BookingLine {

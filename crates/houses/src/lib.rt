@@ -58,6 +58,9 @@ pub fn held_count(ranges: &[Range], table: &[u8], house: u8) -> usize
     held
 }
 
+// A size, a table and a place stay parameters here and below: a struct of them would be built for each call, and the
+// table is read in one and written in another.
+
 // The slot at an entry place of a lent deal.
 pub fn slot_at(size: u64, place: u64) -> usize
     requires { (lent_size_allowed size ≡ true) × (place_allowed size place ≡ true) }

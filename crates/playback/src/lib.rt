@@ -24,7 +24,7 @@ use rules::Refusal;
 pub const ROWS: usize = 128;
 
 // A row of a ledger: house, commitment and size of the segment, offset, entry place; all zeros where it is vacant, as
-// its bytes are then.
+// its bytes are then: `rows_bytes`, the definitions of specs/Ledger.antt and vz_playback have such rows.
 #[derive(Clone, Copy, Debug, PartialEq, Eq)]
 pub struct LedgerRow {
     pub house: u8,

@@ -48,7 +48,7 @@ fn failed_with(code: u8) -> Stream
     }
 }
 
-// The code that a state stands for: 0, 11 or 2.
+// The code that a state stands for: 0, 11 or 2. It is a number, since a packed state may hold any (`unpacked`).
 pub fn lasting_code(code: u8) -> u8
     ensures { result ≡ lasting_code code }
 {

@@ -11,7 +11,7 @@ use rules::Refusal;
 use std::io;
 use stream::Stream;
 
-// The code of an answer: 0, or that of the refusal.
+// The code of an answer: 0, or that of the refusal. `rules::code_of` is for answers without a value, and takes them.
 fn refusal_of<T>(answer: &Result<T, Refusal>) -> u8 {
     match answer {
         Ok(_) => 0,
