@@ -17,13 +17,15 @@ pub fn all_zero(a: &[u8]) -> bool
     a.iter().all(|byte| *byte == 0)
 }
 
-// Writes the bytes of s into d from a place on.
+// Writes the bytes of s into d from a place on. By a loop: with `copy_from_slice` the library for C asks for `memmove`,
+// a name that it does without.
 pub fn put(d: &mut [u8], at: usize, s: &[u8])
     requires { at + length s.now ≤ length d.old }
     ensures { d.new ≡ splice d.old at s.now }
 {
-    let end = at + s.len();
-    d[at..end].copy_from_slice(s);
+    for i in 0..s.len() {
+        d[at + i] = s[i];
+    }
 }
 
 // Writes an array into d from a place on.
