@@ -1,4 +1,5 @@
 """Builds the C smoke program and the replay program with the library at every level of x86-64, and runs the first.
+Refuses a library that needs other names from outside than memcpy and memset.
 
 Run from anywhere, after tools/levels: python3 tests/levels.py
 
@@ -14,6 +15,8 @@ from pathlib import Path
 
 ROOT = Path(__file__).resolve().parent.parent
 MADE = ROOT / "target" / "levels"
+# All that the library may ask of the program that it is linked into.
+FROM_OUTSIDE = {"memcpy", "memset"}
 # The folder of each archive, by the level's name.
 ARCHIVES = {"v1": MADE / "v1", "v3": MADE / "v3", "v4": MADE / "v4", "chosen": MADE}
 
@@ -57,6 +60,13 @@ def smoke(name):
     return ran.stdout
 
 
+def outside_names(name):
+    """The names that the archive of one level needs from outside."""
+    said = subprocess.run(["nm", "--undefined-only", "--format=just-symbols", ARCHIVES[name] / "libvizhuthamen.a"],
+                          check=True, capture_output=True, text=True).stdout
+    return {line for line in said.split() if not line.endswith(":")}
+
+
 def build_replay(name):
     """The replay program at a level; Cargo says where it puts it."""
     built = subprocess.run(["cargo", "build", "--release", "--offline", "--quiet", "--manifest-path",
@@ -75,6 +85,9 @@ def main():
         if name not in has:
             print(f"levels: {name} skipped: this processor has no x86-64-{name}")
             continue
+        more = set() if name == "chosen" else outside_names(name) - FROM_OUTSIDE
+        if more:
+            sys.exit(f"levels: {name}: the library newly needs from outside: {', '.join(sorted(more))}")
         answers = smoke(name)
         build_replay(name)
         print(f"levels: {name}: {len(answers.splitlines())} answers of the C smoke program are right; "
