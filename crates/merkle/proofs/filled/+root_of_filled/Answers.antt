@@ -1,11 +1,18 @@
--- `root_of_filled`: a whole run, one node, or two halves.
+-- `root_of_filled`: no run, a whole one, one node, or two halves.
 use mathlib.Core.Path.{sym, ap, ◌∙◌}
 use Prim.Native.Nat.{ℕ, ◌*◌, ◌^◌}
 use native.Mathlib.Omega.{arith}
-use lib.ListN.{take, drop}
+use lib.ListN.{length, take, drop}
+use borrow.Author.Tests.{eqb-true}
 use Rattle.merkle.specs.Tree.{commitment_of}
-use Rattle.merkle.proofs.FilledParts.{no_zeros, lone_node, two, left_filled, right_filled}
+use Rattle.merkle.proofs.FilledParts.{zeros_alone, no_zeros, lone_node, two, left_filled, right_filled}
 use Rattle.merkle.proofs.filled.+root_of_filled.Goals as goal
+
+pub returns-then-is_empty : goal.returns-then-is_empty
+returns-then-is_empty t c =
+    let run = c.args.run.now in
+    c.zero_root.ensures
+    ∙ zeros_alone c.args.height run (eqb-true (length run) 0 (sym c.is_empty.ensures ∙ c.if-is_empty.true))
 
 pub returns-then-run-node_span : goal.returns-then-run-node_span
 returns-then-run-node_span t c =
@@ -20,7 +27,7 @@ returns-then-height-eq0 t c =
 
 pub returns-then-run-half : goal.returns-then-run-half
 returns-then-run-half t c =
-    simp (c.node_hash.ensures, c.join.ensures, c.root_of_filled.ensures, c.zero_root.ensures)
+    simp (c.node_hash.ensures, c.join.ensures, c.root_of_filled.ensures, c.zero_root-then-run-half.ensures)
     (left_filled c.args.height c.if-height-eq0.false c.args.run.now c.requires.1
     (omega (arith, c.if-run-half.true, c.node_span-half.ensures)))
 
