@@ -5,7 +5,6 @@
 
 ghost use Rattle.std.specs.Prelude.{◌≡◌, length};
 
-use reader::RecordReader;
 use std::io;
 
 fn show_hex(rt: &impl Print, bytes: &[u8]) -> io::Result<()> {
@@ -24,14 +23,15 @@ fn show_field(rt: &impl Print, tag: u8, content: &[u8]) -> io::Result<()> {
 
 // The fields of a record in turn; the answer is the place where they end. A record of n bytes has less than n fields.
 fn show_fields(rt: &impl Print, record: &[u8]) -> io::Result<usize> {
-    let mut reader = RecordReader::new(record);
-    for _ in 0..record.len() {
-        let Ok(field) = reader.next_field() else {
+    let mut place = 0;
+    for number in 0..record.len() {
+        let Ok(field) = reader::field(record, number) else {
             break;
         };
         show_field(rt, field.tag, &record[field.start..field.next])?;
+        place = field.next;
     }
-    Ok(reader.place())
+    Ok(place)
 }
 
 // A record's length, its fields, and where they end. A record of more than 4,096 bytes is refused.

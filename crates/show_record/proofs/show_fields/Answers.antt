@@ -1,5 +1,5 @@
 -- `show_fields`: each field lies within the record.
-use Rattle.std.proofs.Common.{◌∙◌, sym, arith}
+use Rattle.std.proofs.Common.{sym, arith}
 use Rattle.reader.specs.ReaderLaws.{field_within}
 use Rattle.show_record.proofs.show_fields.Goals as goal
 
@@ -13,4 +13,4 @@ slice_bounds-show_field-start g c =
 
 pub slice_bounds-show_field-end : goal.slice_bounds-show_field-end
 slice_bounds-show_field-end g c =
-    let w = field_within _ _ _ _ _ _ (sym (rw c.loop.invariant at c.in-Ok.ensures.0)) in w.1
+    let w = field_within _ _ _ _ _ _ (sym c.in-Ok.ensures.0) in w.1
