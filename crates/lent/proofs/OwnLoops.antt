@@ -14,8 +14,9 @@ use Rattle.paths.specs.Path.{pair_of}
 use Rattle.paths.specs.PathLaws.{drop_sibling}
 use Rattle.paths.specs.Siblings.{siblings, pair_at}
 use Rattle.paths.specs.SiblingsLaws.{step, rest}
-use Rattle.paths.specs.Compare.{compared_above, Compared}
+use Rattle.paths.specs.Compare.{compared_above}
 use Rattle.paths.specs.CompareOwn.{compared_with_own}
+use Rattle.paths.specs.declared.Compared.{Compared}
 use Rattle.lent.proofs.Ways.{parent_in}
 
 -- at position p, where the node on the way is b, and what is left of the source's own path

@@ -8,7 +8,8 @@ use Rattle.octets.specs.Splice.{part}
 use Rattle.node.specs.Node.{node_hash}
 use Rattle.paths.specs.Path.{pair_of, path_root}
 use Rattle.paths.specs.PathLaws.{drop_sibling}
-use Rattle.paths.specs.Compare.{compared_above, compared_up, Compared}
+use Rattle.paths.specs.Compare.{compared_above, compared_up}
+use Rattle.paths.specs.declared.Compared.{Compared}
 
 pub one_left : (n i : ℕ) → i < n → n - i ≡ suc (n - (i + 1))
 one_left n i h = omega arith

@@ -1,19 +1,14 @@
 -- Two paths from the same position, compared from the bottom up: what was last seen to differ is the first difference
 -- from the top.
-use Rattle.std.specs.Prelude.{Bool, true, false, ℕ, zero, suc, ◌/◌, List, length, take, drop, replicate, Option, Some, None}
+use Rattle.std.specs.Prelude.{true, false, ℕ, zero, suc, ◌/◌, List, length, take, drop, replicate, Option, Some, None}
 use Rattle.rules.specs.Choice.{choose}
 use Rattle.octets.specs.Equality.{same_bytes}
 use Rattle.node.specs.Node.{node_hash}
 use Rattle.paths.specs.Path.{pair_of}
 use Rattle.paths.specs.Strings.{path_strings}
 use Rattle.paths.specs.Difference.{Difference, same, differ, first_difference}
+use Rattle.paths.specs.declared.Compared.{Compared}
 use Rattle.paths.specs.declared.Difference as D
-
--- whether two paths differ, and the two strings at their first difference from the top
-pub record Compared : Type 0 where
-  pub differs : Bool
-  pub left : List ℕ
-  pub right : List ℕ
 
 -- no difference: two strings of 64 zero bytes
 abbrev pub equal : Compared

@@ -8,8 +8,10 @@ use Rattle.node.specs.Node.{node_hash}
 use Rattle.merkle.specs.NodeSource.{NodeSource}
 use Rattle.paths.specs.Path.{pair_of}
 use Rattle.paths.specs.Siblings.{pair_at}
-use Rattle.paths.specs.Compare.{Compared, equal, unequal, compared_above, compared_up, seen_as}
+use Rattle.paths.specs.Difference.{Difference, same, differ}
+use Rattle.paths.specs.Compare.{equal, unequal, compared, compared_above, compared_up, seen_as}
 use Rattle.paths.specs.CompareOwn.{compared_with_own}
+use Rattle.paths.specs.declared.Compared.{Compared}
 use Rattle.paths.specs.declared.Difference as D
 
 -- the first part's difference, or else the second's
@@ -70,3 +72,22 @@ own_below nodes n level q x s r below e =
     seen_or r below
     ∙ ap (λ (found : Compared). or_compared found (seen_as below)) e
     ∙ sym (own_or nodes n level q x s equal (seen_as below))
+
+-- the strings shown of what was found: all of it, where it is the first difference of two lists
+pub shown : (d : Difference) {found : Compared} → found ≡ compared d → or_compared found equal ≡ compared d
+shown d e = ap (λ (c : Compared). or_compared c equal) e ∙ go d
+  where
+    go : (d : Difference) → or_compared (compared d) equal ≡ compared d
+    go same = refl
+    go (differ v w) = refl
+
+-- and where all is shown of what stands below: n levels up along two paths
+pub up_shown : (n p : ℕ) (x s y t : List ℕ) (seen : Compared) → or_compared seen equal ≡ seen
+    → or_compared (compared_up n p x s y t seen) equal ≡ compared_up n p x s y t seen
+up_shown n p x s y t seen e = sym (up_or n p x s y t seen equal) ∙ ap (compared_up n p x s y t) e
+
+-- n levels up along a path and a source's own pairs
+pub own_shown : (nodes : NodeSource) (n level q : ℕ) (x s : List ℕ) (seen : Compared) → or_compared seen equal ≡ seen
+    → or_compared (compared_with_own nodes n level q x s seen) equal ≡ compared_with_own nodes n level q x s seen
+own_shown nodes n level q x s seen e =
+    sym (own_or nodes n level q x s seen equal) ∙ ap (compared_with_own nodes n level q x s) e

@@ -5,7 +5,8 @@ use Rattle.node.specs.Node.{node_hash}
 use Rattle.merkle.specs.NodeSource.{NodeSource}
 use Rattle.paths.specs.Path.{pair_of}
 use Rattle.paths.specs.Siblings.{pair_at}
-use Rattle.paths.specs.Compare.{compared_above, Compared}
+use Rattle.paths.specs.Compare.{compared_above}
+use Rattle.paths.specs.declared.Compared.{Compared}
 
 -- n levels up from position q of a level, along a path s from a node x
 unfoldable pub compared_with_own : NodeSource → ℕ → ℕ → ℕ → List ℕ → List ℕ → Compared → Compared

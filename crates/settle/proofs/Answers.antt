@@ -4,7 +4,8 @@ use mathlib.Core.Bool.{true, false}
 use Prim.Native.Nat.{ℕ, zero, suc}
 use Rattle.std.specs.Prelude.{Option, Some, None, is_some}
 use Rattle.rules.specs.Refusals.{unless_refused}
-use Rattle.paths.specs.Compare.{Compared, seen_as}
+use Rattle.paths.specs.Compare.{seen_as}
+use Rattle.paths.specs.declared.Compared.{Compared}
 use Rattle.paths.specs.declared.Difference.{Difference}
 use Rattle.paths.specs.CompareBelow.{or_compared}
 use Rattle.settle.specs.SettleLaws.{settled_from}

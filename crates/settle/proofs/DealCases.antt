@@ -9,7 +9,8 @@ use Rattle.node.specs.Node.{node_hash}
 use Rattle.paths.specs.SiblingsLaws.{pairs_length}
 use Rattle.paths.specs.PathLaws.{strings_length}
 use Rattle.paths.specs.Difference.{first_difference}
-use Rattle.paths.specs.Compare.{compared, Compared}
+use Rattle.paths.specs.Compare.{compared}
+use Rattle.paths.specs.declared.Compared.{Compared}
 use Rattle.paths.specs.CompareOwn.{compared_with_own}
 use Rattle.paths.proofs.CompareOwnLaws.{own_up}
 use Rattle.paths.specs.DealStarts.{segment_start, entry_start}

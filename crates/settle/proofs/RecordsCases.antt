@@ -10,7 +10,8 @@ use Rattle.octets.specs.Bytes.{Bytes}
 use Rattle.node.specs.Node.{node_hash}
 use Rattle.paths.specs.Strings.{strings_from}
 use Rattle.paths.specs.Difference.{first_difference}
-use Rattle.paths.specs.Compare.{compared, Compared}
+use Rattle.paths.specs.Compare.{compared}
+use Rattle.paths.specs.declared.Compared.{Compared}
 use Rattle.paths.proofs.CompareLaws.{paths_compared_lem, no_difference_same}
 use Rattle.paths.specs.DealStarts.{segment_start, entry_start}
 use Rattle.sizes.specs.Sizes.{area, segment_path_levels, segment_position, entry_position}

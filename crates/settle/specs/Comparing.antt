@@ -3,7 +3,8 @@
 use Rattle.std.specs.Prelude.{ℕ, List, [], ◌∷◌}
 use Rattle.node.specs.Node.{node_hash}
 use Rattle.paths.specs.Difference.{first_difference}
-use Rattle.paths.specs.Compare.{compared, paths_compared, Compared}
+use Rattle.paths.specs.Compare.{compared, paths_compared}
+use Rattle.paths.specs.declared.Compared.{Compared}
 use Rattle.record.specs.Form.{Fields}
 use Rattle.lent.specs.LentDeal.{LentDeal, deal_size}
 use Rattle.settle.specs.Settle.{entry_strings, segment_strings, deal_entry_strings, deal_segment_strings}

@@ -4,8 +4,9 @@ use Rattle.std.proofs.Common.{sym, ap, ◌∙◌}
 use Rattle.rules.specs.Choice.{choose}
 use Rattle.paths.specs.Difference.{Difference, same, differ, first_difference}
 use Rattle.paths.specs.DifferenceLaws.{or_else, difference_append}
-use Rattle.paths.specs.Compare.{compared, Compared}
+use Rattle.paths.specs.Compare.{compared}
 use Rattle.paths.specs.CompareBelow.{or_compared}
+use Rattle.paths.specs.declared.Compared.{Compared}
 use Rattle.entries.specs.Entry.{commitment_in, offset_in, size_in}
 use Rattle.entries.specs.EntryLaws.{commitment_back, offset_back, size_back}
 use Rattle.record.specs.Form.{Fields}

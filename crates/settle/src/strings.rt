@@ -6,7 +6,7 @@ ghost use Rattle.record.specs.Answers.{read_fields};
 ghost use Rattle.record.specs.Check.{entry_for};
 ghost use Rattle.settle.specs.Comparing.{entries_compared, segments_compared};
 
-use paths::Difference;
+use paths::{Compared, Difference};
 use record::ParsedRecord;
 
 // The entry that a record names, rebuilt from its commitment, offset and size.
@@ -17,10 +17,10 @@ pub(crate) fn entry_for(x: &ParsedRecord<'_>) -> [u8; 64]
 }
 
 // Compares two strings alone.
-pub(crate) fn compare_strings(left: [u8; 64], right: [u8; 64]) -> Option<Difference>
-    ensures { seen_as result ≡ compared (first_difference (left ∷ []) (right ∷ [])) }
+pub(crate) fn compare_strings(left: [u8; 64], right: [u8; 64]) -> Compared
+    ensures { result ≡ compared (first_difference (left ∷ []) (right ∷ [])) }
 {
-    paths::compare_above(None, left, right)
+    paths::compare_above(Compared::EQUAL, left, right)
 }
 
 // Compares the strings of two entry paths from one position, and below them the entries themselves.
@@ -37,7 +37,10 @@ pub(crate) fn compare_entries(
     let below = compare_strings(left, right);
     let left_node = node::node_hash(left);
     let right_node = node::node_hash(right);
-    paths::compare_paths(position, left_node, left_path, right_node, right_path).or(below)
+    paths::compare_paths(
+        position, left_node, left_path, right_node, right_path, below,
+    )
+    .difference()
 }
 
 // Compares the strings of two segment paths from one position.
@@ -51,5 +54,13 @@ pub(crate) fn compare_segments(
     requires { length left_path.now ≡ length right_path.now }
     ensures { seen_as result ≡ segments_compared position left left_path.now right right_path.now }
 {
-    paths::compare_paths(position, left, left_path, right, right_path)
+    paths::compare_paths(
+        position,
+        left,
+        left_path,
+        right,
+        right_path,
+        Compared::EQUAL,
+    )
+    .difference()
 }

@@ -16,7 +16,7 @@ ghost use Rattle.settle.specs.Comparing.{entry_with_deal, segment_with_deal};
 
 use crate::strings::{compare_strings, entry_for};
 use lent::{Lent, PathNode};
-use paths::Difference;
+use paths::{Compared, Difference};
 use record::ParsedRecord;
 use rules::Refusal;
 
@@ -101,8 +101,8 @@ fn compare_deal_entry(deal: &Lent, own_path: &[u8], x: &ParsedRecord<'_>) -> Opt
     let below = compare_strings(entry, own_entry);
     let node = node::node_hash(entry);
     let own_node = deal.node_in(x.entry_path.len() / 32, 1, place / 64);
-    deal.compare_with_own(1, place / 64, own_node, own_path, node, x.entry_path)
-        .or(below)
+    deal.compare_with_own(1, place / 64, own_node, own_path, node, x.entry_path, below)
+        .difference()
 }
 
 // Compares the segment strings of an accepted record with those of the deal: the pairs of nodes above the segment. The
@@ -128,7 +128,9 @@ fn compare_deal_segment(
         own_path,
         x.commitment,
         x.segment_path,
+        Compared::EQUAL,
     )
+    .difference()
 }
 
 // Settling over a lent deal that is not refused. The deal's own two paths are written in one pass; they lead to the

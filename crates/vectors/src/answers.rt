@@ -4,7 +4,7 @@ ghost use Rattle.std.specs.Prelude.{◌≤◌};
 use crate::show;
 use entries::{Fields, ReadEntry};
 use index::{FoundSegment, Tallied};
-use paths::Difference;
+use paths::{Compared, Difference};
 use playback::{NotPlayed, ROWS_BYTES};
 use room::Booked;
 use rules::Refusal;
@@ -350,8 +350,8 @@ fn compare(rt: &impl Print, position: u64, a: &[u8], b: &[u8]) -> io::Result<()>
     }
     let x = octets::array_at(a, 0);
     let y = octets::array_at(b, 0);
-    let found = paths::compare_paths(position, x, &a[32..], y, &b[32..]);
-    strings(rt, Ok(found))
+    let found = paths::compare_paths(position, x, &a[32..], y, &b[32..], Compared::EQUAL);
+    strings(rt, Ok(found.difference()))
 }
 
 // The fields in turn from place 0, and the first place that is no field.

@@ -2,7 +2,6 @@
 use Rattle.std.specs.Prelude.{◌*◌, ◌/◌, length, drop}
 use Rattle.std.proofs.Common.{sym, ◌∙◌, arith}
 use native.Mathlib.Nat.{sub-zero}
-use Rattle.paths.specs.Compare.{seen_as}
 use Rattle.paths.proofs.PathLoops.{compare_next, compare_over}
 use Rattle.paths.proofs.compare_paths.Goals as goal
 
@@ -24,7 +23,7 @@ loop-i-preserved c =
     )
     (c.loop-i.invariant
     ∙ compare_next (length left / 32) c.loop-i.i c.loop-i.p c.loop-i.a left c.loop-i.b right
-    (seen_as c.loop-i.last) (omega arith))
+    c.loop-i.last (omega arith))
 
 pub returns : goal.returns
 returns c =
@@ -34,4 +33,4 @@ returns c =
     sym
     (c.loop-i.invariant
     ∙ compare_over (length left / 32) i c.loop-i.p c.loop-i.a (drop (i * 32) left) c.loop-i.b
-    (drop (i * 32) right) (seen_as c.loop-i.last) (omega arith))
+    (drop (i * 32) right) c.loop-i.last (omega arith))

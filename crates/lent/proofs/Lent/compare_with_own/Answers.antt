@@ -14,7 +14,6 @@ use Rattle.paths.specs.NodesSized.{NodesSized}
 use Rattle.paths.specs.Path.{pair_of}
 use Rattle.paths.specs.Siblings.{siblings, pair_at}
 use Rattle.paths.specs.SiblingsLaws.{path_length}
-use Rattle.paths.specs.Compare.{seen_as, equal}
 use Rattle.lent.specs.Seen.{seen}
 use Rattle.lent.specs.UsableLaws.{usable_size, nodes_sized}
 use Rattle.lent.proofs.OwnLoops.{OwnTurn, own_start, own_pair, own_above, own_next}
@@ -41,7 +40,7 @@ loop-i-init c =
     let n = length a.path.now / 32 in (
       own_start nodes (deal_level (length a.self.now.bytes.now)) a.own.now n a.level a.position a.own_node c.requires.in_tree
           c.requires.own_value c.requires.own_node_value,
-      compared_start nodes n a.level a.position a.x a.path.now equal,
+      compared_start nodes n a.level a.position a.x a.path.now a.below,
     )
 
 pub array_at-requires-in-loop-i : goal.array_at-requires-in-loop-i
@@ -92,7 +91,7 @@ loop-i-preserved c =
         c.pair-string.ensures,
         c.array_at.ensures,
       )
-          (c.loop-i.invariant.1 ∙ compared_next nodes n a.level i p c.loop-i.a a.path.now (seen_as c.loop-i.last) k),
+          (c.loop-i.invariant.1 ∙ compared_next nodes n a.level i p c.loop-i.a a.path.now c.loop-i.last k),
     )
 
 pub returns : goal.returns
@@ -103,4 +102,4 @@ returns c =
     sym
     (c.loop-i.invariant.1
     ∙ compared_over nodes (length a.path.now / 32) (a.level + i) i c.loop-i.p c.loop-i.a
-    (drop (i * 32) a.path.now) (seen_as c.loop-i.last) (omega arith))
+    (drop (i * 32) a.path.now) c.loop-i.last (omega arith))

@@ -6,7 +6,7 @@ use native.Mathlib.Omega.{arith}
 use mathlib.Core.List.{List}
 use Rattle.octets.specs.Bytes.{bytes_of_slice}
 use Rattle.rules.specs.AnswerLaws.{passed_on, number_some}
-use Rattle.paths.specs.Compare.{Compared}
+use Rattle.paths.specs.declared.Compared.{Compared}
 use Rattle.sizes.specs.Sizes.{entry_position}
 use Rattle.record.specs.Form.{Fields, parsed, parse}
 use Rattle.record.specs.Answers.{read_fields}

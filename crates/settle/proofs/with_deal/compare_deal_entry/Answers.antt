@@ -8,9 +8,9 @@ use Rattle.node.specs.Node.{node_hash}
 use Rattle.paths.specs.Start.{PathStart, path_start, InTree}
 use Rattle.paths.specs.Siblings.{siblings_from}
 use Rattle.paths.specs.Difference.{first_difference}
-use Rattle.paths.specs.Compare.{compared, seen_as}
+use Rattle.paths.specs.Compare.{compared}
 use Rattle.paths.specs.CompareOwn.{compared_with_own}
-use Rattle.paths.specs.CompareBelow.{own_below}
+use Rattle.paths.specs.CompareBelow.{shown}
 use Rattle.paths.specs.DealStarts.{entry_start}
 use Rattle.sizes.specs.Sizes.{deal_level, entry_position}
 use Rattle.record.specs.Form.{Fields}
@@ -75,8 +75,8 @@ returns c =
     let below = c.compare_strings-below.ensures
     ∙ (λ i. compared (first_difference (entry i ∷ []) (c.array_at-own_entry.ensures i ∷ []))) in
     let levels = levels_are deal c.requires.0 taken refl in
-    ap seen_as c.or.ensures
-    ∙ own_below deal.nodes (length x.entry_path / 32) 1 q c.node_hash-node.result x.entry_path
-    c.compare_with_own.result c.compare_strings-below.result c.compare_with_own.ensures
+    c.difference.ensures
+    ∙ shown _
+    (c.compare_with_own.ensures
     ∙ (λ i. compared_with_own deal.nodes (levels i) 1 q (node i) x.entry_path (below i))
-    ∙ entries_found_lem deal c.requires.0 taken
+    ∙ entries_found_lem deal c.requires.0 taken)

@@ -7,6 +7,7 @@ use lib.ListN.{length}
 use Rattle.paths.specs.Start.{path_start, InTree}
 use Rattle.paths.specs.Siblings.{node_from, siblings_from}
 use Rattle.paths.specs.Compare.{equal}
+use Rattle.paths.specs.CompareBelow.{shown}
 use Rattle.paths.specs.Difference.{first_difference}
 use Rattle.paths.specs.CompareOwn.{compared_with_own}
 use Rattle.paths.specs.DealStarts.{segment_start}
@@ -65,7 +66,9 @@ returns c =
     let taken = c.requires.1 in
     let e = start_is deal c.requires.0 taken refl c.segment_level-level.ensures
     c.segment_position-position.ensures in
-    c.compare_with_own.ensures
+    c.difference.ensures
+    ∙ shown _
+    (c.compare_with_own.ensures
     ∙ (λ i. compared_with_own deal.nodes (e i).levels (e i).level (e i).position x.commitment
     x.segment_path equal)
-    ∙ segments_found_lem deal c.requires.0 taken
+    ∙ segments_found_lem deal c.requires.0 taken)
