@@ -30,8 +30,13 @@ pub(crate) fn open<'d, 't>(
     if !sizes::segment_size_allowed(deal.len() as u64, segment.len() as u64) {
         return Err(Refusal::SegmentSize);
     }
+    // The deal's bits are looked at before the segment's, and the tree's length after both.
+    Lent::new(deal, None)?;
     if !stray::no_stray_bits(segment) {
         return Err(Refusal::StrayBits);
     }
-    Lent::new(deal, tree)
+    if !lent::tree_sized(deal.len(), tree) {
+        return Err(Refusal::Output);
+    }
+    Ok(Lent { bytes: deal, tree })
 }
