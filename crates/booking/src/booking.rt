@@ -57,8 +57,8 @@ fn renew_written(deal: &[u8], tree: &mut [u8], area: u64, at: Placed)
     requires within { (0 < area) × (at.offset + area ≤ length deal.now) × (at.place + 64 ≤ length deal.now) }
     ensures { tree.new ≡ renewed_for deal.now tree.old at.offset area at.place }
 {
-    lent::renew_tree(deal, tree, at.offset as usize, area as usize);
-    lent::renew_tree(deal, tree, at.place as usize, 64);
+    lent::renew_tree(deal, Some(&mut *tree), at.offset as usize, area as usize);
+    lent::renew_tree(deal, Some(&mut *tree), at.place as usize, 64);
 }
 
 // Books a segment in a lent deal for a house, 1 or 2: the segment, zeros after it to its area's end, its entry and the

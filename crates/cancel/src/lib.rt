@@ -77,7 +77,7 @@ pub fn cancel_with_tree(
 {
     refusal(deal, Some(tree), table, house, place)?;
     octets::put_array(deal, place as usize, [0u8; 64]);
-    lent::renew_tree(deal, tree, place as usize, 64);
+    lent::renew_tree(deal, Some(&mut *tree), place as usize, 64);
     houses::put_owner(deal.len() as u64, table, place, 0);
     Ok(())
 }

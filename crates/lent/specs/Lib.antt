@@ -7,3 +7,4 @@ pub mod UsableLaws
 pub mod FilledTree
 pub mod FilledTreeLaws
 pub mod FilledLentLaws
+pub mod RenewedTree

@@ -1,11 +1,10 @@
 // Filling the tree beside a lent deal, and bringing it up to date.
-ghost use Rattle.std.specs.Prelude.{◌≡◌, ◌+◌, ◌≤◌, ◌<◌, length};
+ghost use Rattle.std.specs.Prelude.{◌≡◌, ◌+◌, ◌≤◌, ◌<◌, length, option_map};
 ghost use Rattle.rules.specs.Answers.{code_of};
-ghost use Rattle.sizes.specs.Sizes.{deal_level};
-ghost use Rattle.tree.specs.Renewed.{renewed};
-ghost use Rattle.lent.specs.LentDeal.{tree_deal, deal_refusal};
+ghost use Rattle.lent.specs.LentDeal.{lent_of, tree_deal, deal_refusal};
 ghost use Rattle.lent.specs.Usable.{Usable};
 ghost use Rattle.lent.specs.FilledTree.{filled_tree};
+ghost use Rattle.lent.specs.RenewedTree.{IsRenewed};
 
 use crate::Lent;
 use rules::Refusal;
@@ -21,12 +20,14 @@ pub fn fill_tree(deal: &[u8], tree: &mut [u8]) -> Result<(), Refusal>
     Ok(())
 }
 
-// Brings the tree beside a lent deal up to date after `len` bytes of the deal were written from a place on. It
-// takes no `Lent`: the tree is written, and a `Lent` only reads its tree.
-pub fn renew_tree(deal: &[u8], tree: &mut [u8], from: usize, len: usize)
-    requires usable { Usable (tree_deal deal.now tree.old) }
+// Brings the tree beside a lent deal up to date, where there is one, after `len` bytes of the deal were written from a
+// place on. It takes no `Lent`: the tree is written, and a `Lent` only reads its tree.
+pub fn renew_tree(deal: &[u8], tree: Option<&mut [u8]>, from: usize, len: usize)
+    requires usable { Usable (lent_of deal.now (option_map (λ t. t.now) tree)) }
     requires len_nonzero { (0 < len) × (from + len ≤ length deal.now) }
-    ensures { tree.new ≡ renewed (deal_level (length deal.now)) deal.now tree.old from len }
+    ensures { IsRenewed deal.now from len tree.entry tree.exit }
 {
-    tree::renew(deal, tree, sizes::deal_level(deal.len() as u64), from, len);
+    if let Some(tree) = tree {
+        tree::renew(deal, tree, sizes::deal_level(deal.len() as u64), from, len);
+    }
 }

@@ -1,4 +1,4 @@
-use Rattle.std.proofs.Common.{refl, ap, ◌∙◌, List, ℕ, length, arith, Some}
+use Rattle.std.proofs.Common.{◌≡◌, refl, ap, ◌∙◌, List, ℕ, length, arith, Some}
 use Rattle.sizes.specs.Sizes.{deal_level}
 use Rattle.tree.specs.Renewed.{renewed}
 use Rattle.lent.specs.UsableLaws.{usable_same}
@@ -13,9 +13,10 @@ renew_tree-requires c =
 pub renew_tree-requires-2 : goal.renew_tree-requires-2
 renew_tree-requires-2 c =
     let a = c.args in
+    let sized : length c.renew_tree.new.tree.0 ≡ length a.tree.now = c.renew_tree.auto.tree.0 in
     record {
-      usable = usable_same a.deal.now (Some a.tree.now) a.deal.now (Some c.renew_tree.new.tree) refl
-          (ap Some c.renew_tree.auto.tree) c.requires.usable;
+      usable = usable_same a.deal.now (Some a.tree.now) a.deal.now (Some c.renew_tree.new.tree.0) refl
+          (ap Some sized) c.requires.usable;
       len_nonzero = (omega arith, c.requires.within.2);
     }
 
