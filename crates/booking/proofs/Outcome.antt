@@ -101,20 +101,20 @@ module _ (deal : LentDeal) (table : List ℕ) (house : ℕ) (segment : List ℕ)
 some_number : (r : Refusal) → number r ≢ 0
 some_number r = grind arith
 
-pub no_place : (why : Unbooked) → (booked_of (Err why)).code ≢ 0
+pub no_place : (why : Unbooked Refusal) → (booked_of (Err why)).code ≢ 0
 no_place (Refused r) = some_number r
 no_place (Un.Already at) = λ z. omega arith
 
 -- a refusal that `?` passes on
-pub refusal_passed_on : {A : Type 0} (found : Result (A × Placed) Unbooked) (r : Refusal)
+pub refusal_passed_on : {A : Type 0} (found : Result (A × Placed) (Unbooked Refusal)) (r : Refusal)
     → IsErrAnd found (λ y. y ≡ Refused r) → booked_of (placed_in found) ≡ booked_of (Err (Refused r))
 refusal_passed_on (Ok x) r k = absurd k
-refusal_passed_on (Err why) r k = ap (λ (w : Unbooked). booked_of (Err w)) k
+refusal_passed_on (Err why) r k = ap (λ (w : Unbooked Refusal). booked_of (Err w)) k
 
 -- answer, deal and table: for a deal with a tree beside it or without one
 module _ (deal : LentDeal) (table : List ℕ) (house : ℕ) (segment : List ℕ) where
   -- without a place both stay
-  module _ (why : Unbooked) (e : booked_of (Err why) ≡ book_answer deal table house segment) where
+  module _ (why : Unbooked Refusal) (e : booked_of (Err why) ≡ book_answer deal table house segment) where
     pub deal_stays : deal.bytes ≡ booked_deal deal table house segment
     deal_stays = deal_kept deal table house segment (booked_of (Err why)) e (no_place why)
 
@@ -178,7 +178,7 @@ module _ (deal tree table : List ℕ) (house : ℕ) (segment : List ℕ) where
   beside = tree_deal deal tree
 
   -- without a place it stays
-  pub tree_kept : (why : Unbooked) → booked_of (Err why) ≡ book_answer (tree_deal deal tree) table house segment
+  pub tree_kept : (why : Unbooked Refusal) → booked_of (Err why) ≡ book_answer (tree_deal deal tree) table house segment
       → tree ≡ booked_tree deal tree table house segment
   tree_kept why e =
       sym (refused_tree deal tree table house segment

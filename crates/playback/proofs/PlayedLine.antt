@@ -2,6 +2,7 @@
 use Rattle.std.specs.Prelude.{◌≡◌, refl, Bool, true, false, not, ℕ, List, Result, Ok, Err, set, eqb}
 use Rattle.std.proofs.Common.{sym, ap, ◌∙◌, arith}
 use mathlib.Core.Bool.{and-true}
+use Rattle.rules.specs.declared.Refusal.{Refusal}
 use Rattle.rules.specs.Choice.{choose}
 use Rattle.sizes.specs.Sizes.{lent_size_allowed, segment_size_allowed, entry_count, slot_place}
 use Rattle.room.specs.declared.Range.{Range}
@@ -146,7 +147,7 @@ nothing_stored d ledger line (Refuse code) h = refl
 nothing_stored d ledger line (Already i) h = refl
 nothing_stored d ledger line (Place i offset) h = absurd (h i offset refl)
 
-pub no_place : (x : Declared.Decision) → ((i offset : ℕ) → x ≡ De.Place i offset → ⊥) → (i offset : ℕ)
+pub no_place : (x : Declared.Decision Refusal) → ((i offset : ℕ) → x ≡ De.Place i offset → ⊥) → (i offset : ℕ)
     → decision_of x ≡ Place i offset → ⊥
 no_place (De.Refuse refusal) h i offset e = let z : ◌≡◌ {A = ℕ} 0 1 = cc in absurd (omega arith)
 no_place (De.Already j) h i offset e = let z : ◌≡◌ {A = ℕ} 0 1 = cc in absurd (omega arith)

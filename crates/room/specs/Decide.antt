@@ -3,6 +3,7 @@
 use Rattle.std.specs.Prelude.{Bool, ℕ, ◌*◌, ◌<◌, leb}
 use Rattle.rules.specs.Choice.{choose}
 use Rattle.std.specs.Prelude.{Option, Some, None, Result, Ok, Err}
+use Rattle.rules.specs.declared.Refusal.{Refusal}
 use Rattle.rules.specs.Answers.{number}
 use Rattle.sizes.specs.Sizes.{entry_count, index_start, slot_place}
 use Rattle.room.specs.Room.{Range, lowest_free_slot, lowest_place}
@@ -19,11 +20,15 @@ pub data Decision : Type 0 where
   Already : ℕ → Decision
   Place : ℕ → ℕ → Decision
 
--- the decision that one in code stands for
-abbrev pub decision_of : Declared.Decision → Decision
-decision_of (De.Refuse refusal) = Refuse (number refusal)
-decision_of (De.Already i) = Already i
-decision_of (De.Place i offset) = Place i offset
+-- the decision that one in code stands for, with its reason read as a code
+abbrev pub decision_with : {R : Type 0} → (R → ℕ) → Declared.Decision R → Decision
+decision_with read (De.Refuse reason) = Refuse (read reason)
+decision_with read (De.Already i) = Already i
+decision_with read (De.Place i offset) = Place i offset
+
+-- with a refusal for its reason, which is read as its number
+abbrev pub decision_of : Declared.Decision Refusal → Decision
+decision_of x = decision_with number x
 
 -- 15 where the segment is kept already
 abbrev pub unless_kept : Option ℕ → Decision → Decision
@@ -54,11 +59,15 @@ answer_to d ranges (Refuse code) = record { code = code; offset = 0; place = 0 }
 answer_to d ranges (Already i) = record { code = 15; offset = (ranges i).offset; place = slot_place d i }
 answer_to d ranges (Place i offset) = record { code = 0; offset = offset; place = slot_place d i }
 
--- the answer that a result stands for
-abbrev pub booked_of : Result Placed Unbooked → Booked
-booked_of (Ok at) = record { code = 0; offset = at.offset; place = at.place }
-booked_of (Err (Un.Already at)) = record { code = 15; offset = at.offset; place = at.place }
-booked_of (Err (Un.Refused refusal)) = record { code = number refusal; offset = 0; place = 0 }
+-- the answer that a result stands for, with its reason read as a code
+abbrev pub booked_with : {R : Type 0} → (R → ℕ) → Result Placed (Unbooked R) → Booked
+booked_with read (Ok at) = record { code = 0; offset = at.offset; place = at.place }
+booked_with read (Err (Un.Already at)) = record { code = 15; offset = at.offset; place = at.place }
+booked_with read (Err (Un.Refused reason)) = record { code = read reason; offset = 0; place = 0 }
+
+-- with a refusal for its reason, which is read as its number
+abbrev pub booked_of : Result Placed (Unbooked Refusal) → Booked
+booked_of x = booked_with number x
 
 -- the slot that is decided on is one of the first
 abbrev pub SlotBelow : ℕ → Decision → Type 0

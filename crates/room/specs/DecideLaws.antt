@@ -12,9 +12,11 @@ use Rattle.sizes.specs.Sizes.{entry_count, index_start, slot_place}
 use Rattle.room.specs.Room.{Range, SameBelow, is_empty, fits, lowest_free_slot, lowest_place}
 use Rattle.room.specs.RoomLaws.{IsPlace, place_found, place_is, place_missing, free_slot_cong, place_cong}
 use Rattle.room.specs.OverlapLaws.{multiple}
-use Rattle.room.specs.Decide.{unless_kept, holds_half, in_room, decide, answer_to, SlotBelow}
+use Rattle.room.specs.Decide.{unless_kept, holds_half, in_room, decide, answer_to, decision_with, SlotBelow}
 use Rattle.room.specs.Decide.{Decision}
 use Rattle.room.specs.Decide.{Refuse, Already, Place}
+use Rattle.room.specs.declared.Decision as Declared
+use Rattle.room.specs.declared.Decision.TheVariants as De
 
 -- code 0: slot i is the lowest free one, and offset o the lowest free place
 pub record Places (d : ℕ) (ranges : ℕ → Range) (n i o : ℕ) : Type 0 where
@@ -237,3 +239,9 @@ module _ (d : ℕ) (ranges : ℕ → Range) (held n : ℕ) (keeping : Option ℕ
       by_decision (Refuse code) e z = absurd ((refusal_code code e).1 z)
       by_decision (Already i) e z = (i, e)
       by_decision (Place i o) e z = absurd (omega arith)
+
+-- a byte is any code: with bytes for reasons, which are codes themselves, there is one in code for each decision
+pub in_bytes : (x : Decision) → (y : Declared.Decision ℕ) × (decision_with (λ code. code) y ≡ x)
+in_bytes (Refuse code) = (De.Refuse code, refl)
+in_bytes (Already i) = (De.Already i, refl)
+in_bytes (Place i offset) = (De.Place i offset, refl)

@@ -1,9 +1,9 @@
 // What booking decides, and what it answers.
-ghost use Rattle.std.specs.Prelude.{◌≡◌, true, ◌≤◌, ◌<◌};
+ghost use Rattle.std.specs.Prelude.{◌≡◌, true, ℕ, ◌≤◌, ◌<◌};
 ghost use Rattle.sizes.specs.Sizes.{lent_size_allowed, entry_count, index_start};
 ghost use Rattle.room.specs.Room.{EndBy, ranges_in};
 ghost use Rattle.room.specs.Decide as D;
-ghost use Rattle.room.specs.Decide.{SlotBelow, answer_to, booked_of, decision_of};
+ghost use Rattle.room.specs.Decide.{SlotBelow, answer_to, booked_with, decision_of, decision_with};
 
 use crate::places::{lowest_free_slot, lowest_place};
 use crate::{Decision, Placed, Range, Unbooked};
@@ -42,15 +42,21 @@ pub fn decide(
     Decision::Place(i, k as u64 * area)
 }
 
-// The answer to a decision: the numbers of the slot that keeps the segment, or those that were decided.
+// The answer to a decision: the numbers of the slot that keeps the segment, or those that were decided, or the reason
+// of a refusal. Which codes the reasons stand for is nothing to it: a refusal has its number, and a byte is any code.
 // The ranges are an array here too: of a slice it would have to be asked that it has a range for each slot.
-pub fn answer(size: u64, ranges: &[Range; 128], decision: Decision) -> Result<Placed, Unbooked>
+pub fn answer<R: Copy>(
+    size: u64,
+    ranges: &[Range; 128],
+    decision: Decision<R>,
+) -> Result<Placed, Unbooked<R>>
     requires size_value { lent_size_allowed size ≡ true }
-    requires slot_below { SlotBelow (entry_count size) (decision_of decision) }
-    ensures { booked_of result ≡ answer_to size (ranges_in ranges.now) (decision_of decision) }
+    requires slot_below { (read : R → ℕ) × SlotBelow (entry_count size) (decision_with read decision) }
+    ensures { (read : R → ℕ)
+        → booked_with read result ≡ answer_to size (ranges_in ranges.now) (decision_with read decision) }
 {
     match decision {
-        Decision::Refuse(refusal) => Err(Unbooked::Refused(refusal)),
+        Decision::Refuse(reason) => Err(Unbooked::Refused(reason)),
         Decision::Already(i) => Err(Unbooked::Already(Placed {
             offset: ranges[i].offset,
             place: sizes::slot_place(size, i as u64),

@@ -21,10 +21,11 @@ pub struct Range {
 }
 
 // What booking decides: a refusal, the slot that keeps the segment already, or the slot and the offset for it. It is no
-// `Result`: it has three outcomes, of which one carries a slot and an offset, and `answer` reads each.
+// `Result`: it has three outcomes, of which one carries a slot and an offset, and `answer` reads each. The reason of a
+// refusal may be of another type, such as a byte that is any code.
 #[derive(Clone, Copy, Debug, PartialEq, Eq)]
-pub enum Decision {
-    Refuse(Refusal),
+pub enum Decision<R = Refusal> {
+    Refuse(R),
     Already(usize),
     Place(usize, u64),
 }
@@ -38,8 +39,8 @@ pub struct Placed {
 
 // Why a segment is not booked: a refusal, or that it is kept already, and where.
 #[derive(Clone, Copy, Debug, PartialEq, Eq)]
-pub enum Unbooked {
-    Refused(Refusal),
+pub enum Unbooked<R = Refusal> {
+    Refused(R),
     Already(Placed),
 }
 

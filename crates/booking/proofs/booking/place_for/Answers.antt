@@ -1,4 +1,5 @@
 use Rattle.std.proofs.Common.{◌≡◌, sym, ap, ap₂, ◌∙◌, subst, ℕ, length, arith}
+use Rattle.rules.specs.Answers.{number}
 use Rattle.sizes.specs.Sizes.{area, entry_count}
 use Rattle.lent.specs.Seen.{seen}
 use Rattle.room.specs.Room.{ranges_in}
@@ -71,9 +72,11 @@ answer-requires-clause-slot_below c =
     let decided = c.decide-decision.ensures
     ∙ ap₂ (λ (h n : ℕ). among h n c.lowest_keeping-keeping.result) held c.area.ensures
     ∙ ap (among (held_in a.deal.now.bytes.now a.table.now a.house) (area (length segment)))
-    c.lowest_keeping-keeping.ensures in
-    subst (SlotBelow (entry_count d)) (sym decided)
-    (decided_below lent a.table.now a.house segment c.requires c.gather-ranges.result c.gather-ranges.ensures)
+    c.lowest_keeping-keeping.ensures in (
+      number,
+      subst (SlotBelow (entry_count d)) (sym decided)
+          (decided_below lent a.table.now a.house segment c.requires c.gather-ranges.result c.gather-ranges.ensures),
+    )
 
 pub returns : goal.returns
 returns c =
@@ -89,6 +92,6 @@ returns c =
     ∙ ap₂ (λ (h n : ℕ). among h n c.lowest_keeping-keeping.result) held c.area.ensures
     ∙ ap (among (held_in a.deal.now.bytes.now a.table.now a.house) (area (length segment)))
     c.lowest_keeping-keeping.ensures in
-    c.answer.ensures
+    c.answer.ensures number
     ∙ ap (answer_to d (ranges_in c.gather-ranges.result)) decided
     ∙ answer_by lent a.table.now a.house segment c.requires c.gather-ranges.result c.gather-ranges.ensures

@@ -1,6 +1,7 @@
 -- The answer to what is decided is compared with the line's; with the same one its row, if one was decided on, is added.
 use Rattle.std.specs.Prelude.{◌≡◌, refl, true, false, ◌<◌, length, set}
 use Rattle.std.proofs.Common.{rules, sym, ap, ◌∙◌, arith, subst}
+use Rattle.rules.specs.Answers.{number}
 use Rattle.sizes.specs.Sizes.{entry_count}
 use Rattle.sizes.specs.SizesLaws.{lent_size}
 use Rattle.room.specs.Room.{ranges_in}
@@ -17,9 +18,11 @@ use Rattle.playback.proofs.ledger.Ledger.book.Goals as goal
 
 pub answer-requires-clause-slot_below : goal.answer-requires-clause-slot_below
 answer-requires-clause-slot_below c =
-    let l = c.args.self.now in
-    made_below l.size l.rows c.args.line.now l.size_allowed c.requires (decision_of c.decide-decision.result)
-    c.decide-decision.ensures
+    let l = c.args.self.now in (
+      number,
+      made_below l.size l.rows c.args.line.now l.size_allowed c.requires (decision_of c.decide-decision.result)
+          c.decide-decision.ensures,
+    )
 
 pub returns-then-ne-clause-answer : goal.returns-then-ne-clause-answer
 returns-then-ne-clause-answer c =
@@ -28,7 +31,7 @@ returns-then-ne-clause-answer c =
     let f : Fits l.size l.rows = record { size_allowed = l.size_allowed; ends = l.ends } in
     let ruled = c.booked_of-ruling.result in
     let r : ruled ≡ ruling l.size l.rows (booking line) =
-    c.booked_of-ruling.ensures ∙ c.answer.ensures
+    c.booked_of-ruling.ensures ∙ c.answer.ensures number
     ∙ ruled_booking l.size l.rows line l.size_allowed c.requires (decision_of c.decide-decision.result)
     c.decide-decision.ensures (ranges_in c.ranges-2.result)
     (same_below l.size l.rows f (search rules) c.ranges-2.result c.ranges-2.ensures) in
@@ -43,7 +46,7 @@ returns-then-ne-clause-rows c =
     let f : Fits l.size l.rows = record { size_allowed = l.size_allowed; ends = l.ends } in
     let ruled = c.booked_of-ruling.result in
     let r : ruled ≡ ruling l.size l.rows (booking line) =
-    c.booked_of-ruling.ensures ∙ c.answer.ensures
+    c.booked_of-ruling.ensures ∙ c.answer.ensures number
     ∙ ruled_booking l.size l.rows line l.size_allowed c.requires (decision_of c.decide-decision.result)
     c.decide-decision.ensures (ranges_in c.ranges-2.result)
     (same_below l.size l.rows f (search rules) c.ranges-2.result c.ranges-2.ensures) in
@@ -98,7 +101,7 @@ returns-in-Place-clause-answer c =
     let f : Fits l.size l.rows = record { size_allowed = l.size_allowed; ends = l.ends } in
     let ruled = c.booked_of-ruling.result in
     let r : ruled ≡ ruling l.size l.rows (booking line) =
-    c.booked_of-ruling.ensures ∙ c.answer.ensures
+    c.booked_of-ruling.ensures ∙ c.answer.ensures number
     ∙ ruled_booking l.size l.rows line l.size_allowed c.requires (decision_of c.decide-decision.result)
     c.decide-decision.ensures (ranges_in c.ranges-2.result)
     (same_below l.size l.rows f (search rules) c.ranges-2.result c.ranges-2.ensures) in
@@ -113,7 +116,7 @@ returns-in-Place-clause-rows c =
     let f : Fits l.size l.rows = record { size_allowed = l.size_allowed; ends = l.ends } in
     let ruled = c.booked_of-ruling.result in
     let r : ruled ≡ ruling l.size l.rows (booking line) =
-    c.booked_of-ruling.ensures ∙ c.answer.ensures
+    c.booked_of-ruling.ensures ∙ c.answer.ensures number
     ∙ ruled_booking l.size l.rows line l.size_allowed c.requires (decision_of c.decide-decision.result)
     c.decide-decision.ensures (ranges_in c.ranges-2.result)
     (same_below l.size l.rows f (search rules) c.ranges-2.result c.ranges-2.ensures) in
@@ -132,7 +135,7 @@ returns-in_default c =
     let made = decision_of c.decide-decision.result in
     let ruled = c.booked_of-ruling.result in
     let r : ruled ≡ ruling l.size l.rows (booking line) =
-    c.booked_of-ruling.ensures ∙ c.answer.ensures
+    c.booked_of-ruling.ensures ∙ c.answer.ensures number
     ∙ ruled_booking l.size l.rows line l.size_allowed c.requires made
     c.decide-decision.ensures (ranges_in c.ranges-2.result)
     (same_below l.size l.rows f (search rules) c.ranges-2.result c.ranges-2.ensures) in
