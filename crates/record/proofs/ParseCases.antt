@@ -1,30 +1,31 @@
 -- Parsing field by field: the refusal at a field that is not there, and the answer where all are.
-use mathlib.Core.Path.{◌≡◌, refl, sym, ap, subst, ◌∙◌}
-use mathlib.Core.Bool.{true}
+use mathlib.Core.Path.{◌≡◌, sym, ap, ◌∙◌}
 use Prim.Native.Nat.{ℕ, ◌+◌, ◌-◌, ◌≤◌, ◌<◌}
 use native.Mathlib.Omega.{arith}
 use mathlib.Core.List.{List, [], ◌∷◌}
 use lib.ListN.{length, take, drop}
 use borrow.Author.Tests.{eqb-true, le-leb, lt-leb}
-use Rattle.std.specs.Prelude.{Result, Err}
+use Rattle.std.specs.Prelude.{Result, Err, IfOk}
+use Rattle.std.specs.Borrow.{Bor}
 use Rattle.rules.specs.Answers.{number}
 use Rattle.rules.specs.Refusals.{first_refusal}
 use Rattle.rules.specs.declared.Refusal.{Refusal}
 use Rattle.octets.specs.LittleEndian.{number_of}
 use Rattle.octets.specs.Splice.{part}
 use Rattle.octets.specs.SpliceLaws.{part_length, part_range}
-use Rattle.fields.specs.Table.{length_allowed, field_rule}
 use Rattle.fields.specs.FieldAt.{Content, Refused, field_for, field_code, row_rules}
 use Rattle.fields.specs.FieldAtLaws.{is_field, row_code_lem}
-use Rattle.fields.specs.Spans.{spans, misplaced, before, spans_from}
-use Rattle.fields.specs.declared.LengthRule.{LengthRule}
-use Rattle.fields.specs.declared.LengthRule.TheVariants.{Exactly}
+use Rattle.fields.specs.Spans.{spans, misplaced, spans_from}
 use Rattle.fields.specs.declared.FieldRule.{FieldRule}
-use Rattle.record.specs.Form.{layout, table_row, parsed, broken, Parsed, parse, fields}
+use Rattle.record.specs.Form.{layout, table_row, parsed, broken, parse, fields}
 use Rattle.record.specs.ParsedRecord.{ParsedRecord, unread, read_at, parsed_record}
-use Rattle.record.specs.Answers.{parsed_of, record_answer}
+use Rattle.record.specs.Answers.{parsed_of, record_answer, SegmentPathIn, EntryPathIn}
 use Rattle.record.specs.declared.ParsedRecord.{ParsedRecord as Read}
 use Rattle.record.specs.ParsedRecordLaws.{fields_at, record_read, not_read}
+
+-- a place counted from where the lent bytes begin
+pub back : (n at : ℕ) → (n + at) - at ≡ n
+back n at = omega arith
 
 module _ (r : List ℕ) where
   -- the first field of a table, with the spans of the others
@@ -66,9 +67,11 @@ module _ (r : List ℕ) where
       (ap unread c ∙ sym u, sym (not_read r (λ z. absurd (omega (arith, ap (λ (y : ParsedRecord). y.code) p)))).1)
 
   -- the refusal of a field, passed on
-  pub no_field : {x : Result Read Refusal} {e : Refusal} → x ≡ Err e → number e ≡ 3 → spans_from layout r 0 ≡ misplaced
-      → (record_answer x ≡ parsed_record r) × (parsed_of x ≡ parse r)
-  no_field {x} {e} p c m = rw p (no_record c m)
+  pub no_field : (lent : Bor (List ℕ)) {x : Result Read Refusal} {e : Refusal} → x ≡ Err e → number e ≡ 3
+      → spans_from layout r 0 ≡ misplaced
+      → (record_answer lent x ≡ parsed_record r) × (parsed_of x ≡ parse r)
+      × IfOk x (λ y. SegmentPathIn lent y) × IfOk x (λ y. EntryPathIn lent y)
+  no_field lent p c m = let n = no_record c m in rw p (n.0, n.1, tt, tt)
 
   -- all fields, one behind another
   module _ {t0 s0 n0 x0 t1 s1 n1 x1 t2 s2 n2 x2 t3 s3 n3 x3 t4 s4 n4 x4 t5 s5 n5 x5 t6 s6 n6 x6 : ℕ}
@@ -165,10 +168,20 @@ module _ (r : List ℕ) where
           entry_path_within = omega (arith, f5.next_is, f5.within);
         }
 
-    pub record_there : {commitment u v : List ℕ} {offset size place number : ℕ} → length r ≤ x6
+    -- the bytes of the segment path, and the place of the entry path behind them
+    segment_path_part : take (x4 - s4) (drop s4 r) ≡ part r s4 n4
+    segment_path_part = ap (λ (k : ℕ). take (k - s4) (drop s4 r)) placed.segment_path_end ∙ part_range r s4 n4
+
+    segment_path_length : length (take (x4 - s4) (drop s4 r)) ≡ n4
+    segment_path_length = ap length segment_path_part ∙ part_length r s4 n4 placed.segment_path_within
+
+    pub entry_path_after : s5 ≡ 74 + length (take (x4 - s4) (drop s4 r))
+    entry_path_after = omega (arith, placed.entry_path_at, segment_path_length)
+
+    pub record_there : {commitment u v : List ℕ} {offset size place number at_u at_v : ℕ} → length r ≤ x6
         → commitment ≡ part r s0 32 → offset ≡ number_of (part r s1 8) → size ≡ number_of (part r s2 8)
-        → place ≡ number_of (part r s3 8) → u ≡ take (x4 - s4) (drop s4 r) → v ≡ take (x5 - s5) (drop s5 r)
-        → number ≡ number_of (part r s6 8)
+        → place ≡ number_of (part r s3 8) → at_u ≡ s4 → u ≡ take (x4 - s4) (drop s4 r) → at_v ≡ s5
+        → v ≡ take (x5 - s5) (drop s5 r) → number ≡ number_of (part r s6 8)
         → (◌≡◌ {A = ParsedRecord}
         (record {
           code = 0;
@@ -176,16 +189,16 @@ module _ (r : List ℕ) where
           offset = offset;
           size = size;
           place = place;
-          segment_path = 71;
+          segment_path = at_u;
           segment_path_length = length u;
-          entry_path = 74 + length u;
+          entry_path = at_v;
           entry_path_length = length v;
           number = number;
         })
         (parsed_record r))
         × (parsed (fields commitment offset size place u v number) ≡ parse r)
     unfolding parsed_record
-    record_there {commitment} {u} {v} {offset} {size} {place} {number} h ec eo es ep eu ev en =
+    record_there {commitment} {u} {v} {offset} {size} {place} {number} h ec eo es ep au eu av ev en =
         let p = placed in
         let q : parsed_record r ≡ read_at r
         (spans (s0 ∷ s1 ∷ s2 ∷ s3 ∷ s4 ∷ s5 ∷ s6 ∷ []) (n0 ∷ n1 ∷ n2 ∷ n3 ∷ n4 ∷ n5 ∷ n6 ∷ [])) =
@@ -195,13 +208,11 @@ module _ (r : List ℕ) where
         let s : size ≡ number_of (part r s2 n2) = es ∙ ap (λ (k : ℕ). number_of (part r s2 k)) (sym p.size_8) in
         let a : place ≡ number_of (part r s3 n3) = ep ∙ ap (λ (k : ℕ). number_of (part r s3 k)) (sym p.place_8) in
         let m : number ≡ number_of (part r s6 n6) = en ∙ ap (λ (k : ℕ). number_of (part r s6 k)) (sym p.number_8) in
-        let pu : u ≡ part r s4 n4 =
-        eu ∙ ap (λ (k : ℕ). take (k - s4) (drop s4 r)) p.segment_path_end ∙ part_range r s4 n4 in
+        let pu : u ≡ part r s4 n4 = eu ∙ segment_path_part in
         let pv : v ≡ part r s5 n5 =
         ev ∙ ap (λ (k : ℕ). take (k - s5) (drop s5 r)) p.entry_path_end ∙ part_range r s5 n5 in
-        let lu : length u ≡ n4 = ap length pu ∙ part_length r s4 n4 p.segment_path_within in
+        let lu : length u ≡ n4 = ap length eu ∙ segment_path_length in
         let lv : length v ≡ n5 = ap length pv ∙ part_length r s5 n5 p.entry_path_within in
-        let at5 : 74 + length u ≡ s5 = omega (arith, p.entry_path_at) in
         let z : (parsed_record r).code ≡ 0 = ap (λ (y : ParsedRecord). y.code) q in (
           (λ i. record {
             code = 0;
@@ -209,9 +220,9 @@ module _ (r : List ℕ) where
             offset = o i;
             size = s i;
             place = a i;
-            segment_path = p.segment_path_at i;
+            segment_path = au i;
             segment_path_length = lu i;
-            entry_path = at5 i;
+            entry_path = av i;
             entry_path_length = lv i;
             number = m i;
           }) ∙ sym q,

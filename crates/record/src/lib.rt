@@ -8,7 +8,7 @@ mod layout; // layout.rt: the table of a record's fields
 ghost use Rattle.std.specs.Prelude.{◌≡◌, IfOk};
 ghost use Rattle.rules.specs.Answers.{code_of};
 ghost use Rattle.record.specs.Form.{parse, parsed};
-ghost use Rattle.record.specs.Answers.{read_fields};
+ghost use Rattle.record.specs.Answers.{read_fields, SegmentPathIn, EntryPathIn};
 ghost use Rattle.record.specs.Check.{deal_terms, check_of};
 
 pub use form::parse;
@@ -39,6 +39,8 @@ pub fn accepted<'a>(
 ) -> Result<ParsedRecord<'a>, Refusal>
     ensures code { code_of result ≡ check_of (deal_terms commitment.now size number) «record».now }
     ensures fields { IfOk result (λ x. parse «record».now ≡ parsed (read_fields x)) }
+    ensures segment_path_in { IfOk result (λ x. SegmentPathIn «record».entry x) }
+    ensures entry_path_in { IfOk result (λ x. EntryPathIn «record».entry x) }
 {
     if commitment.len() != 32 {
         return Err(Refusal::CommitmentLength);
