@@ -1,12 +1,17 @@
 // The clerks' log: tagged fields, a line for each booking and each cancellation whose answer gets one.
 #![tactic(auto)]
 
-mod reading; // reading.rt: the line at the front of a log
+mod reading; // reading.rt: the line at a place of a log, and at its front
 mod whole; // whole.rt: the form of a whole log
 
-pub use reading::first_line;
+pub use reading::{booking_at, cancelling_at, first_line, line_field};
 use room::Booked;
 pub use whole::in_form;
+
+// The tags of the two kinds of lines.
+pub const BOOKING: u8 = 1;
+
+pub const CANCELLING: u8 = 2;
 
 // House and code are bytes of the log, any until its form is checked.
 

@@ -1,9 +1,9 @@
 -- The log is in form where what is left of it is: with no line at its front it is not, nor with one that may not stand
 -- there, and else it is where the log after that line is.
-use Rattle.std.specs.Prelude.{◌≡◌, ℕ, ◌<◌, List, length, refl}
-use Rattle.std.proofs.Common.{sym, ap, ◌∙◌, arith, rules}
-use Rattle.clerk_log.specs.Log.{FirstLine, first_line, log_lines}
-use Rattle.clerk_log.specs.LineAt.{first_seen, is_log}
+use Rattle.std.specs.Prelude.{◌≡◌, ◌<◌, length, refl}
+use Rattle.std.proofs.Common.{sym, ap, ◌∙◌, rules}
+use Rattle.clerk_log.specs.Log.{log_lines}
+use Rattle.clerk_log.specs.LineAt.{is_log}
 use Rattle.clerk_log.specs.LineAtLaws.{shorter, log_empty, no_first, first_on, first_off, is_log_add}
 use Rattle.clerk_log.proofs.whole.in_form.Goals as goal
 
