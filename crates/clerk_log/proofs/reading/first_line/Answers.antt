@@ -1,5 +1,5 @@
 -- The line that stands at the log's start, and the rest of the log by the place of the next one.
-use Rattle.std.proofs.Common.{sym}
+use Rattle.std.proofs.Common.{sym, arith}
 use Rattle.clerk_log.specs.LineAtLaws.{is_line, booking_within, cancelling_within}
 use Rattle.clerk_log.proofs.FirstRead.{booking_first, cancelling_first, none_first}
 use Rattle.clerk_log.proofs.reading.first_line.Goals as goal
@@ -14,12 +14,14 @@ booking_at-line-requires c =
 pub slice_bounds-result-count : goal.slice_bounds-result-count
 slice_bounds-result-count c =
     let x = c.in-Ok.field in
-    (is_line c.args.log.now 0 x.tag x.start x.length x.next (sym c.in-Ok.ensures.0)).ends
+    let l = is_line c.args.log.now 0 x.tag x.start x.length x.next (sym c.in-Ok.ensures.0) in
+    omega (arith, l.within, l.ends)
 
 pub slice_bounds-result-start : goal.slice_bounds-result-start
 slice_bounds-result-start c =
     let x = c.in-Ok.field in
-    (is_line c.args.log.now 0 x.tag x.start x.length x.next (sym c.in-Ok.ensures.0)).ends
+    let l = is_line c.args.log.now 0 x.tag x.start x.length x.next (sym c.in-Ok.ensures.0) in
+    omega (arith, l.within, l.ends)
 
 pub returns-then-field-eq-BOOKING : goal.returns-then-field-eq-BOOKING
 returns-then-field-eq-BOOKING c =
@@ -37,12 +39,14 @@ cancelling_at-line-requires c =
 pub slice_bounds-result-count-2 : goal.slice_bounds-result-count-2
 slice_bounds-result-count-2 c =
     let x = c.in-Ok.field in
-    (is_line c.args.log.now 0 x.tag x.start x.length x.next (sym c.in-Ok.ensures.0)).ends
+    let l = is_line c.args.log.now 0 x.tag x.start x.length x.next (sym c.in-Ok.ensures.0) in
+    omega (arith, l.within, l.ends)
 
 pub slice_bounds-result-start-2 : goal.slice_bounds-result-start-2
 slice_bounds-result-start-2 c =
     let x = c.in-Ok.field in
-    (is_line c.args.log.now 0 x.tag x.start x.length x.next (sym c.in-Ok.ensures.0)).ends
+    let l = is_line c.args.log.now 0 x.tag x.start x.length x.next (sym c.in-Ok.ensures.0) in
+    omega (arith, l.within, l.ends)
 
 pub returns-in_default : goal.returns-in_default
 returns-in_default c = none_first c.args.log.now (sym c.in_default.ensures.0)
