@@ -1,4 +1,6 @@
 // Parts of buffers.
+ghost use Rattle.std.specs.Prelude.{◌≡◌, ◌-◌, length, take};
+ghost use Rattle.rules.specs.Choice.{choose};
 
 // The buffers of a year: a deal with its tree and its table of owners, and second ones to collect into.
 #[derive(Drop)]
@@ -26,7 +28,9 @@ pub(crate) fn part(bytes: &[u8], offset: u64, size: u64) -> &[u8] {
 }
 
 // What a call is lent of a buffer: all of it, or all but its last byte.
-pub(crate) fn lent(bytes: &mut [u8], short: bool) -> &mut [u8] {
+pub(crate) fn lent(bytes: &mut [u8], short: bool) -> &mut [u8]
+    ensures { result.now ≡ take (length bytes.old - choose short 1 0) bytes.old }
+{
     let end = if short {
         bytes.len().saturating_sub(1)
     } else {

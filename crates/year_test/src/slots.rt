@@ -32,20 +32,27 @@ pub(crate) struct Slot {
 
 pub(crate) type Slots = [Slot; SLOTS];
 
-// The slot of this number, with the state that an audit gives it and its byte of the table of owners.
+// The slot of this number, with the state that an audit gives it and its byte of the table of owners. The state alone
+// says whether an entry stands. Where it says so of an entry that is not valid, offset and T are zeros here, and the
+// tests fail on it.
 fn slot_of(deal: &[u8], i: usize, state: u8, owner: u8) -> Slot
     requires { i < 4 }
 {
     let start = sizes::index_numbers(deal.len() as u64).map_or(0, |numbers| numbers.start);
     let place = start.wrapping_add(64 * (i as u64));
-    let standing = match entries::read_entry(part(deal, place, 64)) {
-        Ok(ReadEntry::Valid(fields)) if OVERLAPPING <= state => Some(Standing {
+    let (offset, size) = match entries::read_entry(part(deal, place, 64)) {
+        Ok(ReadEntry::Valid(fields)) => (fields.offset, fields.size),
+        _ => (0, 0),
+    };
+    let standing = if OVERLAPPING <= state {
+        Some(Standing {
             kept: state == KEPT,
             owner,
-            offset: fields.offset,
-            size: fields.size,
-        }),
-        _ => None,
+            offset,
+            size,
+        })
+    } else {
+        None
     };
     Slot { place, standing }
 }
