@@ -95,7 +95,9 @@ impl Stream {
             return Err(Refusal::Size);
         }
         let height = (pow2::log2(self.count) - 5) as usize;
-        let node = octets::array_at(&self.waiting, 32 * height);
+        // Behind the tests: a refusal costs no copy of the nodes.
+        let waiting = self.waiting;
+        let node = octets::array_at(&waiting, 32 * height);
         Ok(Ended {
             node,
             count: self.count,
