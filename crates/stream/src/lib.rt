@@ -67,17 +67,24 @@ impl Stream {
         failed_with(0)
     }
 
-    // The state after one more piece, of any length, which is taken by parts.
+    // One more piece, of any length, which is taken by parts. In place: `take` costs copies of the state.
+    pub fn update(&mut self, piece: &[u8])
+        ensures { self.new ≡ take_piece self.old piece.now }
+    {
+        if self.code != 0 {
+            return;
+        }
+        if let Err(refusal) = self.take_parts(piece) {
+            *self = failed_with(refusal.code());
+        }
+    }
+
+    // The state after one more piece.
     pub fn take(mut self, piece: &[u8]) -> Stream
         ensures { result ≡ take_piece self piece.now }
     {
-        if self.code != 0 {
-            return self;
-        }
-        match self.take_parts(piece) {
-            Ok(()) => self,
-            Err(refusal) => failed_with(refusal.code()),
-        }
+        self.update(piece);
+        self
     }
 
     // The answer for all bytes taken so far. Size: their number is no power of two from 32 to 2^36. StrayBits: a node

@@ -30,10 +30,10 @@ pub extern "C" fn vz_stream_take(state: &mut [u8], piece: &[u8]) -> u32
     if state.len() != STATE_LENGTH {
         return WRONG_LENGTH;
     }
-    let before = stream::unpack(state);
-    let after = before.take(piece);
-    let code = stream::lasting_code(after.code);
-    stream::pack(after, state);
+    let mut taken = stream::unpack(state);
+    taken.update(piece);
+    let code = stream::lasting_code(taken.code);
+    stream::pack(taken, state);
     code as u32
 }
 

@@ -1,6 +1,0 @@
-use mathlib.Core.Path.{sym}
-use Rattle.stream.specs.StreamLaws.{piece_after_failure}
-use Rattle.stream.proofs.Stream.take.Goals as goal
-
-pub returns-then-self-ne0 : goal.returns-then-self-ne0
-returns-then-self-ne0 c = sym (piece_after_failure c.args.self c.args.piece.now c.if-self-ne0.true)
