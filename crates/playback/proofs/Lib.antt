@@ -1,4 +1,5 @@
 pub mod Read
+pub mod Mapped
 pub mod SlotRow
 pub mod KeepsRow
 pub mod Gathered

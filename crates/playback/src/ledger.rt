@@ -49,18 +49,27 @@ impl Ledger {
         sizes::entry_count(self.size) as usize
     }
 
-    // Which bytes each row's segment takes up.
+    // Which bytes each row's segment takes up. A loop and no `map`, here and below: `map` takes the rows by value, so
+    // that all of them would be copied for each line.
     pub(crate) fn ranges(&self) -> [Range; ROWS]
         ensures { result ≡ map ledger_range self.now.rows }
     {
-        self.rows.map(|row| row.range())
+        let mut ranges = [Range { offset: 0, area: 0 }; ROWS];
+        for i in 0..ROWS {
+            ranges[i] = self.rows[i].range();
+        }
+        ranges
     }
 
     // Whose each row is.
     fn owners(&self) -> [u8; ROWS]
         ensures { result ≡ ledger_owners self.now.rows }
     {
-        self.rows.map(|row| row.house)
+        let mut owners = [0; ROWS];
+        for i in 0..ROWS {
+            owners[i] = self.rows[i].house;
+        }
+        owners
     }
 
     // The lowest row that is the house's and for the segment of a line.
@@ -76,16 +85,16 @@ impl Ledger {
         None
     }
 
-    // What booking decides.
-    pub(crate) fn decide(&self, line: &BookingLine) -> Decision
-        requires { segment_size_allowed self.now.size line.now.size ≡ true }
+    // What booking decides. The ranges are handed in, as the answer needs them too.
+    pub(crate) fn decide(&self, line: &BookingLine, ranges: &[Range; ROWS]) -> Decision
+        requires size_allowed { segment_size_allowed self.now.size line.now.size ≡ true }
+        requires of_rows { ranges.now ≡ map ledger_range self.now.rows }
         ensures { decision_of result ≡ ledger_decision self.now.size self.now.rows line.now }
     {
-        let ranges = self.ranges();
         let held = houses::held_count(&ranges[..self.slots()], &self.owners(), line.house);
         room::decide(
             self.size,
-            &ranges,
+            ranges,
             held,
             sizes::area(line.size),
             self.keeping(line),

@@ -25,8 +25,9 @@ impl Ledger {
             ≡ choose (confirms self.old.size self.old.rows (booking line.now))
             (ledger_after self.old.size self.old.rows (booking line.now)) self.old.rows }
     {
-        let decision = self.decide(line);
-        let ruling = room::booked_of(room::answer(self.size, &self.ranges(), decision));
+        let ranges = self.ranges();
+        let decision = self.decide(line, &ranges);
+        let ruling = room::booked_of(room::answer(self.size, &ranges, decision));
         if ruling != line.answer {
             return Err(ruling);
         }

@@ -1,5 +1,5 @@
 -- The answer to what is decided is compared with the line's; with the same one its row, if one was decided on, is added.
-use Rattle.std.specs.Prelude.{◌≡◌, refl, true, false, ◌<◌, length, set}
+use Rattle.std.specs.Prelude.{◌≡◌, refl, ◌<◌}
 use Rattle.std.proofs.Common.{rules, sym, ap, ◌∙◌, arith, subst}
 use Rattle.rules.specs.Answers.{number}
 use Rattle.sizes.specs.Sizes.{entry_count}
@@ -8,7 +8,7 @@ use Rattle.room.specs.Room.{ranges_in}
 use Rattle.room.specs.RoomLaws.{slots_high}
 use Rattle.room.specs.Decide.{decision_of, SlotBelow}
 use Rattle.clerk_log.specs.declared.Line.TheVariants.{Booking as booking}
-use Rattle.playback.specs.Playback.{ruling, same_answer, confirms}
+use Rattle.playback.specs.Playback.{ruling, same_answer}
 use Rattle.playback.specs.LedgerLaws.{booking_fits}
 use Rattle.playback.specs.Steps.{Fits}
 use Rattle.playback.proofs.DecidedLine.{same_below}
@@ -33,8 +33,8 @@ returns-then-ne-clause-answer c =
     let r : ruled ≡ ruling l.size l.rows (booking line) =
     c.booked_of-ruling.ensures ∙ c.answer.ensures number
     ∙ ruled_booking l.size l.rows line l.size_allowed c.requires (decision_of c.decide-decision.result)
-    c.decide-decision.ensures (ranges_in c.ranges-2.result)
-    (same_below l.size l.rows f (search rules) c.ranges-2.result c.ranges-2.ensures) in
+    c.decide-decision.ensures (ranges_in c.ranges-ranges.result)
+    (same_below l.size l.rows f (search rules) c.ranges-ranges.result c.ranges-ranges.ensures) in
     outcome_other l.size l.rows (booking line) ruled r
     (confirms_booking l.size l.rows line ruled r
     ∙ is_other (same_answer ruled line.answer) c.ne.result c.ne.ensures c.if-ne.true)
@@ -48,8 +48,8 @@ returns-then-ne-clause-rows c =
     let r : ruled ≡ ruling l.size l.rows (booking line) =
     c.booked_of-ruling.ensures ∙ c.answer.ensures number
     ∙ ruled_booking l.size l.rows line l.size_allowed c.requires (decision_of c.decide-decision.result)
-    c.decide-decision.ensures (ranges_in c.ranges-2.result)
-    (same_below l.size l.rows f (search rules) c.ranges-2.result c.ranges-2.ensures) in
+    c.decide-decision.ensures (ranges_in c.ranges-ranges.result)
+    (same_below l.size l.rows f (search rules) c.ranges-ranges.result c.ranges-ranges.ensures) in
     left_other l.size l.rows (booking line)
     (confirms_booking l.size l.rows line ruled r
     ∙ is_other (same_answer ruled line.answer) c.ne.result c.ne.ensures c.if-ne.true)
@@ -103,8 +103,8 @@ returns-in-Place-clause-answer c =
     let r : ruled ≡ ruling l.size l.rows (booking line) =
     c.booked_of-ruling.ensures ∙ c.answer.ensures number
     ∙ ruled_booking l.size l.rows line l.size_allowed c.requires (decision_of c.decide-decision.result)
-    c.decide-decision.ensures (ranges_in c.ranges-2.result)
-    (same_below l.size l.rows f (search rules) c.ranges-2.result c.ranges-2.ensures) in
+    c.decide-decision.ensures (ranges_in c.ranges-ranges.result)
+    (same_below l.size l.rows f (search rules) c.ranges-ranges.result c.ranges-ranges.ensures) in
     outcome_same l.size l.rows (booking line)
     (confirms_booking l.size l.rows line ruled r
     ∙ is_same (same_answer ruled line.answer) c.ne.result c.ne.ensures c.if-ne.false)
@@ -118,8 +118,8 @@ returns-in-Place-clause-rows c =
     let r : ruled ≡ ruling l.size l.rows (booking line) =
     c.booked_of-ruling.ensures ∙ c.answer.ensures number
     ∙ ruled_booking l.size l.rows line l.size_allowed c.requires (decision_of c.decide-decision.result)
-    c.decide-decision.ensures (ranges_in c.ranges-2.result)
-    (same_below l.size l.rows f (search rules) c.ranges-2.result c.ranges-2.ensures) in
+    c.decide-decision.ensures (ranges_in c.ranges-ranges.result)
+    (same_below l.size l.rows f (search rules) c.ranges-ranges.result c.ranges-ranges.ensures) in
     left_same l.size l.rows (booking line) _
     (stored l.size l.rows line l.size_allowed c.requires (decision_of c.decide-decision.result)
     c.decide-decision.ensures c.in-Place.slot c.in-Place.offset c.slot_place.result c.slot_place.ensures
@@ -137,8 +137,8 @@ returns-in_default c =
     let r : ruled ≡ ruling l.size l.rows (booking line) =
     c.booked_of-ruling.ensures ∙ c.answer.ensures number
     ∙ ruled_booking l.size l.rows line l.size_allowed c.requires made
-    c.decide-decision.ensures (ranges_in c.ranges-2.result)
-    (same_below l.size l.rows f (search rules) c.ranges-2.result c.ranges-2.ensures) in
+    c.decide-decision.ensures (ranges_in c.ranges-ranges.result)
+    (same_below l.size l.rows f (search rules) c.ranges-ranges.result c.ranges-ranges.ensures) in
     let e =
     confirms_booking l.size l.rows line ruled r
     ∙ is_same (same_answer ruled line.answer) c.ne.result c.ne.ensures c.if-ne.false in
