@@ -1,5 +1,5 @@
 -- Which of the rules before the slots refuses a booking, by the tests on the way.
-use mathlib.Core.Path.{◌≡◌, refl, sym, ◌∙◌}
+use mathlib.Core.Path.{◌≡◌, refl, sym, ap, ◌∙◌}
 use mathlib.Core.Bool.{Bool, true, false, ◌&&◌}
 use mathlib.Core.List.{List}
 use Prim.Native.Nat.{ℕ, ◌<◌}
@@ -18,10 +18,14 @@ use Rattle.houses.specs.HousesLaws.{housed}
 use Rattle.booking.specs.Write.{area_bytes}
 use Rattle.booking.specs.Booking.{segment_rules, book_rules}
 
--- the deal's and the area's stray bits, where the area has some
+-- the deal's and the area's stray bits, where the area has some and where it has none
 and_stray : (deal : Bool) {area : Bool} → area ≡ false → (deal && area) ≡ false
 and_stray true e = e
 and_stray false e = refl
+
+and_clear : (deal : Bool) {area : Bool} → area ≡ true → (deal && area) ≡ deal
+and_clear true e = e
+and_clear false e = refl
 
 module _ (deal : LentDeal) (table : List ℕ) (house : ℕ) (segment : List ℕ) where
   abbrev code : ℕ
@@ -60,3 +64,11 @@ module _ (deal : LentDeal) (table : List ℕ) (house : ℕ) (segment : List ℕ)
       by_tree e s =
           let clear = (refusal_none (lent_deal deal.bytes) (sym e)).1 in
           sym (later ∙ rw (b, clear, area_clear ∙ s))
+
+      -- with a clear segment the refusals of the deal are left
+      pub by_deal : no_stray_bits segment ≡ true → deal_refusal deal ≡ code
+      unfolding deal_refusal
+      by_deal s =
+          ap (λ (x : Bool). first_of x 2 (first_of (no_stray_bits deal.bytes) 11 (first_of deal.tree_sized 12 0)))
+          size_fits
+          ∙ sym (later ∙ rw (b, and_clear (no_stray_bits deal.bytes) (area_clear ∙ s)))

@@ -1,14 +1,20 @@
 -- The line at the front of a log, by the field that stands there.
-use Rattle.std.specs.Prelude.{◌≡◌, ℕ, ◌-◌, List, length, take, drop}
-use Rattle.std.proofs.Common.{sym, ap, ap₂, ◌∙◌, arith, eq-eqb, ne_eqb, take_all, length-drop}
+use Rattle.std.specs.Prelude.{◌≡◌, ℕ, ◌+◌, ◌-◌, ◌≤◌, List, length, take, drop}
+use Rattle.std.proofs.Common.{sym, ap, ap₂, ◌∙◌, arith, eqb-true, eq-eqb, ne_eqb, take_all, length-drop}
 use Rattle.octets.specs.Splice.{part}
-use Rattle.fields.specs.FieldAt.{Content, Refused}
-use Rattle.clerk_log.specs.Log.{booking_in, cancelling_in, first, no_line, first_line}
+use Rattle.fields.specs.FieldAt.{field_for, Content, Refused}
+use Rattle.fields.specs.FieldAtLaws.{IsField, is_field}
+use Rattle.clerk_log.specs.Log.{booking_field, cancelling_field, booking_in, cancelling_in, first, no_line, first_line}
 use Rattle.clerk_log.specs.LineAt.{line_field}
 use Rattle.clerk_log.specs.LineAtLaws.{first_at, line_at}
 use Rattle.clerk_log.specs.declared.Line.TheVariants.{Booking as booking, Cancelling as cancelling}
 use Rattle.clerk_log.specs.declared.BookingLine.{BookingLine}
 use Rattle.clerk_log.specs.declared.CancellingLine.{CancellingLine}
+
+-- n bytes of content end where the next line starts, within the log
+pub record Lies (log : List ℕ) (start next n : ℕ) : Type 0 where
+  pub ends : next ≡ start + n
+  pub within : next ≤ length log
 
 module _ (log : List ℕ) where
   by_field : first_line log ≡ first_at log (line_field log 0)
@@ -32,6 +38,29 @@ module _ (log : List ℕ) where
     cancelling_first t line read =
         rw (by_field, e, ne_eqb tag 1 t)
         (ap₂ (λ (l : CancellingLine) (rest : List ℕ). first (cancelling l) rest) read (rest_is next))
+
+  -- where the content of each kind of line lies
+  module _ (tag start n next : ℕ) where
+    module _ (e : field_for booking_field log 0 ≡ Content tag start n next) where
+      is_booking : IsField booking_field log 0 tag start n next
+      is_booking = is_field booking_field log 0 tag start n next e
+
+      is_58 : n ≡ 58
+      is_58 = eqb-true n 58 is_booking.length_allowed_lem
+
+      pub booking_lies : Lies log start next 58
+      booking_lies = record { ends = omega (arith, is_58, is_booking.next_is); within = is_booking.within }
+
+    module _ (none : field_for booking_field log 0 ≡ Refused)
+        (e : field_for cancelling_field log 0 ≡ Content tag start n next) where
+      is_cancelling : IsField cancelling_field log 0 tag start n next
+      is_cancelling = is_field cancelling_field log 0 tag start n next e
+
+      is_10 : n ≡ 10
+      is_10 = eqb-true n 10 is_cancelling.length_allowed_lem
+
+      pub cancelling_lies : Lies log start next 10
+      cancelling_lies = record { ends = omega (arith, is_10, is_cancelling.next_is); within = is_cancelling.within }
 
   -- or none
   pub none_first : line_field log 0 ≡ Refused → no_line ≡ first_line log
